@@ -1,0 +1,248 @@
+-- The image: its sections, the words that they are cut from, and their parts by name, read and written.
+use mathlib.Core.Bool.{Bool, true, false, not, cond, _&&_, _||_}
+use mathlib.Core.List.{List, [], _∷_, _++_}
+use Prim.Native.Nat.{ℕ, zero, suc, _+_, _*_, _-_, _/_, _%_}
+use lib.Dec.{leb, ltb, eqb}
+use lib.ListN.{length, getD, take, drop}
+use Rattle.model.specs.Base
+use Rattle.model.specs.Base.{nth, put, every, bit, setBit, some}
+
+-- An image in its sections, in their order. `width` is the number of bits in a word, `k` the number of cards.
+pub record Image : Type 0 where
+  pub width : ℕ
+  pub k : ℕ
+  pub heap : List ℕ
+  pub starts : List ℕ
+  pub marks : List ℕ
+  pub cards : List ℕ
+  pub regs : List ℕ
+  pub packets : List ℕ
+  pub tracers : List ℕ
+  pub players : List ℕ
+  pub general : List ℕ
+
+-- ---- lengths
+
+-- "Heap: 4 × G words", G = 64 × k; "Start bits, then mark bits: G/16 words each"; "Cards, k words"; "Registers: 16 players of 16 words";
+-- "Packets: 32 of 32 words"; "Tracers: 8 of 8 words"; "Players, 16 of 2 words"; "General, 8 words"
+unfoldable pub lengths : ℕ → ℕ → List ℕ
+lengths w k = 256 * k ∷ 64 * k / w ∷ 64 * k / w ∷ k ∷ 256 ∷ 1024 ∷ 64 ∷ 32 ∷ 8 ∷ []
+
+-- "Its length is 265 × k + 1384 words", with words of 16 bits
+unfoldable pub imageLength : ℕ → ℕ → ℕ
+imageLength w k = 256 * k + 64 * k / w + 64 * k / w + k + 1384
+
+-- "A store has k cards, k from 1 to 512", with words of 16 bits; a wide store has words of 32 bits; there is no other
+unfoldable pub mostCards : ℕ → ℕ
+mostCards w = cond (eqb w 16) 512 (cond (eqb w 32) 65536 0)
+
+-- the number of cards whose image has n words, where there is one
+unfoldable pub cardsOf : ℕ → ℕ → ℕ
+cardsOf w n = (n - 1384) / (imageLength w 1 - 1384)
+
+-- n words are the length of an image
+unfoldable pub fits : ℕ → ℕ → Bool
+fits w n = let k = cardsOf w n in every (leb 1 k ∷ leb k (mostCards w) ∷ eqb n (imageLength w k) ∷ [])
+
+-- ---- words and sections
+
+-- the words cut into pieces of the given lengths
+unfoldable pub split : List ℕ → List ℕ → List (List ℕ)
+split [] ws = []
+split (n ∷ ns) ws = take n ws ∷ split ns (drop n ws)
+
+unfoldable pub join : List (List ℕ) → List ℕ
+join [] = []
+join (l ∷ ls) = l ++ join ls
+
+unfoldable pub sections : Image → List (List ℕ)
+sections m = m .heap ∷ m .starts ∷ m .marks ∷ m .cards ∷ m .regs ∷ m .packets ∷ m .tracers ∷ m .players ∷ m .general ∷ []
+
+unfoldable pub image : ℕ → ℕ → List (List ℕ) → Image
+image w k s = record
+  { width = w; k = k; heap = getD s 0 []; starts = getD s 1 []; marks = getD s 2 []; cards = getD s 3 []
+  ; regs = getD s 4 []; packets = getD s 5 []; tracers = getD s 6 []; players = getD s 7 []; general = getD s 8 [] }
+
+-- the image of some words, and the words of an image
+unfoldable pub parts : ℕ → List ℕ → Image
+parts w ws = let k : ℕ = cardsOf w (length ws) in image w k (split (lengths w k) ws)
+
+unfoldable pub words : Image → List ℕ
+words m = join (sections m)
+
+-- ---- what is read
+
+-- "1 dirty", "3 dirty and taken"
+unfoldable pub isDirty : ℕ → Bool
+isDirty x = some (eqb x 1 ∷ eqb x 3 ∷ [])
+
+-- the entries of the first n packets
+unfoldable pub entriesOf : ℕ → List ℕ → List ℕ
+entriesOf zero ps = []
+entriesOf (suc n) ps = take (nth ps 0) (drop 2 ps) ++ entriesOf n (drop 32 ps)
+
+module _ (m : Image) where
+  -- "G = 64 × k granules of four words"
+  unfoldable pub granules : ℕ
+  granules = 64 * m .k
+
+  -- word i from granule g on
+  unfoldable pub word : ℕ → ℕ → ℕ
+  word g i = nth (m .heap) (4 * g + i)
+
+  unfoldable pub isStart : ℕ → Bool
+  isStart g = bit (m .width) (m .starts) g
+
+  unfoldable pub marked : ℕ → Bool
+  marked g = bit (m .width) (m .marks) g
+
+  -- "An object has its size in granules, its number of links, the links, then level words."
+  unfoldable pub size : ℕ → ℕ
+  size g = word g 0
+
+  unfoldable pub links : ℕ → ℕ
+  links g = word g 1
+
+  unfoldable pub link : ℕ → ℕ → ℕ
+  link g i = word g (2 + i)
+
+  -- the number of level words, and level word i
+  unfoldable pub levels : ℕ → ℕ
+  levels g = 4 * size g - 2 - links g
+
+  unfoldable pub level : ℕ → ℕ → ℕ
+  level g i = word g (2 + links g + i)
+
+  -- the state of card c; "An object's card is its first granule divided by 64, rounded down."
+  unfoldable pub state : ℕ → ℕ
+  state c = nth (m .cards) c
+
+  unfoldable pub dirty : ℕ → Bool
+  dirty c = isDirty (state c)
+
+  -- register r of player p
+  unfoldable pub reg : ℕ → ℕ → ℕ
+  reg p r = nth (m .regs) (16 * p + r)
+
+  -- "A packet is a count and 30 entries, with one zero word between"
+  unfoldable pub count : ℕ → ℕ
+  count p = nth (m .packets) (32 * p)
+
+  unfoldable pub entry : ℕ → ℕ → ℕ
+  entry p e = nth (m .packets) (32 * p + 2 + e)
+
+  -- the entries of all packets
+  unfoldable pub entries : List ℕ
+  entries = entriesOf 32 (m .packets)
+
+  -- "input packet + 1, output packet + 1, object in hand, its next link, card in hand + 1, next granule on it"
+  unfoldable pub input : ℕ → ℕ
+  input t = nth (m .tracers) (8 * t)
+
+  unfoldable pub output : ℕ → ℕ
+  output t = nth (m .tracers) (8 * t + 1)
+
+  unfoldable pub hand : ℕ → ℕ
+  hand t = nth (m .tracers) (8 * t + 2)
+
+  unfoldable pub nextLink : ℕ → ℕ
+  nextLink t = nth (m .tracers) (8 * t + 3)
+
+  unfoldable pub handCard : ℕ → ℕ
+  handCard t = nth (m .tracers) (8 * t + 4)
+
+  unfoldable pub nextGranule : ℕ → ℕ
+  nextGranule t = nth (m .tracers) (8 * t + 5)
+
+  -- "owed card + 1 or 0; scanned, 0 or 1"
+  unfoldable pub owed : ℕ → ℕ
+  owed p = nth (m .players) (2 * p)
+
+  unfoldable pub scanned : ℕ → ℕ
+  scanned p = nth (m .players) (2 * p + 1)
+
+  -- "cycle running 0 or 1, first free run or 0"
+  unfoldable pub running : ℕ
+  running = nth (m .general) 0
+
+  unfoldable pub firstRun : ℕ
+  firstRun = nth (m .general) 1
+
+-- ---- what is written: one section replaced
+
+module _ (m : Image) where
+  unfoldable pub withHeap : List ℕ → Image
+  withHeap l = record { width = m .width; k = m .k; heap = l; starts = m .starts; marks = m .marks; cards = m .cards; regs = m .regs; packets = m .packets; tracers = m .tracers; players = m .players; general = m .general }
+
+  unfoldable pub withStarts : List ℕ → Image
+  withStarts l = record { width = m .width; k = m .k; heap = m .heap; starts = l; marks = m .marks; cards = m .cards; regs = m .regs; packets = m .packets; tracers = m .tracers; players = m .players; general = m .general }
+
+  unfoldable pub withMarks : List ℕ → Image
+  withMarks l = record { width = m .width; k = m .k; heap = m .heap; starts = m .starts; marks = l; cards = m .cards; regs = m .regs; packets = m .packets; tracers = m .tracers; players = m .players; general = m .general }
+
+  unfoldable pub withCards : List ℕ → Image
+  withCards l = record { width = m .width; k = m .k; heap = m .heap; starts = m .starts; marks = m .marks; cards = l; regs = m .regs; packets = m .packets; tracers = m .tracers; players = m .players; general = m .general }
+
+  unfoldable pub withRegs : List ℕ → Image
+  withRegs l = record { width = m .width; k = m .k; heap = m .heap; starts = m .starts; marks = m .marks; cards = m .cards; regs = l; packets = m .packets; tracers = m .tracers; players = m .players; general = m .general }
+
+  unfoldable pub withPackets : List ℕ → Image
+  withPackets l = record { width = m .width; k = m .k; heap = m .heap; starts = m .starts; marks = m .marks; cards = m .cards; regs = m .regs; packets = l; tracers = m .tracers; players = m .players; general = m .general }
+
+  unfoldable pub withTracers : List ℕ → Image
+  withTracers l = record { width = m .width; k = m .k; heap = m .heap; starts = m .starts; marks = m .marks; cards = m .cards; regs = m .regs; packets = m .packets; tracers = l; players = m .players; general = m .general }
+
+  unfoldable pub withPlayers : List ℕ → Image
+  withPlayers l = record { width = m .width; k = m .k; heap = m .heap; starts = m .starts; marks = m .marks; cards = m .cards; regs = m .regs; packets = m .packets; tracers = m .tracers; players = l; general = m .general }
+
+  unfoldable pub withGeneral : List ℕ → Image
+  withGeneral l = record { width = m .width; k = m .k; heap = m .heap; starts = m .starts; marks = m .marks; cards = m .cards; regs = m .regs; packets = m .packets; tracers = m .tracers; players = m .players; general = l }
+
+-- ---- what is written: one word or bit
+
+-- "the owed card turns dirty (0 to 1, 2 to 3; 1 and 3 stay)"
+unfoldable pub dirtyState : ℕ → ℕ
+dirtyState zero = 1
+dirtyState (suc zero) = 1
+dirtyState (suc (suc x)) = 3
+
+module _ (m : Image) where
+  unfoldable pub setWord : ℕ → ℕ → ℕ → Image
+  setWord g i v = withHeap m (put (m .heap) (4 * g + i) v)
+
+  unfoldable pub setStart : ℕ → Image
+  setStart g = withStarts m (setBit (m .width) (m .starts) g)
+
+  unfoldable pub setMark : ℕ → Image
+  setMark g = withMarks m (setBit (m .width) (m .marks) g)
+
+  unfoldable pub setState : ℕ → ℕ → Image
+  setState c v = withCards m (put (m .cards) c v)
+
+  unfoldable pub dirtyCard : ℕ → Image
+  dirtyCard c = setState c (dirtyState (state m c))
+
+  unfoldable pub setReg : ℕ → ℕ → ℕ → Image
+  setReg p r v = withRegs m (put (m .regs) (16 * p + r) v)
+
+  unfoldable pub setTracer : ℕ → ℕ → ℕ → Image
+  setTracer t i v = withTracers m (put (m .tracers) (8 * t + i) v)
+
+  unfoldable pub setOwed : ℕ → ℕ → Image
+  setOwed p v = withPlayers m (put (m .players) (2 * p) v)
+
+  unfoldable pub setScanned : ℕ → Image
+  setScanned p = withPlayers m (put (m .players) (2 * p + 1) 1)
+
+  unfoldable pub setFirstRun : ℕ → Image
+  setFirstRun g = withGeneral m (put (m .general) 1 g)
+
+-- opens the accessors and the setters
+unfoldable pub fields-open : ℕ
+unfolding granules word isStart marked size links link levels level state isDirty dirty reg count entry entriesOf entries input output hand nextLink handCard nextGranule owed scanned running firstRun withHeap withStarts withMarks withCards withRegs withPackets withTracers withPlayers withGeneral dirtyState setWord setStart setMark setState dirtyCard setReg setTracer setOwed setScanned setFirstRun
+fields-open = 0
+
+-- opens all of these
+unfoldable pub image-open : ℕ
+unfolding Base.base-open fields-open lengths imageLength mostCards cardsOf fits split join sections image parts words
+image-open = 0

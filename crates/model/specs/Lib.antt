@@ -1,0 +1,11 @@
+pub mod Base
+pub mod Image
+pub mod Undamaged
+pub mod Records
+pub mod Mutate
+pub mod Collect
+pub mod Closure
+pub mod Finish
+pub mod Steps
+pub mod Batch
+pub mod Cases
