@@ -1,1 +1,5 @@
+pub mod Laws
+pub mod Bits
+pub mod Closure
+pub mod Words
 pub mod Cases

@@ -9,3 +9,5 @@ pub mod Finish
 pub mod Steps
 pub mod Batch
 pub mod Cases
+pub mod Plain
+pub mod Claim

@@ -1,0 +1,181 @@
+-- What a passed test says, and how to pass one; words of a list after a write.
+use mathlib.Core.Path.{_≡_, refl, sym, ap, subst, _∙_}
+use mathlib.Core.Logic.{_⊎_, inl, inr}
+use mathlib.Core.Bool.{Bool, true, false, not, cond, _&&_, _||_}
+use mathlib.Core.List.{List, [], _∷_, _++_, map}
+use Prim.Native.Nat.{ℕ, zero, suc, _+_, _≤_, _<_, zero-le, suc-le-suc}
+use native.Mathlib.Nat.{not-suc-le-zero, le-of-suc-le-suc}
+use native.Mathlib.Decide.{ℕ-discrete}
+use native.Mathlib.Omega.{arith}
+use lib.Dec.{T, leb, ltb, eqb}
+use lib.ListN.{getD, length, set, length-set}
+use lib.Seq.{getD-set-same, getD-set-other, set-out}
+use Rattle.model.specs.Base.{first, nth, put, every, some, either, implies, all, any, best}
+
+pub false≢ : {P : Type 0} → false ≡ true → P
+false≢ e = absurd (subst T (sym e) tt)
+
+pub and-split : (a b : Bool) → (a && b) ≡ true → (a ≡ true) × (b ≡ true)
+and-split true b e = (refl, e)
+and-split false b e = false≢ e
+
+pub and-join : (a b : Bool) → a ≡ true → b ≡ true → (a && b) ≡ true
+and-join a b p q = rw (p, q)
+
+pub or-split : (a b : Bool) → (a || b) ≡ true → (a ≡ true) ⊎ (b ≡ true)
+or-split true b e = inl refl
+or-split false b e = inr e
+
+pub or-left : (a b : Bool) → a ≡ true → (a || b) ≡ true
+or-left a b p = rw p
+
+pub or-right : (a b : Bool) → b ≡ true → (a || b) ≡ true
+or-right true b p = refl
+or-right false b p = p
+
+pub imp-use : (a b : Bool) → implies a b ≡ true → a ≡ true → b ≡ true
+unfolding implies
+imp-use true b e p = e
+imp-use false b e p = false≢ p
+
+pub imp-make : (a b : Bool) → (a ≡ true → b ≡ true) → implies a b ≡ true
+unfolding implies
+imp-make true b f = f refl
+imp-make false b f = refl
+
+-- ---- choosing by a test
+
+pub either-yes : (b x y : Bool) → b ≡ true → either b x y ≡ true → x ≡ true
+unfolding either
+either-yes true x y p e = e
+either-yes false x y p e = false≢ p
+
+pub either-no : (b x y : Bool) → b ≡ false → either b x y ≡ true → y ≡ true
+unfolding either
+either-no true x y p e = false≢ (sym p)
+either-no false x y p e = e
+
+pub either-make : (b x y : Bool) → (b ≡ true → x ≡ true) → (b ≡ false → y ≡ true) → either b x y ≡ true
+unfolding either
+either-make true x y f g = f refl
+either-make false x y f g = g refl
+
+pub not-make : (b : Bool) → (b ≡ true → ⊥) → not b ≡ true
+not-make true f = absurd (f refl)
+not-make false f = refl
+
+-- ---- quantifiers
+
+pub bool-cases : (b : Bool) → (b ≡ true) ⊎ (b ≡ false)
+bool-cases true = inl refl
+bool-cases false = inr refl
+
+pub all-use : (n : ℕ) (p : ℕ → Bool) → all n p ≡ true → (i : ℕ) → i < n → p i ≡ true
+unfolding all
+all-use zero p e i h = absurd (not-suc-le-zero h)
+all-use (suc n) p e i h = here (all-use n p ((and-split (all n p) (p n) e) .0) i) (ℕ-discrete i n)
+  where
+    here : (i < n → p i ≡ true) → Dec (i ≡ n) → p i ≡ true
+    here ih (yes q) = rw q ((and-split (all n p) (p n) e) .1)
+    here ih (no q) = ih (omega arith)
+
+pub all-make : (n : ℕ) (p : ℕ → Bool) → ((i : ℕ) → i < n → p i ≡ true) → all n p ≡ true
+unfolding all
+all-make zero p f = refl
+all-make (suc n) p f = and-join (all n p) (p n) (all-make n p (λ i h. f i (omega arith))) (f n (omega arith))
+
+pub any-use : (n : ℕ) (p : ℕ → Bool) → any n p ≡ true → (i : ℕ) × (i < n) × (p i ≡ true)
+unfolding any
+any-use zero p e = false≢ e
+any-use (suc n) p e = go (any-use n p) (or-split (any n p) (p n) e)
+  where
+    go : (any n p ≡ true → (i : ℕ) × (i < n) × (p i ≡ true)) → (any n p ≡ true) ⊎ (p n ≡ true) → (i : ℕ) × (i < suc n) × (p i ≡ true)
+    go ih (inl q) = let r = ih q in (r .0, omega arith, r .2)
+    go ih (inr q) = (n, omega arith, q)
+
+pub any-make : (n : ℕ) (p : ℕ → Bool) (i : ℕ) → i < n → p i ≡ true → any n p ≡ true
+unfolding any
+any-make zero p i h e = absurd (not-suc-le-zero h)
+any-make (suc n) p i h e = here (λ lt. any-make n p i lt e) (ℕ-discrete i n)
+  where
+    here : (i < n → any n p ≡ true) → Dec (i ≡ n) → (any n p || p n) ≡ true
+    here ih (yes q) = or-right (any n p) (p n) (rw q at e)
+    here ih (no q) = or-left (any n p) (p n) (ih (omega arith))
+
+pub every-use : (l : List Bool) → every l ≡ true → (i : ℕ) → getD l i true ≡ true
+unfolding every
+every-use [] e i = refl
+every-use (b ∷ l) e zero = (and-split b (every l) e) .0
+every-use (b ∷ l) e (suc i) = every-use l ((and-split b (every l) e) .1) i
+
+pub every-nil : every [] ≡ true
+unfolding every
+every-nil = refl
+
+pub every-cons : (b : Bool) (l : List Bool) → b ≡ true → every l ≡ true → every (b ∷ l) ≡ true
+unfolding every
+every-cons b l p q = and-join b (every l) p q
+
+pub some-use : (b : Bool) (l : List Bool) → some (b ∷ l) ≡ true → (b ≡ true) ⊎ (some l ≡ true)
+unfolding some
+some-use b l e = or-split b (some l) e
+
+pub some-nil : {P : Type 0} → some [] ≡ true → P
+unfolding some
+some-nil e = false≢ e
+
+pub some-make : (l : List Bool) (i : ℕ) → getD l i false ≡ true → some l ≡ true
+unfolding some
+some-make [] i e = e
+some-make (b ∷ l) zero e = or-left b (some l) e
+some-make (b ∷ l) (suc i) e = or-right b (some l) (some-make l i e)
+
+pub nth-put-same : (l : List ℕ) (i v : ℕ) → i < length l → nth (put l i v) i ≡ v
+unfolding nth put
+nth-put-same l i v h = getD-set-same l i v 0 h
+
+pub nth-put-other : (l : List ℕ) (i j v : ℕ) → (j ≡ i → ⊥) → nth (put l i v) j ≡ nth l j
+unfolding nth put
+nth-put-other l i j v ne = getD-set-other l i j v 0 ne
+
+pub put-out : (l : List ℕ) (i v : ℕ) → length l ≤ i → put l i v ≡ l
+unfolding put
+put-out l i v h = set-out l i v h
+
+pub length-put : (l : List ℕ) (i v : ℕ) → length (put l i v) ≡ length l
+unfolding put
+length-put l i v = length-set l i v
+
+-- what `best` gives passes
+pub best-ok : (better : ℕ → ℕ → Bool) (ok : ℕ → Bool) (n p : ℕ) → best better ok n ≡ suc p → (p < n) × (ok p ≡ true)
+unfolding best
+best-ok better ok zero p e = absurd (omega arith)
+best-ok better ok (suc n) p e = go (best-ok better ok n) (best better ok n) refl e
+  where
+    end : (b : Bool) → ok n ≡ b → cond b (suc n) 0 ≡ suc p → (p < suc n) × (ok p ≡ true)
+    end true q r = let s : p ≡ n = omega arith in (omega arith, rw s q)
+    end false q r = absurd (omega arith)
+    two : (b : Bool) (q : ℕ) → (ok n && b) ≡ true → suc n ≡ suc p → (p < suc n) × (ok p ≡ true)
+    two b q a r = let s : p ≡ n = omega arith in (omega arith, rw s ((and-split (ok n) b a) .0))
+    more : ((p : ℕ) → best better ok n ≡ suc p → (p < n) × (ok p ≡ true)) → (q : ℕ) → best better ok n ≡ suc q → (b : Bool) → (ok n && better n q) ≡ b → cond b (suc n) (suc q) ≡ suc p → (p < suc n) × (ok p ≡ true)
+    more ih q a true c r = two (better n q) q c r
+    more ih q a false c r = let s : p ≡ q = omega arith in let h = ih p (rw s a) in (omega arith, h .1)
+    go : ((p : ℕ) → best better ok n ≡ suc p → (p < n) × (ok p ≡ true)) → (x : ℕ) → best better ok n ≡ x
+       → _≡_ {A = ℕ} (elim x [ zero ↦ cond (ok n) (suc n) 0 | suc b ↦ cond (ok n && better n b) (suc n) (suc b) ]) (suc p) → (p < suc n) × (ok p ≡ true)
+    go ih zero a r = end (ok n) refl r
+    go ih (suc q) a r = more ih q a (ok n && better n q) refl r
+
+pub some-false : (l : List Bool) → some l ≡ false → (i : ℕ) → getD l i false ≡ false
+unfolding some
+some-false [] e i = refl
+some-false (true ∷ l) e i = false≢ (sym e)
+some-false (false ∷ l) e zero = refl
+some-false (false ∷ l) e (suc i) = some-false l e i
+
+-- no line passed
+pub first-none : (n : ℕ) (l : List Bool) → first (suc n) l ≡ 0 → (i : ℕ) → getD l i false ≡ false
+unfolding first
+first-none n [] e i = refl
+first-none n (true ∷ l) e i = absurd (omega arith)
+first-none n (false ∷ l) e zero = refl
+first-none n (false ∷ l) e (suc i) = first-none (suc n) l e i
