@@ -20,9 +20,14 @@ below-bit x i d = rw (pow-add 2 (suc d) i, add-mul-div-right x (2 ^ suc d) (pow-
 
 above-bit : (x j d : ℕ) → x / 2 ^ j % 2 ≡ 0 → (x + 2 ^ j) / 2 ^ (j + (1 + d)) ≡ x / 2 ^ (j + (1 + d))
 above-bit x j d e =
-    rw (← (shr-shr (x + 2 ^ j) j (1 + d)), ← (shr-shr x j (1 + d)), add-div-right x (pow-pos j),
-        ← (shr-shr (x / 2 ^ j + 1) 1 d), ← (shr-shr (x / 2 ^ j) 1 d))
-      (ap (λ y. y / 2 ^ d) half)
+    rw (
+      ← (shr-shr (x + 2 ^ j) j (1 + d)),
+      ← (shr-shr x j (1 + d)),
+      add-div-right x (pow-pos j),
+      ← (shr-shr (x / 2 ^ j + 1) 1 d),
+      ← (shr-shr (x / 2 ^ j) 1 d),
+    )
+    (ap (λ y. y / 2 ^ d) half)
   where
     half : (x / 2 ^ j + 1) / 2 ^ 1 ≡ x / 2 ^ j / 2 ^ 1
     half = omega arith
@@ -83,6 +88,7 @@ length-addBits w p (suc n) l = go (p n) ∙ length-addBits w p n l
   where
     r : List ℕ
     r = addBits w p n l
+
     go : (b : Bool) → length (cond b (setBit w r n) r) ≡ length r
     go true = length-put r _ _
     go false = refl
@@ -94,6 +100,7 @@ addBits-past w p (suc n) l g h = go (p n) ∙ addBits-past w p n l g (omega arit
   where
     r : List ℕ
     r = addBits w p n l
+
     go : (b : Bool) → bit w (cond b (setBit w r n) r) g ≡ bit w r g
     go true = setBit-other w r n g (omega arith)
     go false = refl
@@ -105,12 +112,15 @@ addBits-bit w p (suc n) l g h k z = cs (λ lt. addBits-bit w p n l g lt (λ i j.
   where
     r : List ℕ
     r = addBits w p n l
+
     here : (b : Bool) → p n ≡ b → bit w (cond b (setBit w r n) r) n ≡ b
     here true e = setBit-same w r n (rw (length-addBits w p n l) (k n (omega arith)))
     here false e = addBits-past w p n l n (omega arith) ∙ z n
+
     up : (b : Bool) → (g ≡ n → ⊥) → bit w (cond b (setBit w r n) r) g ≡ bit w r g
     up true ne = setBit-other w r n g ne
     up false ne = refl
+
     cs : (g < n → bit w r g ≡ p g) → Dec (g ≡ n) → bit w (cond (p n) (setBit w r n) r) g ≡ p g
     cs ih (yes e) = rw e (here (p n) refl)
     cs ih (no ne) = up (p n) ne ∙ ih (omega arith)

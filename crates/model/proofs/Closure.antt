@@ -63,6 +63,7 @@ addAll-only (g ∷ gs) s a e = first (addAll-only gs (set s g true) a e)
     second : (a ≡ g) ⊎ In s a → List·Memᴰ a (g ∷ gs) ⊎ In s a
     second (inl p) = inl (List·Memᴰ·head p)
     second (inr q) = inr q
+
     first : List·Memᴰ a gs ⊎ In (set s g true) a → List·Memᴰ a (g ∷ gs) ⊎ In s a
     first (inl m) = inl (List·Memᴰ·tail m)
     first (inr e′) = second (set-only s g a e′)
@@ -123,9 +124,11 @@ module _ (f : ℕ → List ℕ) where
     where
       r : List Bool
       r = round f n s
+
       up : (b : Bool) → In r a → In (cond b (addAll (f n) r) r) a
       up true j = addAll-mono (f n) r a j
       up false j = j
+
       here : (g < n → In r a) → Dec (g ≡ n) → In (cond (getD r n false) (addAll (f n) r) r) a
       here ih (yes e) = rw (rw e at (round-mono n s g i)) (addAll-has (f n) r a (rw e at m) (omega (arith, length-round n s)))
       here ih (no ne) = up (getD r n false) (ih (omega arith))
@@ -137,6 +140,7 @@ module _ (f : ℕ → List ℕ) where
     where
       r : List Bool
       r = round f n s
+
       go : ((h : ℕ) → In r h → P h) → (b : Bool) → getD r n false ≡ b → In (cond b (addAll (f n) r) r) h → P h
       go ih true e j = pick (addAll-only (f n) r h j)
         where
@@ -156,6 +160,7 @@ module _ (f : ℕ → List ℕ) where
     where
       r : List Bool
       r = round f n s
+
       go : (length r ≤ members r + j → Stable n (closure f n j r)) → (b : Bool) → leb (members r) (members s) ≡ b → Stable n (elim b [ true ↦ s | false ↦ closure f n j r ])
       go ih true e = leb-true _ _ e
       go ih false e = ih (omega (arith, leb-false, length-round n s))
@@ -208,6 +213,7 @@ reached-sound n f l h i = closure-only f (Reached f l) (λ g a. follow) n n (add
     pick : (g : ℕ) → List·Memᴰ g l ⊎ In (replicate n false) g → Reached f l g
     pick g (inl m) = seed m
     pick g (inr k) = absurd (replicate-none n g k)
+
     start : (g : ℕ) → In (addAll l (replicate n false)) g → Reached f l g
     start g k = pick g (addAll-only l (replicate n false) g k)
 
@@ -219,9 +225,12 @@ reached-complete n f l b h (follow {g = g} q m) = go (reached-complete n f l b g
   where
     s : List Bool
     s = addAll l (replicate n false)
+
     len : length (closure f n n s) ≡ n
     len = length-closure f n n s ∙ length-addAll l (replicate n false) ∙ length-replicate n false
+
     st : Stable f n (closure f n n s)
     st = closure-stable f n n s (omega (arith, length-addAll l (replicate n false), length-replicate n false))
+
     go : In (closure f n n s) g → In (closure f n n s) h
     go i = stable-closed f n (closure f n n s) st g h (b g q) i m (omega (arith, len, b h (follow q m)))

@@ -155,13 +155,16 @@ best-ok better ok (suc n) p e = go (best-ok better ok n) (best better ok n) refl
     end : (b : Bool) → ok n ≡ b → cond b (suc n) 0 ≡ suc p → (p < suc n) × (ok p ≡ true)
     end true q r = let s : p ≡ n = omega arith in (omega arith, rw s q)
     end false q r = absurd (omega arith)
+
     two : (b : Bool) (q : ℕ) → (ok n && b) ≡ true → suc n ≡ suc p → (p < suc n) × (ok p ≡ true)
     two b q a r = let s : p ≡ n = omega arith in (omega arith, rw s ((and-split (ok n) b a) .0))
+
     more : ((p : ℕ) → best better ok n ≡ suc p → (p < n) × (ok p ≡ true)) → (q : ℕ) → best better ok n ≡ suc q → (b : Bool) → (ok n && better n q) ≡ b → cond b (suc n) (suc q) ≡ suc p → (p < suc n) × (ok p ≡ true)
     more ih q a true c r = two (better n q) q c r
     more ih q a false c r = let s : p ≡ q = omega arith in let h = ih p (rw s a) in (omega arith, h .1)
+
     go : ((p : ℕ) → best better ok n ≡ suc p → (p < n) × (ok p ≡ true)) → (x : ℕ) → best better ok n ≡ x
-       → _≡_ {A = ℕ} (elim x [ zero ↦ cond (ok n) (suc n) 0 | suc b ↦ cond (ok n && better n b) (suc n) (suc b) ]) (suc p) → (p < suc n) × (ok p ≡ true)
+        → _≡_ {A = ℕ} (elim x [ zero ↦ cond (ok n) (suc n) 0 | suc b ↦ cond (ok n && better n b) (suc n) (suc b) ]) (suc p) → (p < suc n) × (ok p ≡ true)
     go ih zero a r = end (ok n) refl r
     go ih (suc q) a r = more ih q a (ok n && better n q) refl r
 

@@ -6,7 +6,7 @@ use Prim.Native.Nat.{ℕ, zero, suc, _+_, _*_, _-_, _/_, _≤_}
 use native.Mathlib.Omega.{arith}
 use lib.ListN.{length, take, drop, length-drop, take-append-drop}
 use lib.Seq.{take-at, drop-at}
-use Rattle.model.specs.Image.{Image, lengths, imageLength, cardsOf, fits, split, join, sections, image, parts, words}
+use Rattle.model.specs.Image.{Image, lengths, imageLength, cardsOf, fits, split, join, sections, image, imageOf, parts, words}
 use Rattle.model.proofs.Laws.{every-use}
 
 total : List ℕ → ℕ
@@ -29,5 +29,5 @@ join-split [] (w ∷ ws) e = absurd (omega arith)
 join-split (n ∷ ns) ws e = rw (join-split ns (drop n ws) (rw (length-drop n ws) (omega arith))) (take-append-drop n ws)
 
 pub parts-words : (m : Image) → Fits m → cardsOf (m .width) (length (words m)) ≡ m .k → parts (m .width) (words m) ≡ m
-unfolding parts words image sections
+unfolding parts imageOf words image sections
 parts-words m f e = rw (e, ← f) (ap (image (m .width) (m .k)) (split-join (sections m)))

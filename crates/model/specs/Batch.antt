@@ -27,7 +27,7 @@ pub record Batch : Type 0 where
 unfoldable pub misfit : ℕ → List ℕ → List ℕ → List ℕ → Bool
 misfit w ws bytes answers =
     some
-    ( not (fits w (length ws))
+    (not (fits w (length ws))
     ∷ not (eqb (length bytes % recordBytes w) 0)
     ∷ not (eqb (length answers) (2 * (length bytes / recordBytes w)))
     ∷ [])

@@ -29,6 +29,7 @@ pub record Row : Type 0 where
 -- an answer that is accepted, with its value; one that is refused
 unfoldable pub ok : ℕ → List ℕ
 ok v = 0 ∷ v ∷ []
+
 unfoldable pub refused : ℕ → List ℕ
 refused n = n ∷ 0 ∷ []
 
@@ -41,41 +42,41 @@ row rs answers = record { computed = answered rs; said = 0 ∷ bytes answers }
 unfoldable pub moved : List (List ℕ)
 moved =
     rec 1 0 0 1 1 ∷ rec 1 0 1 1 1 ∷ rec 1 0 2 1 1 ∷ rec 3 0 0 0 2 ∷ rec 4 0 0 0 0 ∷ rec 6 0 2 0 0
-  ∷ rec 9 0 0 0 0 ∷ rec 10 0 0 0 0 ∷ rec 11 0 0 0 0 ∷ rec 11 0 0 0 0 ∷ rec 11 0 0 0 0
-  ∷ rec 2 0 2 0 0 ∷ rec 3 0 1 0 2 ∷ []
+    ∷ rec 9 0 0 0 0 ∷ rec 10 0 0 0 0 ∷ rec 11 0 0 0 0 ∷ rec 11 0 0 0 0 ∷ rec 11 0 0 0 0
+    ∷ rec 2 0 2 0 0 ∷ rec 3 0 1 0 2 ∷ []
 
 unfoldable pub movedSaid : List (List ℕ)
 movedSaid =
     ok 1 ∷ ok 2 ∷ ok 3 ∷ ok 0 ∷ ok 0 ∷ ok 0
-  ∷ ok 0 ∷ ok 0 ∷ ok 0 ∷ ok 0 ∷ ok 0
-  ∷ ok 3 ∷ ok 0 ∷ []
+    ∷ ok 0 ∷ ok 0 ∷ ok 0 ∷ ok 0 ∷ ok 0
+    ∷ ok 3 ∷ ok 0 ∷ []
 
 unfoldable pub cases : List Row
 cases =
-  -- "k = 1: new b = 63, c = 250 is accepted with value 1; c = 251 gives 8; b = 64 gives 9."
+    -- "k = 1: new b = 63, c = 250 is accepted with value 1; c = 251 gives 8; b = 64 gives 9."
     row (rec 1 0 0 63 250 ∷ []) (ok 1 ∷ [])
-  ∷ row (rec 1 0 0 63 251 ∷ []) (refused 8 ∷ [])
-  ∷ row (rec 1 0 0 64 0 ∷ []) (refused 9 ∷ [])
-  -- "b = 1,024 on k = 1 gives 9, b = 1,025 gives 8, b = 0 gives 8."
-  ∷ row (rec 1 0 0 1024 0 ∷ rec 1 0 0 1025 0 ∷ rec 1 0 0 0 0 ∷ []) (refused 9 ∷ refused 8 ∷ refused 8 ∷ [])
-  -- "1648 words misfit, 1649 fit."
-  ∷ record { computed = judgeOf (replicate 1648 0) ∷ judgeOf ((freshOf (replicate 1649 0)) .image) ∷ []; said = 1 ∷ 0 ∷ [] }
-  -- "New, drop, begin, finish: value 1; the next new of 1 is again granule 1."
-  ∷ row (rec 1 0 0 1 0 ∷ rec 6 0 0 0 0 ∷ rec 9 0 0 0 0 ∷ rec 13 0 0 0 0 ∷ rec 1 0 0 1 0 ∷ []) (ok 1 ∷ ok 0 ∷ ok 0 ∷ ok 1 ∷ ok 1 ∷ [])
-  -- "New, begin, scan, drop, finish: 0. Begin, finish: 1."
-  ∷ row (rec 1 0 0 1 0 ∷ rec 9 0 0 0 0 ∷ rec 10 0 0 0 0 ∷ rec 6 0 0 0 0 ∷ rec 13 0 0 0 0 ∷ rec 9 0 0 0 0 ∷ rec 13 0 0 0 0 ∷ [])
-        (ok 1 ∷ ok 0 ∷ ok 0 ∷ ok 0 ∷ ok 0 ∷ ok 0 ∷ ok 1 ∷ [])
-  -- "Begin, new, drop, finish: 1."
-  ∷ row (rec 9 0 0 0 0 ∷ rec 1 0 0 1 0 ∷ rec 6 0 0 0 0 ∷ rec 13 0 0 0 0 ∷ []) (ok 0 ∷ ok 1 ∷ ok 0 ∷ ok 1 ∷ [])
-  -- ".. store it in O, barrier, store nil in M, barrier, drop r2, finish: 0."
-  ∷ row (moved ++ (rec 4 0 0 0 0 ∷ rec 3 0 0 0 3 ∷ rec 4 0 0 0 0 ∷ rec 6 0 2 0 0 ∷ rec 13 0 0 0 0 ∷ [])) (movedSaid ++ (ok 0 ∷ ok 0 ∷ ok 0 ∷ ok 0 ∷ ok 0 ∷ []))
-  -- "The same ended after the store in O, barrier unpaid: 0."
-  ∷ row (moved ++ (rec 13 0 0 0 0 ∷ [])) (movedSaid ++ (ok 0 ∷ []))
-  -- "Player 1 handing into player 0's r2 while player 0 owes: 5."
-  ∷ row (rec 1 0 0 1 1 ∷ rec 3 0 0 0 0 ∷ rec 5 1 0 0 2 ∷ []) (ok 1 ∷ ok 0 ∷ refused 5 ∷ [])
-  -- "Barrier with register fields not 0: 3. Drop of register 16 while owing: 4."
-  ∷ row (rec 1 0 0 1 1 ∷ rec 3 0 0 0 0 ∷ rec 4 0 1 0 0 ∷ rec 6 0 16 0 0 ∷ []) (ok 1 ∷ ok 0 ∷ refused 3 ∷ refused 4 ∷ [])
-  ∷ []
+    ∷ row (rec 1 0 0 63 251 ∷ []) (refused 8 ∷ [])
+    ∷ row (rec 1 0 0 64 0 ∷ []) (refused 9 ∷ [])
+    -- "b = 1,024 on k = 1 gives 9, b = 1,025 gives 8, b = 0 gives 8."
+    ∷ row (rec 1 0 0 1024 0 ∷ rec 1 0 0 1025 0 ∷ rec 1 0 0 0 0 ∷ []) (refused 9 ∷ refused 8 ∷ refused 8 ∷ [])
+    -- "1648 words misfit, 1649 fit."
+    ∷ record { computed = judgeOf (replicate 1648 0) ∷ judgeOf ((freshOf (replicate 1649 0)) .image) ∷ []; said = 1 ∷ 0 ∷ [] }
+    -- "New, drop, begin, finish: value 1; the next new of 1 is again granule 1."
+    ∷ row (rec 1 0 0 1 0 ∷ rec 6 0 0 0 0 ∷ rec 9 0 0 0 0 ∷ rec 13 0 0 0 0 ∷ rec 1 0 0 1 0 ∷ []) (ok 1 ∷ ok 0 ∷ ok 0 ∷ ok 1 ∷ ok 1 ∷ [])
+    -- "New, begin, scan, drop, finish: 0. Begin, finish: 1."
+    ∷ row (rec 1 0 0 1 0 ∷ rec 9 0 0 0 0 ∷ rec 10 0 0 0 0 ∷ rec 6 0 0 0 0 ∷ rec 13 0 0 0 0 ∷ rec 9 0 0 0 0 ∷ rec 13 0 0 0 0 ∷ [])
+    (ok 1 ∷ ok 0 ∷ ok 0 ∷ ok 0 ∷ ok 0 ∷ ok 0 ∷ ok 1 ∷ [])
+    -- "Begin, new, drop, finish: 1."
+    ∷ row (rec 9 0 0 0 0 ∷ rec 1 0 0 1 0 ∷ rec 6 0 0 0 0 ∷ rec 13 0 0 0 0 ∷ []) (ok 0 ∷ ok 1 ∷ ok 0 ∷ ok 1 ∷ [])
+    -- ".. store it in O, barrier, store nil in M, barrier, drop r2, finish: 0."
+    ∷ row (moved ++ (rec 4 0 0 0 0 ∷ rec 3 0 0 0 3 ∷ rec 4 0 0 0 0 ∷ rec 6 0 2 0 0 ∷ rec 13 0 0 0 0 ∷ [])) (movedSaid ++ (ok 0 ∷ ok 0 ∷ ok 0 ∷ ok 0 ∷ ok 0 ∷ []))
+    -- "The same ended after the store in O, barrier unpaid: 0."
+    ∷ row (moved ++ (rec 13 0 0 0 0 ∷ [])) (movedSaid ++ (ok 0 ∷ []))
+    -- "Player 1 handing into player 0's r2 while player 0 owes: 5."
+    ∷ row (rec 1 0 0 1 1 ∷ rec 3 0 0 0 0 ∷ rec 5 1 0 0 2 ∷ []) (ok 1 ∷ ok 0 ∷ refused 5 ∷ [])
+    -- "Barrier with register fields not 0: 3. Drop of register 16 while owing: 4."
+    ∷ row (rec 1 0 0 1 1 ∷ rec 3 0 0 0 0 ∷ rec 4 0 1 0 0 ∷ rec 6 0 16 0 0 ∷ []) (ok 1 ∷ ok 0 ∷ refused 3 ∷ refused 4 ∷ [])
+    ∷ []
 
 -- opens the table
 unfoldable pub cases-open : ℕ

@@ -111,15 +111,22 @@ pub record Finish : Type 0 where
 unfoldable pub finishWith : Image → List Bool → Finish
 finishWith m keep =
     let r : Swept = sweep (isStart m) (λ g. getD keep g false) (granules m) 1 (drop 4 (m .heap)) in
-    record
-    { image = record
-        { width = m .width; k = m .k
-        ; heap = take 4 (m .heap) ++ sweptWords r
-        ; starts = addBits (m .width) (λ g. getD keep g false) (granules m) (zeros (m .starts))
-        ; marks = zeros (m .marks); cards = zeros (m .cards); regs = m .regs
-        ; packets = zeros (m .packets); tracers = zeros (m .tracers); players = scannedOff (m .players)
-        ; general = put (put (m .general) 0 0) 1 (firstOf 1 r) }
-    ; value = r .freed }
+    record {
+      image = record {
+        width = m .width;
+        k = m .k;
+        heap = take 4 (m .heap) ++ sweptWords r;
+        starts = addBits (m .width) (λ g. getD keep g false) (granules m) (zeros (m .starts));
+        marks = zeros (m .marks);
+        cards = zeros (m .cards);
+        regs = m .regs;
+        packets = zeros (m .packets);
+        tracers = zeros (m .tracers);
+        players = scannedOff (m .players);
+        general = put (put (m .general) 0 0) 1 (firstOf 1 r);
+      };
+      value = r .freed;
+    }
 
 unfoldable pub finishStep : Image → Finish
 finishStep m = finishWith m (keptSet m)

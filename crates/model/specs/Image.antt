@@ -59,14 +59,28 @@ unfoldable pub sections : Image → List (List ℕ)
 sections m = m .heap ∷ m .starts ∷ m .marks ∷ m .cards ∷ m .regs ∷ m .packets ∷ m .tracers ∷ m .players ∷ m .general ∷ []
 
 unfoldable pub image : ℕ → ℕ → List (List ℕ) → Image
-image w k s = record
-  { width = w; k = k; heap = getD s 0 []; starts = getD s 1 []; marks = getD s 2 []; cards = getD s 3 []
-  ; regs = getD s 4 []; packets = getD s 5 []; tracers = getD s 6 []; players = getD s 7 []; general = getD s 8 [] }
+image w k s = record {
+  width = w;
+  k = k;
+  heap = getD s 0 [];
+  starts = getD s 1 [];
+  marks = getD s 2 [];
+  cards = getD s 3 [];
+  regs = getD s 4 [];
+  packets = getD s 5 [];
+  tracers = getD s 6 [];
+  players = getD s 7 [];
+  general = getD s 8 [];
+}
 
--- the image of some words, and the words of an image
+-- the image of k cards that some words are, and the same with k by their length
+unfoldable pub imageOf : ℕ → ℕ → List ℕ → Image
+imageOf w k ws = image w k (split (lengths w k) ws)
+
 unfoldable pub parts : ℕ → List ℕ → Image
-parts w ws = let k : ℕ = cardsOf w (length ws) in image w k (split (lengths w k) ws)
+parts w ws = imageOf w (cardsOf w (length ws)) ws
 
+-- the words of an image
 unfoldable pub words : Image → List ℕ
 words m = join (sections m)
 
@@ -244,5 +258,5 @@ fields-open = 0
 
 -- opens all of these
 unfoldable pub image-open : ℕ
-unfolding Base.base-open fields-open lengths imageLength mostCards cardsOf fits split join sections image parts words
+unfolding Base.base-open fields-open lengths imageLength mostCards cardsOf fits split join sections image imageOf parts words
 image-open = 0

@@ -15,9 +15,10 @@ unfoldable pub fit : Image → ℕ → ℕ → ℕ → ℕ → Room
 fit m b zero before g = record { run = 0; before = before }
 fit m b (suc n) before zero = record { run = 0; before = before }
 fit m b (suc n) before (suc g) =
-    elim (leb b (word m (suc g) 0))
-    [ true ↦ record { run = suc g; before = before }
-    | false ↦ fit m b n (suc g) (word m (suc g) 1) ]
+    elim (leb b (word m (suc g) 0)) [
+      | true ↦ record { run = suc g; before = before }
+      | false ↦ fit m b n (suc g) (word m (suc g) 1)
+    ]
 
 unfoldable pub roomFor : Image → ℕ → Room
 roomFor m b = fit m b (granules m) 0 (firstRun m)

@@ -64,13 +64,14 @@ ofImage f z (old g) = f g
 ofImage f z (made i) = z
 
 unfoldable pub plainOf : Image → PlainStore
-plainOf m = record
-  { sizeOf = ofImage (size m) 0
-  ; linkCount = ofImage (links m) 0
-  ; linkOf = ofImage (λ g i. old (link m g i)) (λ i. old 0)
-  ; levelOf = ofImage (level m) (λ i. 0)
-  ; register = λ p r. old (reg m p r)
-  ; owing = λ p. not (eqb (owed m p) 0) }
+plainOf m = record {
+  sizeOf = ofImage (size m) 0;
+  linkCount = ofImage (links m) 0;
+  linkOf = ofImage (λ g i. old (link m g i)) (λ i. old 0);
+  levelOf = ofImage (level m) (λ i. 0);
+  register = λ p r. old (reg m p r);
+  owing = λ p. not (eqb (owed m p) 0);
+}
 
 -- ---- answers, as they are compared
 
@@ -128,7 +129,7 @@ module _ (q : PlainStore) (s : Step) where
   unfoldable pub plainPastEnd : Kind → Bool
   plainPastEnd n =
       byPlayerKind false false (leb (q .linkCount (holding (s .b))) (s .c)) (leb (q .linkCount (holding (s .a))) (s .b)) false false false
-        (leb (plainLevels (holding (s .a))) (s .b)) (leb (plainLevels (holding (s .a))) (s .b)) n
+      (leb (plainLevels (holding (s .a))) (s .b)) (leb (plainLevels (holding (s .a))) (s .b)) n
 
   -- 11
   unfoldable pub plainNothing : Kind → Bool
@@ -202,9 +203,10 @@ named name i e = cond (byPlayerKind false (eqb (e .done .number) 0) false false 
 unfoldable pub reading : (ℕ → Object) → Event → Reply
 reading name e =
     let n : Bool = eqb (e .done .number) 0 in
-    record
-    { number = e .done .number
-    ; value = cond (byPlayerKind false n n false false false false false false (kindOf (e .request .kind))) (as-object (name (e .done .value))) (as-is (e .done .value)) }
+    record {
+      number = e .done .number;
+      value = cond (byPlayerKind false n n false false false false false false (kindOf (e .request .kind))) (as-object (name (e .done .value))) (as-is (e .done .value));
+    }
 
 -- the real answers of the records that the plain store is fed, read; `name` is the reading of granule numbers so far
 unfoldable pub readings : (ℕ → Object) → ℕ → List Event → List Reply

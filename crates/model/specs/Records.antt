@@ -26,12 +26,13 @@ recordBytes w = w / 2
 unfoldable pub stepOf : ℕ → List ℕ → Step
 stepOf w bs =
     let n : ℕ = w / 8 in
-    record
-    { kind = cond (zeroes (drop 2 (take n bs))) (nth bs 0) 0
-    ; who = nth bs 1
-    ; a = little (take n (drop n bs))
-    ; b = little (take n (drop (2 * n) bs))
-    ; c = little (take n (drop (3 * n) bs)) }
+    record {
+      kind = cond (zeroes (drop 2 (take n bs))) (nth bs 0) 0;
+      who = nth bs 1;
+      a = little (take n (drop n bs));
+      b = little (take n (drop (2 * n) bs));
+      c = little (take n (drop (3 * n) bs));
+    }
 
 -- the records of a list of bytes, a part record at the end left out
 unfoldable pub records : ℕ → List ℕ → List Step

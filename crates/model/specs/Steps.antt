@@ -189,7 +189,7 @@ module _ (m : Image) (s : Step) where
   unfoldable pub refusal : Kind → ℕ
   refusal n =
       first 3
-      ( unnamed s n
+      (unnamed s n
       ∷ offDesk s n
       ∷ owing n
       ∷ noObject n

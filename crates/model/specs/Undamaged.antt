@@ -29,9 +29,10 @@ unfoldable pub fill : (ℕ → Bool) → ℕ → ℕ → List ℕ → ℕ → Bo
 fill st zero g ws next run = false
 fill st (suc n) g [] next run = eqb next 0
 fill st (suc n) g (s ∷ ws) next run =
-    elim (piece st g s ws next run (st g))
-    [ false ↦ false
-    | true ↦ fill st n (g + s) (drop (4 * s) (s ∷ ws)) (cond (st g) next (nth ws 0)) (not (st g)) ]
+    elim (piece st g s ws next run (st g)) [
+      | false ↦ false
+      | true ↦ fill st n (g + s) (drop (4 * s) (s ∷ ws)) (cond (st g) next (nth ws 0)) (not (st g))
+    ]
 
 module _ (m : Image) where
   -- "Granule 0 is all zero and never used."
@@ -95,7 +96,7 @@ module _ (m : Image) where
   unfoldable pub tracerOk : ℕ → Bool
   tracerOk t =
       every
-      ( leb (nth (m .tracers) (8 * t)) 32
+      (leb (nth (m .tracers) (8 * t)) 32
       ∷ leb (nth (m .tracers) (8 * t + 1)) 32
       ∷ handOk (hand m t) (nextLink m t)
       ∷ handCardOk (handCard m t) (nextGranule m t)
@@ -116,7 +117,7 @@ module _ (m : Image) where
   unfoldable pub sound : Bool
   sound =
       every
-      ( zeroGranule
+      (zeroGranule
       ∷ filled
       ∷ all (granules m) linksOk
       ∷ all 256 regOk
@@ -155,7 +156,7 @@ module _ (m : Image) where
   covered g i =
       let a : ℕ = link m g i in
       some
-      ( eqb a 0
+      (eqb a 0
       ∷ marked m a
       ∷ dirty m (g / 64)
       ∷ entered g
