@@ -2,4 +2,5 @@ pub mod Laws
 pub mod Bits
 pub mod Closure
 pub mod Words
+pub mod Entries
 pub mod Cases

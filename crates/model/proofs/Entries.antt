@@ -1,0 +1,111 @@
+-- The entries of packets by packet and place.
+use mathlib.Core.Path.{_≡_, refl, sym, ap, _∙_}
+use mathlib.Core.Logic.{_⊎_, inl, inr}
+use mathlib.Core.Bool.{Bool, true, false, _||_}
+use mathlib.Core.List.{List, [], _∷_, _++_}
+use Prim.Native.Nat.{ℕ, zero, suc, _+_, _*_, _-_, _≤_, _<_}
+use native.Mathlib.Omega.{arith}
+use lib.Dec.{eqb}
+use lib.ListN.{length, getD, take, drop, length-take, length-drop}
+use lib.Seq.{getD-drop, getD-take}
+use borrow.Author.Tests.{eqb-true, eq-eqb}
+use Rattle.model.specs.Base.{nth, elem}
+use Rattle.model.specs.Image.{entriesOf}
+use Rattle.model.proofs.Laws.{false≢, or-split, or-left, or-right}
+
+pub nth-drop : (n : ℕ) (l : List ℕ) (i : ℕ) → nth (drop n l) i ≡ nth l (n + i)
+unfolding nth
+nth-drop n l i = getD-drop n l i 0
+
+pub nth-take : (n : ℕ) (l : List ℕ) (i : ℕ) → i < n → nth (take n l) i ≡ nth l i
+unfolding nth
+nth-take n l i h = getD-take n l i 0 h
+
+-- ---- members of a list by place
+
+pub elem-use : (g : ℕ) (l : List ℕ) → elem g l ≡ true → (i : ℕ) × (i < length l) × (nth l i ≡ g)
+unfolding elem nth
+elem-use g [] e = false≢ e
+elem-use g (x ∷ l) e = go (elem-use g l) (or-split (eqb g x) (elem g l) e)
+  where
+    go : (elem g l ≡ true → (i : ℕ) × (i < length l) × (getD l i 0 ≡ g)) → (eqb g x ≡ true) ⊎ (elem g l ≡ true) → (i : ℕ) × (i < suc (length l)) × (getD (x ∷ l) i 0 ≡ g)
+    go ih (inl q) = (0, omega arith, sym (eqb-true g x q))
+    go ih (inr q) = let r = ih q in (suc (r .0), omega (arith, r .1), r .2)
+
+pub elem-make : (g : ℕ) (l : List ℕ) (i : ℕ) → i < length l → nth l i ≡ g → elem g l ≡ true
+unfolding elem nth
+elem-make g [] i h e = absurd (omega arith)
+elem-make g (x ∷ l) zero h e = or-left (eqb g x) (elem g l) (eq-eqb g x (sym e))
+elem-make g (x ∷ l) (suc i) h e = or-right (eqb g x) (elem g l) (elem-make g l i (omega arith) e)
+
+pub elem-split : (g : ℕ) (l r : List ℕ) → elem g (l ++ r) ≡ true → (elem g l ≡ true) ⊎ (elem g r ≡ true)
+unfolding elem
+elem-split g [] r e = inr e
+elem-split g (x ∷ l) r e = go (elem-split g l r) (or-split (eqb g x) (elem g (l ++ r)) e)
+  where
+    go : (elem g (l ++ r) ≡ true → (elem g l ≡ true) ⊎ (elem g r ≡ true)) → (eqb g x ≡ true) ⊎ (elem g (l ++ r) ≡ true) → ((eqb g x || elem g l) ≡ true) ⊎ (elem g r ≡ true)
+    go ih (inl q) = inl (or-left (eqb g x) (elem g l) q)
+    go ih (inr q) = two (ih q)
+      where
+        two : (elem g l ≡ true) ⊎ (elem g r ≡ true) → ((eqb g x || elem g l) ≡ true) ⊎ (elem g r ≡ true)
+        two (inl p) = inl (or-right (eqb g x) (elem g l) p)
+        two (inr p) = inr p
+
+pub elem-left : (g : ℕ) (l r : List ℕ) → elem g l ≡ true → elem g (l ++ r) ≡ true
+unfolding elem
+elem-left g [] r e = false≢ e
+elem-left g (x ∷ l) r e = go (elem-left g l r) (or-split (eqb g x) (elem g l) e)
+  where
+    go : (elem g l ≡ true → elem g (l ++ r) ≡ true) → (eqb g x ≡ true) ⊎ (elem g l ≡ true) → (eqb g x || elem g (l ++ r)) ≡ true
+    go ih (inl q) = or-left (eqb g x) (elem g (l ++ r)) q
+    go ih (inr q) = or-right (eqb g x) (elem g (l ++ r)) (ih q)
+
+pub elem-right : (g : ℕ) (l r : List ℕ) → elem g r ≡ true → elem g (l ++ r) ≡ true
+unfolding elem
+elem-right g [] r e = e
+elem-right g (x ∷ l) r e = or-right (eqb g x) (elem g (l ++ r)) (elem-right g l r e)
+
+-- ---- entries
+
+-- g is an entry of one of the first n packets
+pub record EntryAt (n : ℕ) (ps : List ℕ) (g : ℕ) : Type 0 where
+  pub packet : ℕ
+  pub place : ℕ
+  pub is-packet : packet < n
+  pub below : place < nth ps (32 * packet)
+  pub is-entry : nth ps (32 * packet + 2 + place) ≡ g
+
+pub entries-use : (n : ℕ) (ps : List ℕ) (g : ℕ) → elem g (entriesOf n ps) ≡ true → EntryAt n ps g
+unfolding entriesOf elem
+entries-use zero ps g e = false≢ e
+entries-use (suc n) ps g e = go (entries-use n (drop 32 ps) g) (elem-split g (take (nth ps 0) (drop 2 ps)) (entriesOf n (drop 32 ps)) e)
+  where
+    go : (elem g (entriesOf n (drop 32 ps)) ≡ true → EntryAt n (drop 32 ps) g) → (elem g (take (nth ps 0) (drop 2 ps)) ≡ true) ⊎ (elem g (entriesOf n (drop 32 ps)) ≡ true) → EntryAt (suc n) ps g
+    go ih (inl q) =
+        let r = elem-use g (take (nth ps 0) (drop 2 ps)) q in
+        let h : r .0 < nth ps 0 = omega (arith, r .1, length-take (nth ps 0) (drop 2 ps)) in
+        record { packet = 0; place = r .0; is-packet = omega arith; below = h; is-entry = sym (nth-drop 2 ps (r .0)) ∙ (sym (nth-take (nth ps 0) (drop 2 ps) (r .0) h) ∙ r .2) }
+    go ih (inr q) =
+        let r = ih q in
+        let c : 32 + 32 * r .packet ≡ 32 * suc (r .packet) = omega arith in
+        let d : 32 + (32 * r .packet + 2 + r .place) ≡ 32 * suc (r .packet) + 2 + r .place = omega arith in
+        record {
+          packet = suc (r .packet);
+          place = r .place;
+          is-packet = omega (arith, r .is-packet);
+          below = omega (arith, r .below, nth-drop 32 ps (32 * r .packet), ap (nth ps) c);
+          is-entry = ap (nth ps) (sym d) ∙ (sym (nth-drop 32 ps (32 * r .packet + 2 + r .place)) ∙ r .is-entry);
+        }
+
+pub entries-make : (n : ℕ) (ps : List ℕ) (p e g : ℕ) → 32 * n ≤ length ps → p < n → e < nth ps (32 * p) → nth ps (32 * p) ≤ 30 → nth ps (32 * p + 2 + e) ≡ g → elem g (entriesOf n ps) ≡ true
+unfolding entriesOf
+entries-make zero ps p e g l h b f q = absurd (omega arith)
+entries-make (suc n) ps zero e g l h b f q =
+    elem-left g (take (nth ps 0) (drop 2 ps)) (entriesOf n (drop 32 ps))
+    (elem-make g (take (nth ps 0) (drop 2 ps)) e (omega (arith, length-take (nth ps 0) (drop 2 ps), length-drop 2 ps)) (nth-take (nth ps 0) (drop 2 ps) e b ∙ (nth-drop 2 ps e ∙ q)))
+entries-make (suc n) ps (suc p) e g l h b f q =
+    let c : 32 + 32 * p ≡ 32 * suc p = omega arith in
+    let d : 32 + (32 * p + 2 + e) ≡ 32 * suc p + 2 + e = omega arith in
+    let w : nth (drop 32 ps) (32 * p) ≡ nth ps (32 * suc p) = nth-drop 32 ps (32 * p) ∙ ap (nth ps) c in
+    elem-right g (take (nth ps 0) (drop 2 ps)) (entriesOf n (drop 32 ps))
+    (entries-make n (drop 32 ps) p e g (omega (arith, length-drop 32 ps)) (omega arith) (omega (arith, w)) (omega (arith, w)) (nth-drop 32 ps (32 * p + 2 + e) ∙ (ap (nth ps) d ∙ q)))
