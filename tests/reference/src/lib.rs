@@ -1,11 +1,15 @@
 //! A second implementation of the show store and its collector, written from the paper alone,
 //! and the checks of whole lists of steps that any implementation of `batch` can be put to.
 
+pub mod cases;
 pub mod finish;
+pub mod generate;
 pub mod image;
 pub mod judge;
 pub mod layout;
+pub mod made;
 pub mod plain;
+pub mod random;
 pub mod record;
 pub mod steps;
 mod tracing;
