@@ -248,7 +248,14 @@ fn of_a_player(random: &mut Random, image: Image, kind: u8) -> Record {
         DROP => random.pick(&held).map(|h| Record::new(DROP, h.player as u8, h.register as u16, 0, 0)),
         _ => None,
     };
-    found.unwrap_or_else(|| new(random, image, player))
+    // A full store would refuse nearly every new: some room is made now and then.
+    let is_full = image.first_run() == 0 && random.chance(80);
+    let instead = random.pick(&held).filter(|_| is_full);
+    match (found, instead) {
+        (Some(record), _) => record,
+        (None, Some(held)) => Record::new(DROP, held.player as u8, held.register as u16, 0, 0),
+        (None, None) => new(random, image, player),
+    }
 }
 
 fn new(random: &mut Random, image: Image, player: usize) -> Record {

@@ -2,6 +2,7 @@
 //! and the checks of whole lists of steps that any implementation of `batch` can be put to.
 
 pub mod cases;
+pub mod demand;
 pub mod finish;
 pub mod generate;
 pub mod image;
@@ -15,6 +16,7 @@ pub mod steps;
 mod tracing;
 pub mod vectors;
 
+pub use demand::{whole_list, Counts};
 pub use finish::finish;
 pub use judge::{cover, judge, undamaged_but_cover};
 pub use layout::{cards_of_length, length};

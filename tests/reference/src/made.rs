@@ -63,6 +63,7 @@ pub fn starved(random: &mut Random, k: usize) -> Vec<u16> {
     set_players(random, &mut store);
     starve(random, &mut store);
     cover_all(random, &mut store);
+    hold_unmarked(random, &mut store);
     words
 }
 
@@ -240,13 +241,26 @@ fn starve(random: &mut Random, store: &mut Store) {
     for n in (0..PACKETS).filter(|n| !held.contains(n)) {
         enter_all(store, n, &mut objects, ENTRIES);
     }
+    // An input that runs empty goes back to the pool and ends the want: most have many entries.
     for n in held {
-        let count = random.weighted(&[(3, ENTRIES), (1, ENTRIES - 1), (1, 5), (1, 0)]);
-        let spare = objects.len().saturating_sub(40);
+        let count = random.weighted(&[(5, ENTRIES), (2, ENTRIES - 1), (1, 5), (1, 0)]);
+        let spare = objects.len().saturating_sub(60);
         enter_all(store, n, &mut objects, count.min(spare));
     }
-    let marked_too = random.below(objects.len());
+    let marked_too = random.below(objects.len() / 2);
     objects[..marked_too].iter().for_each(|&g| store.set_mark(g, true));
+}
+
+/// Puts unmarked objects in registers, where scans reach them. Cover may rest on the registers of
+/// players who owe: those stay.
+fn hold_unmarked(random: &mut Random, store: &mut Store) {
+    let unmarked: Vec<usize> = store.image().starts().filter(|&g| !store.image().is_marked(g)).collect();
+    for p in 0..PLAYERS {
+        if store.image().owed_card(p).is_none() && random.chance(70) {
+            let r = random.below(REGISTERS);
+            store.set_register(p, r, random.pick(&unmarked).unwrap_or(0));
+        }
+    }
 }
 
 fn enter_all(store: &mut Store, packet: usize, objects: &mut Vec<usize>, count: usize) {
