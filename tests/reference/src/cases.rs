@@ -1,0 +1,94 @@
+//! Random cases for the format of the vectors, with what this implementation does on them.
+
+use crate::finish::finish;
+use crate::generate::{list, misfit, spoil, Pace};
+use crate::judge::cover;
+use crate::made::{fresh_image, idle, loose, running, starved, uncovered_image, STARVED_CARDS};
+use crate::random::Random;
+use crate::steps::batch;
+use crate::vectors::{BatchCase, Case, FinishCase, UNTOUCHED};
+
+/// A case of `batch`, or once in four a finish alone.
+pub fn case(random: &mut Random, number: u64) -> Case {
+    if random.chance(25) {
+        finish_case(random, number)
+    } else {
+        batch_case(random, number)
+    }
+}
+
+/// Mostly one card, so that cases are short.
+fn cards(random: &mut Random) -> usize {
+    random.weighted(&[(16, 1), (4, 2), (1, 3)])
+}
+
+fn finish_case(random: &mut Random, number: u64) -> Case {
+    let k = cards(random);
+    let make = random.weighted(&[(5, uncovered_image as fn(&mut Random, usize) -> _), (2, loose), (3, running)]);
+    let image = make(random, k);
+    let mut left = image.clone();
+    let value = finish(&mut left);
+    let name = format!("{number} finish");
+    Case::Finish(FinishCase { name, value, left, cover: cover(&image), image })
+}
+
+fn batch_case(random: &mut Random, number: u64) -> Case {
+    let (what, image, steps, answers) = call(random);
+    let mut left = image.clone();
+    let mut given = vec![UNTOUCHED; answers];
+    let result = batch(&mut left, &steps, &mut given);
+    Case::Batch(BatchCase { name: format!("{number} {what}"), image, steps, answers, result, left, given })
+}
+
+/// What it is, the image, the step bytes and the number of answer words.
+fn call(random: &mut Random) -> (&'static str, Vec<u16>, Vec<u8>, usize) {
+    let k = cards(random);
+    let what = random.weighted(&[
+        (8, "fresh"),
+        (12, "evolved"),
+        (40, "made"),
+        (6, "idle"),
+        (1, "starved"),
+        (12, "spoiled"),
+        (6, "loose"),
+        (5, "misfit"),
+        (3, "length"),
+    ]);
+    let mut image = match what {
+        "fresh" => fresh_image(k),
+        "evolved" => evolved(random, k),
+        "idle" => idle(random, k),
+        "starved" => starved(random, STARVED_CARDS),
+        "loose" => uncovered_image(random, k),
+        _ => running(random, k),
+    };
+    let count = random.from_to(1, 8);
+    let mut pace = Pace { wild: 20, ..Pace::draw(random) };
+    if what == "loose" {
+        // A finish may leave links to freed objects where Cover fails: no list can be drawn past it.
+        pace = Pace { wild: 0, finish: 0, ..pace };
+    }
+    // The list is drawn for the sound image, whatever happens to the image or the lengths then.
+    let steps = list(random, &mut image.clone(), count, pace);
+    let (steps, answers) = if what == "misfit" { misfit(random, &steps) } else { (steps, 2 * count) };
+    match what {
+        "spoiled" => spoil(random, &mut image),
+        "length" => change_length(random, &mut image),
+        _ => {}
+    }
+    (what, image, steps, answers)
+}
+
+/// A fresh store after some steps.
+fn evolved(random: &mut Random, k: usize) -> Vec<u16> {
+    let mut image = fresh_image(k);
+    let count = random.from_to(10, 400);
+    let pace = Pace::draw(random);
+    list(random, &mut image, count, pace);
+    image
+}
+
+fn change_length(random: &mut Random, image: &mut Vec<u16>) {
+    let length = random.pick(&[0, 1, 264, 1383, 1384, 1648, image.len() - 1, image.len() + 1, 1650]);
+    image.resize(length.unwrap_or(0), 0);
+}

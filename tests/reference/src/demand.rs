@@ -1,0 +1,368 @@
+//! The check of whole lists of steps: batches run through any implementation of `batch`, their
+//! history, and what must hold of it.
+
+use std::collections::{BTreeMap, BTreeSet};
+
+use crate::image::{Image, Object};
+use crate::judge::first_damage;
+use crate::layout::{card_of, GRANULE_WORDS};
+use crate::plain::{Name, Plain, Reference, Value};
+use crate::record::*;
+use crate::vectors::UNTOUCHED;
+
+/// What a list has shown, so that a test can see that it was worth running.
+#[derive(Clone, Debug, Default, PartialEq, Eq)]
+pub struct Counts {
+    pub steps: usize,
+    /// Accepted steps by kind.
+    pub accepted: [usize; 15],
+    /// Steps with a kind not 1 to 14.
+    pub unknown_kinds: usize,
+    /// Steps by number.
+    pub numbers: [usize; 12],
+    pub refused_batches: usize,
+    pub finishes_that_free: usize,
+    pub finishes_that_keep: usize,
+    /// Finishes that keep an object that was not marked.
+    pub finishes_that_find: usize,
+    /// Objects that no chain reached at a begin, freed by the next finish.
+    pub garbage_freed: usize,
+    /// Tracers' steps that found no packet for an object.
+    pub without_packet: usize,
+}
+
+impl Counts {
+    pub fn add(&mut self, other: &Counts) {
+        self.steps += other.steps;
+        self.accepted.iter_mut().zip(other.accepted).for_each(|(a, b)| *a += b);
+        self.unknown_kinds += other.unknown_kinds;
+        self.numbers.iter_mut().zip(other.numbers).for_each(|(a, b)| *a += b);
+        self.refused_batches += other.refused_batches;
+        self.finishes_that_free += other.finishes_that_free;
+        self.finishes_that_keep += other.finishes_that_keep;
+        self.finishes_that_find += other.finishes_that_find;
+        self.garbage_freed += other.garbage_freed;
+        self.without_packet += other.without_packet;
+    }
+}
+
+/// Runs the batches, given as step bytes and number of answer words, each on the image that the last
+/// left, and checks the whole list. The error says what does not hold and where.
+pub fn whole_list(
+    first_image: &[u16],
+    batches: &[(Vec<u8>, usize)],
+    mut run: impl FnMut(&mut [u16], &[u8], &mut [u16]) -> u16,
+) -> Result<Counts, String> {
+    ensure_undamaged(first_image, "the first image")?;
+    let mut list = List::new(first_image);
+    let mut image = first_image.to_vec();
+    for (n, (steps, answer_words)) in batches.iter().enumerate() {
+        list.run_batch(&mut image, steps, *answer_words, &mut run).map_err(|e| format!("batch {n}: {e}"))?;
+    }
+    Ok(list.counts)
+}
+
+/// A record of an accepted batch with the image it got, the image it left, and its answer.
+struct Moment<'a> {
+    place: usize,
+    record: Record,
+    got: Image<'a>,
+    left: Image<'a>,
+    number: u16,
+    value: u16,
+}
+
+impl Moment<'_> {
+    fn is_accepted(&self, kind: u8) -> bool {
+        self.record.kind == kind && self.number == 0
+    }
+
+    fn is_new_without_room(&self) -> bool {
+        self.record.kind == NEW && self.number == 9
+    }
+}
+
+struct List {
+    plain: Plain,
+    /// By value, the place of the last accepted new that had it.
+    last_new: BTreeMap<u16, usize>,
+    /// What no chain reached at the last accepted begin, until the next accepted finish.
+    garbage: Option<Vec<usize>>,
+    counts: Counts,
+}
+
+fn ensure(holds: bool, what: impl Fn() -> String) -> Result<(), String> {
+    if holds { Ok(()) } else { Err(what()) }
+}
+
+fn ensure_undamaged(image: &[u16], what: &str) -> Result<(), String> {
+    let damage = first_damage(image);
+    ensure(damage.is_none(), || format!("{what} is damaged: {damage:?}"))
+}
+
+impl List {
+    fn new(first_image: &[u16]) -> List {
+        let plain = Plain::of(first_image);
+        List { plain, last_new: BTreeMap::new(), garbage: None, counts: Counts::default() }
+    }
+
+    /// Runs a batch whole, and beside it one record at a time to get the images between.
+    fn run_batch(
+        &mut self,
+        image: &mut Vec<u16>,
+        steps: &[u8],
+        answer_words: usize,
+        run: &mut impl FnMut(&mut [u16], &[u8], &mut [u16]) -> u16,
+    ) -> Result<(), String> {
+        let mut left = image.clone();
+        let mut answers = vec![UNTOUCHED; answer_words];
+        let result = run(&mut left, steps, &mut answers);
+        let fits = steps.len() % RECORD_BYTES == 0 && answer_words == steps.len() / RECORD_BYTES * 2;
+        ensure(result == u16::from(!fits), || format!("the result is {result}"))?;
+        if !fits {
+            self.counts.refused_batches += 1;
+            let alone = left == *image && answers.iter().all(|&w| w == UNTOUCHED);
+            return ensure(alone, || "a refused batch wrote".to_string());
+        }
+        let mut single_answers = Vec::new();
+        for bytes in steps.chunks_exact(RECORD_BYTES) {
+            single_answers.extend(self.run_record(image, bytes, run)?);
+        }
+        ensure(*image == left, || "one step at a time leaves another image".to_string())?;
+        ensure(single_answers == answers, || "one step at a time gives other answers".to_string())
+    }
+
+    fn run_record(
+        &mut self,
+        image: &mut Vec<u16>,
+        bytes: &[u8],
+        run: &mut impl FnMut(&mut [u16], &[u8], &mut [u16]) -> u16,
+    ) -> Result<[u16; 2], String> {
+        let place = self.counts.steps;
+        let record = Record::from_bytes(bytes);
+        let say = |e: String| format!("step {place}, {record:?}: {e}");
+        let mut left = image.clone();
+        let mut answer = [UNTOUCHED; 2];
+        let result = run(&mut left, bytes, &mut answer);
+        ensure(result == 0, || say(format!("the result is {result}")))?;
+        ensure_undamaged(&left, "the image left").map_err(say)?;
+        let [number, value] = answer;
+        let got = Image::of(image).ok_or("an image of another length")?;
+        let left_image = Image::of(&left).ok_or("an image of another length")?;
+        self.check(&Moment { place, record, got, left: left_image, number, value }).map_err(say)?;
+        *image = left;
+        Ok(answer)
+    }
+
+    fn check(&mut self, moment: &Moment) -> Result<(), String> {
+        ensure(moment.number <= 11, || format!("number {}", moment.number))?;
+        ensure(moment.number == 0 || moment.value == 0, || "a refused step has a value".to_string())?;
+        check_phase(moment)?;
+        if moment.is_accepted(FINISH) {
+            self.check_finish(moment)?;
+        }
+        self.check_garbage(moment)?;
+        self.check_room(moment)?;
+        self.check_plain(moment)?;
+        self.count(moment);
+        Ok(())
+    }
+
+    /// What a finish keeps is what is marked or found by its rule; nothing that a chain reaches goes.
+    fn check_finish(&mut self, moment: &Moment) -> Result<(), String> {
+        let found = found_by_rule(moment.got);
+        let is_kept = |g: usize| moment.got.is_marked(g) || found.contains(&g);
+        let kept: Vec<Object> = moment.got.objects().filter(|o| is_kept(o.start)).collect();
+        let freed: Vec<Object> = moment.got.objects().filter(|o| !is_kept(o.start)).collect();
+        let left: Vec<Object> = moment.left.objects().collect();
+        ensure(kept == left, || "other objects are kept than those marked or found".to_string())?;
+        for g in reached_by_chains(moment.got) {
+            let stays = moment.left.is_start(g) && moment.left.object(g) == moment.got.object(g);
+            ensure(stays, || format!("object {g} is reached by a chain and does not stay"))?;
+        }
+        let growth = free_granules(moment.left) - free_granules(moment.got);
+        ensure(usize::from(moment.value) == growth, || format!("value {}, not {growth}", moment.value))?;
+        ensure(freed.iter().all(|o| is_cleared(moment.left, o)), || "a freed granule is not zero".to_string())?;
+        self.counts.finishes_that_free += usize::from(!freed.is_empty());
+        self.counts.finishes_that_keep += usize::from(!kept.is_empty());
+        self.counts.finishes_that_find += usize::from(kept.iter().any(|o| !moment.got.is_marked(o.start)));
+        Ok(())
+    }
+
+    /// What no chain reached at a begin, the next finish frees.
+    fn check_garbage(&mut self, moment: &Moment) -> Result<(), String> {
+        if moment.is_accepted(BEGIN) {
+            let reached = reached_by_chains(moment.got);
+            self.garbage = Some(moment.got.starts().filter(|g| !reached.contains(g)).collect());
+        }
+        if moment.is_accepted(FINISH) {
+            for g in self.garbage.take().unwrap_or_default() {
+                let is_freed = moment.got.is_start(g) && !moment.left.is_start(g);
+                ensure(is_freed, || format!("object {g}, reached by no chain at the begin, is not freed"))?;
+                self.counts.garbage_freed += 1;
+            }
+        }
+        Ok(())
+    }
+
+    /// A new with no earlier refusal gets the lowest stretch that suffices, or 9 if there is none.
+    fn check_room(&self, moment: &Moment) -> Result<(), String> {
+        if moment.record.kind != NEW {
+            return ensure(moment.number != 9, || "no room for what is not a new".to_string());
+        }
+        if self.plain.refusal(moment.record) != 0 {
+            return ensure(moment.number != 9, || "no room before an earlier refusal".to_string());
+        }
+        let size = moment.record.b();
+        let stretch = unused_stretches(moment.got).into_iter().find(|&(_, length)| length >= size);
+        let right = match stretch {
+            Some((g, _)) => moment.number == 0 && usize::from(moment.value) == g,
+            None => moment.number == 9,
+        };
+        ensure(right, || format!("answer {} {}, with the stretch {stretch:?}", moment.number, moment.value))
+    }
+
+    /// The players' records on the plain store get the same numbers and values.
+    fn check_plain(&mut self, moment: &Moment) -> Result<(), String> {
+        if !moment.record.is_of_a_player() || moment.is_new_without_room() {
+            return Ok(());
+        }
+        if moment.is_accepted(NEW) {
+            self.last_new.insert(moment.value, moment.place);
+        }
+        let (number, value) = self.plain.step(moment.record, moment.place);
+        let real = match moment.record.kind {
+            NEW | LOAD if moment.number == 0 => Value::Object(self.named(moment.value)?),
+            _ => Value::Number(moment.value),
+        };
+        ensure((moment.number, real) == (number, value), || {
+            format!("{} {real:?}, but {number} {value:?} on the plain store", moment.number)
+        })
+    }
+
+    /// "the object of the last accepted new with value g, this one included, or, with none, the one
+    /// starting at g in the first image; 0 as nil"
+    fn named(&self, g: u16) -> Result<Reference, String> {
+        if g == 0 {
+            return Ok(None);
+        }
+        let in_image = Name::Granule(usize::from(g));
+        let name = self.last_new.get(&g).map_or(in_image, |&place| Name::Place(place));
+        ensure(self.plain.has(name) || name != in_image, || format!("no object was ever at {g}"))?;
+        Ok(Some(name))
+    }
+
+    fn count(&mut self, moment: &Moment) {
+        let kind = usize::from(moment.record.kind);
+        self.counts.steps += 1;
+        self.counts.numbers[usize::from(moment.number)] += 1;
+        if !(1..=14).contains(&kind) {
+            self.counts.unknown_kinds += 1;
+        } else if moment.number == 0 {
+            self.counts.accepted[kind] += 1;
+            self.counts.without_packet += usize::from(found_no_packet(moment));
+        }
+    }
+}
+
+/// A begin gets 3, or 10 in a cycle, or 0; a finish 3, or 10 outside one, or 0.
+fn check_phase(moment: &Moment) -> Result<(), String> {
+    let wrong = match moment.record.kind {
+        BEGIN => moment.got.is_running(),
+        FINISH => !moment.got.is_running(),
+        _ => return Ok(()),
+    };
+    let Record { who, a, b, c, .. } = moment.record;
+    let number = match (who, a, b, c) {
+        (0, 0, 0, 0) if wrong => 10,
+        (0, 0, 0, 0) => 0,
+        _ => 3,
+    };
+    ensure(moment.number == number, || format!("number {}, not {number}", moment.number))
+}
+
+/// A tracer that has marked something and then holds no output had no packet for it.
+fn found_no_packet(moment: &Moment) -> bool {
+    let marks = |image: Image| image.starts().filter(|&g| image.is_marked(g)).count();
+    matches!(moment.record.kind, SCAN..=CLEAN)
+        && moment.left.tracer(moment.record.who()).output.is_none()
+        && marks(moment.left) > marks(moment.got)
+}
+
+fn links<'a>(object: Object<'a>) -> impl Iterator<Item = usize> + 'a {
+    object.links.iter().map(|&g| usize::from(g)).filter(|&g| g != 0)
+}
+
+fn held_by_registers(image: Image) -> BTreeSet<usize> {
+    image.registers().filter(|&g| g != 0).collect()
+}
+
+/// "A chain from a register reaches what it holds and what any object so reached links to".
+pub fn reached_by_chains(image: Image) -> BTreeSet<usize> {
+    grown(image, held_by_registers(image), |reached, object| reached.contains(&object.start))
+}
+
+/// What a finish finds: "what registers hold, and what is linked from an unmarked object that it
+/// finds, or from a marked one that is entered, in hand, on a dirty card or on a card in hand".
+pub fn found_by_rule(image: Image) -> BTreeSet<usize> {
+    let entered: BTreeSet<usize> = image.entered().collect();
+    let is_due = |g: usize| {
+        entered.contains(&g)
+            || image.tracers().any(|t| t.hand.is_some_and(|(object, _)| object == g))
+            || image.is_dirty(card_of(g))
+            || image.tracers().any(|t| t.card.is_some_and(|(card, _)| card == card_of(g)))
+    };
+    grown(image, held_by_registers(image), |found, object| match image.is_marked(object.start) {
+        true => is_due(object.start),
+        false => found.contains(&object.start),
+    })
+}
+
+/// The least set with `first` and the links of all objects that are to be followed given the set.
+fn grown(
+    image: Image,
+    first: BTreeSet<usize>,
+    is_followed: impl Fn(&BTreeSet<usize>, &Object) -> bool,
+) -> BTreeSet<usize> {
+    let mut set = first;
+    loop {
+        let before = set.len();
+        for object in image.objects() {
+            if is_followed(&set, &object) {
+                set.extend(links(object));
+            }
+        }
+        if set.len() == before {
+            return set;
+        }
+    }
+}
+
+fn free_granules(image: Image) -> usize {
+    image.granules() - 1 - image.objects().map(|o| o.size).sum::<usize>()
+}
+
+/// The stretches of granules that no object uses, from granule 1 on, as first granule and length.
+fn unused_stretches(image: Image) -> Vec<(usize, usize)> {
+    let mut used = vec![false; image.granules()];
+    used[0] = true;
+    image.objects().for_each(|o| used[o.start..o.start + o.size].fill(true));
+    let mut stretches: Vec<(usize, usize)> = Vec::new();
+    for g in (1..image.granules()).filter(|&g| !used[g]) {
+        match stretches.last_mut() {
+            Some((first, length)) if *first + *length == g => *length += 1,
+            _ => stretches.push((g, 1)),
+        }
+    }
+    stretches
+}
+
+/// "freed granules are zeroed but for a run's two words"
+fn is_cleared(image: Image, freed: &Object) -> bool {
+    let is_run = |g: usize| image.runs().any(|(run, _)| run == g);
+    (freed.start..freed.start + freed.size).all(|g| {
+        let words = &image.words[image.layout.granule(g)..][..GRANULE_WORDS];
+        let due_zero = if is_run(g) { &words[2..] } else { words };
+        due_zero.iter().all(|&w| w == 0)
+    })
+}

@@ -1,0 +1,306 @@
+//! Random records, mostly accepted, random lists and batches of them, and spoiled images.
+
+use crate::image::{Image, Store};
+use crate::layout::*;
+use crate::random::Random;
+use crate::record::*;
+use crate::steps::step;
+use crate::tracing::{can_clean, can_trace};
+
+/// Lists differ in how often they do what.
+#[derive(Clone, Copy, Debug)]
+pub struct Pace {
+    /// Percent of records drawn without looking at the image.
+    pub wild: usize,
+    /// Weight of finish in a cycle.
+    pub finish: usize,
+    /// Weight of the tracers' steps.
+    pub tracers: usize,
+}
+
+impl Pace {
+    pub fn draw(random: &mut Random) -> Pace {
+        Pace {
+            wild: random.weighted(&[(1, 0), (3, 8), (1, 30)]),
+            finish: random.weighted(&[(1, 1), (2, 4), (1, 15)]),
+            tracers: random.weighted(&[(1, 30), (2, 100), (1, 300)]),
+        }
+    }
+}
+
+/// A list of `count` records for the image, each drawn with the image in sight that it gets.
+/// The image is left as the list leaves it.
+pub fn list(random: &mut Random, image: &mut [u16], count: usize, pace: Pace) -> Vec<u8> {
+    let mut store = Store::of(image).expect("a fitting length");
+    let mut steps = Vec::with_capacity(RECORD_BYTES * count);
+    for _ in 0..count {
+        let record = record(random, store.image(), pace);
+        step(&mut store, record);
+        steps.extend(record.to_bytes());
+    }
+    steps
+}
+
+/// Cuts a list into batches, as step bytes and number of answer words, with misfits between.
+pub fn batches(random: &mut Random, steps: &[u8]) -> Vec<(Vec<u8>, usize)> {
+    let longest = random.weighted(&[(1, 1), (1, 8), (1, 60), (1, 4000)]);
+    let mut batches = Vec::new();
+    let mut rest = steps;
+    while !rest.is_empty() {
+        let records = random.from_to(1, longest).min(rest.len() / RECORD_BYTES);
+        let (batch, after) = rest.split_at(records * RECORD_BYTES);
+        if random.chance(10) {
+            batches.push(misfit(random, batch));
+        }
+        if random.chance(5) {
+            batches.push((Vec::new(), 0));
+        }
+        batches.push((batch.to_vec(), 2 * records));
+        rest = after;
+    }
+    batches
+}
+
+/// A batch with a part record, or with answer space for more or fewer steps.
+pub fn misfit(random: &mut Random, steps: &[u8]) -> (Vec<u8>, usize) {
+    let words = steps.len() / RECORD_BYTES * 2;
+    let part = random.from_to(1, RECORD_BYTES - 1);
+    let longer = [steps, &vec![0; part][..]].concat();
+    match random.below(5) {
+        0 => (longer, words),
+        1 => (longer, words + 2),
+        2 => (steps.to_vec(), words + random.from_to(1, 2)),
+        3 => (steps[..steps.len() - steps.len().min(part)].to_vec(), words),
+        _ => (steps.to_vec(), words.saturating_sub(1)),
+    }
+}
+
+/// Alters one word of an image. The image may stay undamaged, for level words are free.
+pub fn spoil(random: &mut Random, image: &mut [u16]) {
+    let layout = Layout::of_length(image.len()).expect("a fitting length");
+    let parts = [
+        (6, (0, layout.start_bits())),
+        (2, (layout.start_bits(), layout.mark_bits())),
+        (2, (layout.mark_bits(), layout.card(0))),
+        (1, (layout.card(0), layout.register(0, 0))),
+        (1, (layout.register(0, 0), layout.packet(0))),
+        (3, (layout.packet(0), layout.tracer(0))),
+        (4, (layout.tracer(0), layout.player(0))),
+        (2, (layout.player(0), layout.general())),
+        (2, (layout.general(), layout.length())),
+    ];
+    let (from, to) = random.weighted(&parts);
+    let at = random.from_to(from, to - 1);
+    let word = image[at];
+    let bit = 1u16 << random.below(16);
+    let small = random.below(80) as u16;
+    let any = random.word();
+    let up = word.wrapping_add(1);
+    let down = word.wrapping_sub(1);
+    image[at] = random.weighted(&[(1, word ^ bit), (1, up), (1, down), (1, small), (1, any), (1, 0)]);
+}
+
+pub fn record(random: &mut Random, image: Image, pace: Pace) -> Record {
+    if random.chance(pace.wild) {
+        return wild(random);
+    }
+    let mut record = sensible(random, image, pace);
+    if random.chance(pace.wild / 2) {
+        spoil_record(random, &mut record);
+    }
+    record
+}
+
+fn small_field(random: &mut Random) -> u16 {
+    let small = random.below(5) as u16;
+    let desk = random.below(18) as u16;
+    let any = random.word();
+    random.weighted(&[(3, 0), (4, small), (2, desk), (1, any)])
+}
+
+/// A record drawn without looking at the image.
+fn wild(random: &mut Random) -> Record {
+    let known = random.from_to(1, 14) as u8;
+    let any = random.word() as u8;
+    let unknown = random.weighted(&[(1, 0), (1, 15), (1, 16), (1, 255), (1, any)]);
+    let kind = random.weighted(&[(12, known), (1, unknown)]);
+    let on_desk = random.below(PLAYERS) as u8;
+    let anyone = random.word() as u8;
+    let who = random.weighted(&[(6, 0), (2, 1), (2, on_desk), (1, anyone)]);
+    let fields = [small_field(random), small_field(random), small_field(random)];
+    let mut record = Record::new(kind, who, fields[0], fields[1], fields[2]);
+    if random.chance(80) {
+        zero_unnamed(&mut record);
+    }
+    record
+}
+
+fn zero_unnamed(record: &mut Record) {
+    let named = match record.kind {
+        BEGIN | FINISH => 0,
+        BARRIER | TRACE | CLEAN => 1,
+        DROP | SCAN | DUE => 2,
+        READ => 3,
+        _ => 4,
+    };
+    if named < 4 {
+        record.c = 0;
+    }
+    if named < 3 {
+        record.b = 0;
+    }
+    if named < 2 {
+        record.a = 0;
+    }
+    if named < 1 || record.kind == DUE {
+        record.who = 0;
+    }
+}
+
+/// Alters one field.
+fn spoil_record(random: &mut Random, record: &mut Record) {
+    let value = random.weighted(&[(3, 1), (3, 16), (1, 200)]);
+    match random.below(6) {
+        0 => record.kind = random.word() as u8,
+        1 => record.who = random.weighted(&[(2, 8), (2, 16), (1, 255)]),
+        2 => record.a = record.a.wrapping_add(value),
+        3 => record.b = record.b.wrapping_add(value),
+        4 => record.c = record.c.wrapping_add(value),
+        _ => record.c = random.word(),
+    }
+}
+
+/// A record that looks at the image and is mostly accepted.
+fn sensible(random: &mut Random, image: Image, pace: Pace) -> Record {
+    let owing: Vec<usize> = (0..PLAYERS).filter(|&p| image.owed_card(p).is_some()).collect();
+    let paying = if owing.is_empty() { 0 } else { 20 + 10 * owing.len() };
+    let (idle, running) = if image.is_running() { (0, 1) } else { (1, 0) };
+    let kind = random.weighted(&[
+        (30, NEW),
+        (20, LOAD),
+        (30, STORE),
+        (paying, BARRIER),
+        (12, HAND),
+        (25, DROP),
+        (8, READ),
+        (8, WRITE),
+        (idle * 30, BEGIN),
+        (running * 15, SCAN),
+        (running * pace.tracers, TRACE),
+        (running * pace.tracers / 3, CLEAN),
+        (running * pace.finish, FINISH),
+        (4, DUE),
+    ]);
+    match kind {
+        BARRIER => Record::new(BARRIER, random.pick(&owing).unwrap_or(0) as u8, 0, 0, 0),
+        BEGIN | FINISH => Record::new(kind, 0, 0, 0, 0),
+        SCAN => scan(random, image),
+        TRACE | CLEAN => tracer_step(random, image, kind),
+        DUE => Record::new(DUE, 0, random.below(image.granules() + 2) as u16, 0, 0),
+        _ => of_a_player(random, image, kind),
+    }
+}
+
+fn scan(random: &mut Random, image: Image) -> Record {
+    let unscanned: Vec<usize> = (0..PLAYERS).filter(|&p| !image.is_scanned(p)).collect();
+    let player = random.pick(&unscanned).unwrap_or(0);
+    Record::new(SCAN, random.below(TRACERS) as u8, player as u16, 0, 0)
+}
+
+/// A trace or clean by a tracer that has something to do, if there is one.
+fn tracer_step(random: &mut Random, image: Image, kind: u8) -> Record {
+    let can = if kind == TRACE { can_trace } else { can_clean };
+    let able: Vec<usize> = (0..TRACERS).filter(|&t| can(image, t)).collect();
+    match random.pick(&able) {
+        Some(t) => Record::new(kind, t as u8, 0, 0, 0),
+        None if random.chance(10) => Record::new(kind, random.below(TRACERS) as u8, 0, 0, 0),
+        None => {
+            let kind = random.weighted(&[(1, NEW), (1, LOAD), (2, STORE), (2, DROP), (1, HAND), (1, READ), (1, WRITE)]);
+            of_a_player(random, image, kind)
+        }
+    }
+}
+
+/// A register of a player who owes nothing, and the object it holds.
+#[derive(Clone, Copy)]
+struct Held {
+    player: usize,
+    register: usize,
+    object: usize,
+}
+
+fn of_a_player(random: &mut Random, image: Image, kind: u8) -> Record {
+    let free: Vec<usize> = (0..PLAYERS).filter(|&p| image.owed_card(p).is_none()).collect();
+    let Some(player) = random.pick(&free) else {
+        return Record::new(BARRIER, random.below(PLAYERS) as u8, 0, 0, 0);
+    };
+    let in_register = |player, register| Held { player, register, object: image.register(player, register) };
+    let held: Vec<Held> = free
+        .iter()
+        .flat_map(|&p| (0..REGISTERS).map(move |r| in_register(p, r)))
+        .filter(|held| held.object != 0)
+        .collect();
+    let found = match kind {
+        LOAD => load(random, image, &held),
+        STORE => store(random, image, &held),
+        READ | WRITE => level(random, image, &held, kind),
+        HAND => hand(random, &held, &free),
+        DROP => random.pick(&held).map(|h| Record::new(DROP, h.player as u8, h.register as u16, 0, 0)),
+        _ => None,
+    };
+    // A full store would refuse nearly every new: some room is made now and then.
+    let is_full = image.first_run() == 0 && random.chance(80);
+    let instead = random.pick(&held).filter(|_| is_full);
+    match (found, instead) {
+        (Some(record), _) => record,
+        (None, Some(held)) => Record::new(DROP, held.player as u8, held.register as u16, 0, 0),
+        (None, None) => new(random, image, player),
+    }
+}
+
+fn new(random: &mut Random, image: Image, player: usize) -> Record {
+    let largest = image.runs().map(|(_, length)| length).max().unwrap_or(0);
+    let lengths: Vec<usize> = image.runs().map(|(_, length)| length).collect();
+    let few = random.from_to(1, 4).min(largest.max(1));
+    let exact = random.pick(&lengths).unwrap_or(1);
+    let much = random.from_to(1, largest.max(1));
+    let size = random.weighted(&[(30, few), (3, exact), (3, much), (1, exact + 1), (1, largest + 1)]);
+    let most = (GRANULE_WORDS * size - 2).min(4094);
+    let few_links = random.from_to(0, most.min(4));
+    let any_links = random.from_to(0, most);
+    let links = random.weighted(&[(12, few_links), (1, most), (1, any_links)]);
+    Record::new(NEW, player as u8, random.below(REGISTERS) as u16, size as u16, links as u16)
+}
+
+fn load(random: &mut Random, image: Image, held: &[Held]) -> Option<Record> {
+    let linked: Vec<Held> = held.iter().copied().filter(|h| !image.object(h.object).links.is_empty()).collect();
+    let from = random.pick(&linked)?;
+    let link = random.below(image.object(from.object).links.len());
+    let to = random.below(REGISTERS);
+    Some(Record::new(LOAD, from.player as u8, to as u16, from.register as u16, link as u16))
+}
+
+fn store(random: &mut Random, image: Image, held: &[Held]) -> Option<Record> {
+    let linked: Vec<Held> = held.iter().copied().filter(|h| !image.object(h.object).links.is_empty()).collect();
+    let into = random.pick(&linked)?;
+    let link = random.below(image.object(into.object).links.len());
+    let own: Vec<usize> = held.iter().filter(|h| h.player == into.player).map(|h| h.register).collect();
+    let any = random.below(REGISTERS);
+    let what = random.pick(&own).filter(|_| random.chance(80)).unwrap_or(any);
+    Some(Record::new(STORE, into.player as u8, into.register as u16, link as u16, what as u16))
+}
+
+fn level(random: &mut Random, image: Image, held: &[Held], kind: u8) -> Option<Record> {
+    let levelled: Vec<Held> = held.iter().copied().filter(|h| !image.object(h.object).levels.is_empty()).collect();
+    let of = random.pick(&levelled)?;
+    let level = random.below(image.object(of.object).levels.len()) as u16;
+    let value = if kind == WRITE { random.word() } else { 0 };
+    Some(Record::new(kind, of.player as u8, of.register as u16, level, value))
+}
+
+fn hand(random: &mut Random, held: &[Held], free: &[usize]) -> Option<Record> {
+    let from = random.pick(held)?;
+    let to = random.pick(free)?;
+    let register = random.below(REGISTERS);
+    Some(Record::new(HAND, from.player as u8, from.register as u16, to as u16, register as u16))
+}

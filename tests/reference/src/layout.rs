@@ -1,0 +1,103 @@
+//! Where the parts of an image lie, and the rule of its length.
+
+pub const MOST_CARDS: usize = 512;
+pub const CARD_GRANULES: usize = 64;
+pub const GRANULE_WORDS: usize = 4;
+pub const LARGEST_OBJECT: usize = 1024;
+pub const PLAYERS: usize = 16;
+pub const REGISTERS: usize = 16;
+pub const PACKETS: usize = 32;
+pub const ENTRIES: usize = 30;
+pub const TRACERS: usize = 8;
+
+const PACKET_WORDS: usize = 32;
+const TRACER_WORDS: usize = 8;
+const PLAYER_WORDS: usize = 2;
+const GENERAL_WORDS: usize = 8;
+
+/// The number of words of a store with `k` cards.
+pub fn length(k: usize) -> usize {
+    Layout { cards: k }.length()
+}
+
+/// The number of cards of a store with `n` words, if a store may have so many.
+pub fn cards_of_length(n: usize) -> Option<usize> {
+    (1..=MOST_CARDS).find(|&k| length(k) == n)
+}
+
+/// The card of the object that starts at granule `g`.
+pub fn card_of(g: usize) -> usize {
+    g / CARD_GRANULES
+}
+
+/// The first word of each part. The order is that of the paper; each part begins where the last ends.
+#[derive(Clone, Copy, Debug, PartialEq, Eq)]
+pub struct Layout {
+    pub cards: usize,
+}
+
+impl Layout {
+    pub fn of_length(n: usize) -> Option<Layout> {
+        cards_of_length(n).map(|cards| Layout { cards })
+    }
+
+    pub fn granules(self) -> usize {
+        CARD_GRANULES * self.cards
+    }
+
+    pub fn granule(self, g: usize) -> usize {
+        GRANULE_WORDS * g
+    }
+
+    pub fn start_bits(self) -> usize {
+        GRANULE_WORDS * self.granules()
+    }
+
+    pub fn mark_bits(self) -> usize {
+        self.start_bits() + self.granules() / 16
+    }
+
+    pub fn card(self, c: usize) -> usize {
+        self.mark_bits() + self.granules() / 16 + c
+    }
+
+    pub fn register(self, player: usize, r: usize) -> usize {
+        self.card(self.cards) + REGISTERS * player + r
+    }
+
+    pub fn packet(self, n: usize) -> usize {
+        self.register(PLAYERS, 0) + PACKET_WORDS * n
+    }
+
+    pub fn tracer(self, t: usize) -> usize {
+        self.packet(PACKETS) + TRACER_WORDS * t
+    }
+
+    pub fn player(self, p: usize) -> usize {
+        self.tracer(TRACERS) + PLAYER_WORDS * p
+    }
+
+    pub fn general(self) -> usize {
+        self.player(PLAYERS)
+    }
+
+    pub fn length(self) -> usize {
+        self.general() + GENERAL_WORDS
+    }
+}
+
+#[cfg(test)]
+mod tests {
+    use super::*;
+
+    #[test]
+    fn length_is_the_papers_formula() {
+        for k in 1..=MOST_CARDS {
+            assert_eq!(length(k), 265 * k + 1384);
+            assert_eq!(cards_of_length(length(k)), Some(k));
+            assert_eq!(cards_of_length(length(k) + 1), None);
+        }
+        assert_eq!(cards_of_length(length(0)), None);
+        assert_eq!(cards_of_length(length(MOST_CARDS + 1)), None);
+    }
+}

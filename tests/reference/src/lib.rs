@@ -1,0 +1,25 @@
+//! A second implementation of the show store and its collector, written from the paper alone,
+//! and the checks of whole lists of steps that any implementation of `batch` can be put to.
+
+pub mod cases;
+pub mod demand;
+pub mod finish;
+pub mod generate;
+pub mod image;
+pub mod judge;
+pub mod layout;
+pub mod made;
+pub mod plain;
+pub mod random;
+pub mod record;
+pub mod steps;
+mod tracing;
+pub mod vectors;
+
+pub use demand::{whole_list, Counts};
+pub use finish::finish;
+pub use judge::{cover, judge, undamaged_but_cover};
+pub use layout::{cards_of_length, length};
+pub use plain::{Plain, Value};
+pub use record::Record;
+pub use steps::{batch, fresh};

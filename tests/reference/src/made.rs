@@ -1,0 +1,350 @@
+//! Random images, made directly and not by running steps.
+
+use crate::image::{Image, Store, Tracer};
+use crate::judge::{cover, uncovered};
+use crate::layout::*;
+use crate::random::Random;
+use crate::steps::fresh;
+
+pub fn fresh_image(k: usize) -> Vec<u16> {
+    let mut words = vec![0; length(k)];
+    assert_eq!(fresh(&mut words), 0);
+    words
+}
+
+/// An undamaged image with no cycle.
+pub fn idle(random: &mut Random, k: usize) -> Vec<u16> {
+    let mut words = vec![0; length(k)];
+    let mut store = Store::of(&mut words).expect("a fitting length");
+    fill(random, &mut store);
+    if random.chance(50) {
+        set_cards(random, &mut store);
+    }
+    words
+}
+
+/// An undamaged image in a cycle.
+pub fn running(random: &mut Random, k: usize) -> Vec<u16> {
+    let mut words = loose(random, k);
+    cover_all(random, &mut Store::of(&mut words).expect("a fitting length"));
+    words
+}
+
+/// An image in a cycle that is undamaged but for Cover, which may hold or not.
+pub fn loose(random: &mut Random, k: usize) -> Vec<u16> {
+    let mut words = vec![0; length(k)];
+    let mut store = Store::of(&mut words).expect("a fitting length");
+    fill(random, &mut store);
+    start_cycle(random, &mut store);
+    words
+}
+
+/// An image in a cycle that is undamaged but for Cover, which does not hold.
+pub fn uncovered_image(random: &mut Random, k: usize) -> Vec<u16> {
+    loop {
+        let words = loose(random, k);
+        if !cover(&words) {
+            return words;
+        }
+    }
+}
+
+/// The fewest cards with objects enough to fill all packets but the held ones.
+pub const STARVED_CARDS: usize = 12;
+
+/// An undamaged image in a cycle where no tracer finds a packet to take: 32 packets are held by
+/// tracers or full. It takes hundreds of marked objects, so `k` must be `STARVED_CARDS` or more.
+pub fn starved(random: &mut Random, k: usize) -> Vec<u16> {
+    assert!(k >= STARVED_CARDS);
+    let mut words = vec![0; length(k)];
+    let mut store = Store::of(&mut words).expect("a fitting length");
+    lay_heap(random, &mut store, Sizes::Single);
+    set_links(random, &mut store);
+    set_players(random, &mut store);
+    starve(random, &mut store);
+    cover_all(random, &mut store);
+    hold_unmarked(random, &mut store);
+    words
+}
+
+fn fill(random: &mut Random, store: &mut Store) {
+    let sizes = random.weighted(&[(3, Sizes::Small), (3, Sizes::Varied), (2, Sizes::Single), (1, Sizes::Large)]);
+    lay_heap(random, store, sizes);
+    set_links(random, store);
+    set_players(random, store);
+}
+
+#[derive(Clone, Copy)]
+enum Sizes {
+    Single,
+    Small,
+    Varied,
+    Large,
+}
+
+fn size(random: &mut Random, sizes: Sizes) -> usize {
+    match sizes {
+        Sizes::Single => 1,
+        Sizes::Small => random.from_to(1, 3),
+        Sizes::Varied => random.from_to(1, 8),
+        Sizes::Large => random.from_to(1, LARGEST_OBJECT),
+    }
+}
+
+/// Objects and runs from granule 1 to the last, no two runs together.
+fn lay_heap(random: &mut Random, store: &mut Store, sizes: Sizes) {
+    let granules = store.layout.granules();
+    let run_percent = if matches!(sizes, Sizes::Single) { 4 } else { random.from_to(0, 40) };
+    let mut runs = Vec::new();
+    let mut may_be_run = true;
+    let mut g = 1;
+    while g < granules {
+        let size = size(random, sizes).min(granules - g);
+        if may_be_run && random.chance(run_percent) {
+            runs.push((g, size));
+            may_be_run = false;
+        } else {
+            lay_object(random, store, g, size);
+            may_be_run = true;
+        }
+        g += size;
+    }
+    let mut next = 0;
+    for (g, length) in runs.into_iter().rev() {
+        store.set_run(g, length, next);
+        next = g;
+    }
+    store.set_first_run(next);
+}
+
+fn lay_object(random: &mut Random, store: &mut Store, g: usize, size: usize) {
+    let most = GRANULE_WORDS * size - 2;
+    let few = random.from_to(0, most.min(3));
+    let any = random.from_to(0, most);
+    let links = random.weighted(&[(1, 0), (6, few), (2, any), (1, most)]);
+    store.set_object(g, size, links);
+    let first = store.layout.granule(g) + 2 + links;
+    for at in first..store.layout.granule(g + size) {
+        store.words[at] = if random.chance(70) { random.word() } else { 0 };
+    }
+}
+
+fn set_links(random: &mut Random, store: &mut Store) {
+    let starts: Vec<usize> = store.image().starts().collect();
+    let links: Vec<(usize, usize)> = store.image().objects().map(|o| (o.start, o.links.len())).collect();
+    let nil_percent = random.from_to(5, 90);
+    for (g, count) in links {
+        for i in 0..count {
+            let target = random.pick(&starts).filter(|_| !random.chance(nil_percent));
+            store.set_link(g, i, target.unwrap_or(0));
+        }
+    }
+}
+
+fn set_players(random: &mut Random, store: &mut Store) {
+    let starts: Vec<usize> = store.image().starts().collect();
+    let nil_percent = random.from_to(50, 99);
+    let owing_percent = random.weighted(&[(2, 0), (3, 10), (2, 50)]);
+    for p in 0..PLAYERS {
+        for r in 0..REGISTERS {
+            let target = random.pick(&starts).filter(|_| !random.chance(nil_percent));
+            store.set_register(p, r, target.unwrap_or(0));
+        }
+        let card = random.below(store.layout.cards);
+        store.set_owed(p, random.chance(owing_percent).then_some(card));
+    }
+}
+
+fn set_cards(random: &mut Random, store: &mut Store) {
+    for c in 0..store.layout.cards {
+        let state = random.weighted(&[(3, 0), (1, 1), (2, 2), (1, 3)]);
+        store.set_card(c, state);
+    }
+}
+
+fn start_cycle(random: &mut Random, store: &mut Store) {
+    store.set_running(true);
+    set_cards(random, store);
+    let starts: Vec<usize> = store.image().starts().collect();
+    let marked_percent = random.weighted(&[(1, 0), (4, 40), (3, 70), (1, 100)]);
+    let mut marked: Vec<usize> = starts.into_iter().filter(|_| random.chance(marked_percent)).collect();
+    marked.iter().for_each(|&g| store.set_mark(g, true));
+    random.shuffle(&mut marked);
+    let entered_percent = random.weighted(&[(1, 0), (3, 20), (2, 60), (1, 100)]);
+    let used_packets = random.from_to(1, PACKETS);
+    for &g in &marked {
+        if random.chance(entered_percent) {
+            enter(random, store, g, used_packets);
+        }
+    }
+    set_tracers(random, store, &marked);
+    for p in 0..PLAYERS {
+        let scanned = random.chance(40);
+        store.set_scanned(p, scanned);
+    }
+}
+
+/// Enters a marked object in some packet of the first `packets` that has space.
+fn enter(random: &mut Random, store: &mut Store, g: usize, packets: usize) {
+    let roomy: Vec<usize> = (0..packets).filter(|&n| store.image().count(n) < ENTRIES).collect();
+    if let Some(n) = random.pick(&roomy) {
+        store.append(n, g);
+    }
+}
+
+fn set_tracers(random: &mut Random, store: &mut Store, marked: &[usize]) {
+    let mut packets: Vec<usize> = (0..PACKETS).collect();
+    random.shuffle(&mut packets);
+    let busy_percent = random.from_to(0, 80);
+    for t in 0..TRACERS {
+        let input = packets.pop().filter(|_| random.chance(busy_percent));
+        let output = packets.pop().filter(|_| random.chance(busy_percent));
+        let hand = hand(random, store.image(), marked).filter(|_| random.chance(busy_percent));
+        let card = card_in_hand(random, store.image()).filter(|_| random.chance(busy_percent / 2));
+        store.set_tracer(t, Tracer { input, output, hand, card });
+    }
+}
+
+/// A marked object and a next link below its number of links.
+fn hand(random: &mut Random, image: Image, marked: &[usize]) -> Option<(usize, usize)> {
+    let g = random.pick(marked)?;
+    let links = image.object(g).links.len();
+    (links > 0).then(|| (g, random.below(links)))
+}
+
+/// A taken card and a next granule on it or just past it.
+fn card_in_hand(random: &mut Random, image: Image) -> Option<(usize, usize)> {
+    let taken: Vec<usize> = (0..image.cards()).filter(|&c| image.card(c) >= 2).collect();
+    let c = random.pick(&taken)?;
+    let first = CARD_GRANULES * c;
+    let any = random.from_to(0, CARD_GRANULES);
+    let next = random.weighted(&[(2, 0), (6, any), (1, CARD_GRANULES)]);
+    Some((c, first + next))
+}
+
+/// Lets the tracers hold some packets, fills all others and marks what is entered.
+fn starve(random: &mut Random, store: &mut Store) {
+    store.set_running(true);
+    set_cards(random, store);
+    let mut packets: Vec<usize> = (0..PACKETS).collect();
+    random.shuffle(&mut packets);
+    let held_in = random.from_to(6, TRACERS);
+    let held_out = random.from_to(6, TRACERS);
+    let mut objects: Vec<usize> = store.image().starts().collect();
+    random.shuffle(&mut objects);
+    for t in 0..TRACERS {
+        let input = packets.pop().filter(|_| t < held_in);
+        let output = packets.pop().filter(|_| t >= TRACERS - held_out);
+        store.set_tracer(t, Tracer { input, output, ..Tracer::default() });
+    }
+    let held: Vec<usize> = store.image().tracers().flat_map(|t| [t.input, t.output]).flatten().collect();
+    for n in (0..PACKETS).filter(|n| !held.contains(n)) {
+        enter_all(store, n, &mut objects, ENTRIES);
+    }
+    // An input that runs empty goes back to the pool and ends the want: most have many entries.
+    for n in held {
+        let count = random.weighted(&[(5, ENTRIES), (2, ENTRIES - 1), (1, 5), (1, 0)]);
+        let spare = objects.len().saturating_sub(60);
+        enter_all(store, n, &mut objects, count.min(spare));
+    }
+    let marked_too = random.below(objects.len() / 2);
+    objects[..marked_too].iter().for_each(|&g| store.set_mark(g, true));
+}
+
+/// Puts unmarked objects in registers, where scans reach them. Cover may rest on the registers of
+/// players who owe: those stay.
+fn hold_unmarked(random: &mut Random, store: &mut Store) {
+    let unmarked: Vec<usize> = store.image().starts().filter(|&g| !store.image().is_marked(g)).collect();
+    for p in 0..PLAYERS {
+        if store.image().owed_card(p).is_none() && random.chance(70) {
+            let r = random.below(REGISTERS);
+            store.set_register(p, r, random.pick(&unmarked).unwrap_or(0));
+        }
+    }
+}
+
+fn enter_all(store: &mut Store, packet: usize, objects: &mut Vec<usize>, count: usize) {
+    for _ in 0..count {
+        let g = objects.pop().expect("objects enough for the packets");
+        store.set_mark(g, true);
+        store.append(packet, g);
+    }
+}
+
+/// Alters an image that is undamaged but for Cover until Cover holds too.
+fn cover_all(random: &mut Random, store: &mut Store) {
+    let ways = random.weighted(&[(1, Ways::Any), (2, Ways::ByEntry), (2, Ways::ByMark), (2, Ways::NotByCard)]);
+    loop {
+        let mut links = uncovered(store.image());
+        if links.is_empty() {
+            return;
+        }
+        // One alteration may cover several links: only a few are covered before looking again.
+        random.shuffle(&mut links);
+        links.truncate(links.len() / 10 + 1);
+        for (g, i) in links {
+            cover_link(random, store, ways, g, i);
+        }
+    }
+}
+
+#[derive(Clone, Copy)]
+enum Ways {
+    Any,
+    ByEntry,
+    ByMark,
+    NotByCard,
+}
+
+#[derive(Clone, Copy)]
+enum Way {
+    DirtyCard,
+    Enter,
+    Mark,
+    Nil,
+    Hand,
+    Owe,
+}
+
+fn cover_link(random: &mut Random, store: &mut Store, ways: Ways, g: usize, i: usize) {
+    use Way::*;
+    let target = usize::from(store.image().object(g).links[i]);
+    if target == 0 || store.image().is_marked(target) || store.image().entered().any(|e| e == g) {
+        return;
+    }
+    let weights = match ways {
+        Ways::Any => [(1, DirtyCard), (2, Enter), (2, Mark), (2, Nil), (2, Hand), (2, Owe)],
+        Ways::ByEntry => [(0, DirtyCard), (8, Enter), (1, Mark), (2, Nil), (4, Hand), (1, Owe)],
+        Ways::ByMark => [(0, DirtyCard), (1, Enter), (8, Mark), (2, Nil), (1, Hand), (1, Owe)],
+        Ways::NotByCard => [(0, DirtyCard), (1, Enter), (2, Mark), (1, Nil), (4, Hand), (4, Owe)],
+    };
+    match random.weighted(&weights) {
+        DirtyCard => store.dirty(card_of(g)),
+        Enter => enter(random, store, g, PACKETS),
+        Mark => store.set_mark(target, true),
+        Nil => store.set_link(g, i, 0),
+        Hand => put_in_hand(random, store, g, i),
+        Owe => let_owe(random, store, card_of(g), target),
+    }
+}
+
+fn put_in_hand(random: &mut Random, store: &mut Store, g: usize, i: usize) {
+    let idle: Vec<usize> = (0..TRACERS).filter(|&t| store.image().tracer(t).hand.is_none()).collect();
+    if let Some(t) = random.pick(&idle) {
+        let next = random.from_to(0, i);
+        let tracer = Tracer { hand: Some((g, next)), ..store.image().tracer(t) };
+        store.set_tracer(t, tracer);
+    }
+}
+
+/// A player who owes nothing, or that card already, and has a nil register comes to owe and to hold.
+fn let_owe(random: &mut Random, store: &mut Store, card: usize, target: usize) {
+    let may_owe = |p: &usize| store.image().owed_card(*p).is_none_or(|c| c == card);
+    let players: Vec<usize> = (0..PLAYERS).filter(may_owe).collect();
+    let Some(p) = random.pick(&players) else { return };
+    let nil: Vec<usize> = (0..REGISTERS).filter(|&r| store.image().register(p, r) == 0).collect();
+    if let Some(r) = random.pick(&nil) {
+        store.set_owed(p, Some(card));
+        store.set_register(p, r, target);
+    }
+}

@@ -1,0 +1,141 @@
+//! Records of 8 bytes, and the refusals that a record alone decides.
+
+use crate::layout::{GRANULE_WORDS, LARGEST_OBJECT, PLAYERS, REGISTERS, TRACERS};
+
+pub const RECORD_BYTES: usize = 8;
+
+pub const NEW: u8 = 1;
+pub const LOAD: u8 = 2;
+pub const STORE: u8 = 3;
+pub const BARRIER: u8 = 4;
+pub const HAND: u8 = 5;
+pub const DROP: u8 = 6;
+pub const READ: u8 = 7;
+pub const WRITE: u8 = 8;
+pub const BEGIN: u8 = 9;
+pub const SCAN: u8 = 10;
+pub const TRACE: u8 = 11;
+pub const CLEAN: u8 = 12;
+pub const FINISH: u8 = 13;
+pub const DUE: u8 = 14;
+
+#[derive(Clone, Copy, Debug, PartialEq, Eq)]
+pub struct Record {
+    pub kind: u8,
+    /// The second byte: the player of kinds 1 to 8, the tracer of 10 to 12.
+    pub who: u8,
+    pub a: u16,
+    pub b: u16,
+    pub c: u16,
+}
+
+/// The records of step bytes whose number is a multiple of 8.
+pub fn records(steps: &[u8]) -> impl Iterator<Item = Record> + '_ {
+    steps.chunks_exact(RECORD_BYTES).map(Record::from_bytes)
+}
+
+impl Record {
+    pub fn new(kind: u8, who: u8, a: u16, b: u16, c: u16) -> Record {
+        Record { kind, who, a, b, c }
+    }
+
+    /// "kind, player or tracer, then a, b, c, 16 bits each, low byte first"
+    pub fn from_bytes(bytes: &[u8]) -> Record {
+        let word = |i: usize| u16::from_le_bytes([bytes[i], bytes[i + 1]]);
+        Record { kind: bytes[0], who: bytes[1], a: word(2), b: word(4), c: word(6) }
+    }
+
+    pub fn to_bytes(self) -> [u8; RECORD_BYTES] {
+        let [a0, a1] = self.a.to_le_bytes();
+        let [b0, b1] = self.b.to_le_bytes();
+        let [c0, c1] = self.c.to_le_bytes();
+        [self.kind, self.who, a0, a1, b0, b1, c0, c1]
+    }
+
+    pub fn who(self) -> usize {
+        usize::from(self.who)
+    }
+
+    pub fn a(self) -> usize {
+        usize::from(self.a)
+    }
+
+    pub fn b(self) -> usize {
+        usize::from(self.b)
+    }
+
+    pub fn c(self) -> usize {
+        usize::from(self.c)
+    }
+
+    pub fn is_of_a_player(self) -> bool {
+        (NEW..=WRITE).contains(&self.kind)
+    }
+
+    /// Number 3: "kind not 1 to 14, or an unnamed field not 0".
+    pub fn is_unknown(self) -> bool {
+        let named = match self.kind {
+            NEW | LOAD | STORE | HAND | WRITE => [true; 4],
+            READ => [true, true, true, false],
+            DROP | SCAN => [true, true, false, false],
+            BARRIER | TRACE | CLEAN => [true, false, false, false],
+            BEGIN | FINISH => [false; 4],
+            DUE => [false, true, false, false],
+            _ => return true,
+        };
+        let fields = [u16::from(self.who), self.a, self.b, self.c];
+        fields.iter().zip(named).any(|(&field, named)| !named && field != 0)
+    }
+
+    /// Number 4: "player or register above 15, tracer above 7". No link, level word or size counts.
+    pub fn is_off_the_desk(self) -> bool {
+        let who_beyond = match self.kind {
+            NEW..=WRITE => self.who() >= PLAYERS,
+            SCAN..=CLEAN => self.who() >= TRACERS,
+            _ => false,
+        };
+        let (players, registers): (&[usize], &[usize]) = match self.kind {
+            NEW | DROP | READ | WRITE => (&[], &[self.a()]),
+            LOAD => (&[], &[self.a(), self.b()]),
+            STORE => (&[], &[self.a(), self.c()]),
+            HAND => (&[self.b()], &[self.a(), self.c()]),
+            SCAN => (&[self.a()], &[]),
+            _ => (&[], &[]),
+        };
+        who_beyond || players.iter().any(|&p| p >= PLAYERS) || registers.iter().any(|&r| r >= REGISTERS)
+    }
+
+    /// The players who must owe nothing (number 5): the acting one, and in hand the receiving one.
+    pub fn players_to_owe_nothing(self) -> Vec<usize> {
+        match self.kind {
+            HAND => vec![self.who(), self.b()],
+            NEW..=STORE | DROP..=WRITE => vec![self.who()],
+            _ => vec![],
+        }
+    }
+
+    /// The register that must hold an object (number 6).
+    pub fn object_register(self) -> Option<usize> {
+        match self.kind {
+            LOAD => Some(self.b()),
+            STORE | READ | WRITE => Some(self.a()),
+            _ => None,
+        }
+    }
+
+    /// Number 7, given the numbers of links and of level words of the object.
+    pub fn is_past_the_end(self, links: usize, levels: usize) -> bool {
+        match self.kind {
+            LOAD => self.c() >= links,
+            STORE => self.b() >= links,
+            READ | WRITE => self.b() >= levels,
+            _ => false,
+        }
+    }
+
+    /// Number 8: "new with b = 0, b over 1,024, or c over 4 × b − 2".
+    pub fn is_bad_size(self) -> bool {
+        let size_fits = (1..=LARGEST_OBJECT).contains(&self.b());
+        self.kind == NEW && !(size_fits && self.c() <= GRANULE_WORDS * self.b() - 2)
+    }
+}

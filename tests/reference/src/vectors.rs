@@ -1,0 +1,139 @@
+//! Reading and printing cases in the format of the outside vectors.
+
+use std::collections::BTreeMap;
+
+/// The word that answer space holds before a call.
+pub const UNTOUCHED: u16 = 0x5aa5;
+
+/// A call of `batch` and what it must do.
+#[derive(Clone, Debug, PartialEq, Eq)]
+pub struct BatchCase {
+    pub name: String,
+    pub image: Vec<u16>,
+    pub steps: Vec<u8>,
+    pub answers: usize,
+    pub result: u16,
+    pub left: Vec<u16>,
+    pub given: Vec<u16>,
+}
+
+/// A finish alone and what it must do.
+#[derive(Clone, Debug, PartialEq, Eq)]
+pub struct FinishCase {
+    pub name: String,
+    pub image: Vec<u16>,
+    pub value: u16,
+    pub left: Vec<u16>,
+    pub cover: bool,
+}
+
+#[derive(Clone, Debug, PartialEq, Eq)]
+pub enum Case {
+    Batch(BatchCase),
+    Finish(FinishCase),
+}
+
+pub fn parse(text: &str) -> Result<Vec<Case>, String> {
+    let mut blocks: Vec<BTreeMap<&str, &str>> = Vec::new();
+    for line in text.lines().map(str::trim).filter(|line| !line.is_empty()) {
+        let (key, rest) = line.split_once(' ').unwrap_or((line, ""));
+        if key == "case" {
+            blocks.push(BTreeMap::new());
+        }
+        let block = blocks.last_mut().ok_or("a line before the first case")?;
+        if block.insert(key, rest).is_some() {
+            return Err(format!("{key} twice in case {}", block["case"]));
+        }
+    }
+    blocks.iter().map(|block| case_of(block).map_err(|e| format!("case {}: {e}", block["case"]))).collect()
+}
+
+fn case_of(block: &BTreeMap<&str, &str>) -> Result<Case, String> {
+    let field = |key: &str| block.get(key).copied().ok_or(format!("no line {key}"));
+    let number = |key: &str| field(key)?.parse::<u16>().map_err(|e| format!("{key}: {e}"));
+    let name = field("case")?.to_string();
+    let image = words(field("image")?)?;
+    let left = match field("left")? {
+        "same" => image.clone(),
+        text => words(text)?,
+    };
+    if block.contains_key("finish") {
+        let cover = number("cover")? == 1;
+        return Ok(Case::Finish(FinishCase { name, image, value: number("finish")?, left, cover }));
+    }
+    let answers = usize::from(number("answers")?);
+    let given = words(field("given")?)?;
+    let steps = bytes(field("steps")?)?;
+    Ok(Case::Batch(BatchCase { name, image, steps, answers, result: number("result")?, left, given }))
+}
+
+/// Words in hex, `v*n` for n equal ones in a row (n decimal).
+fn words(text: &str) -> Result<Vec<u16>, String> {
+    let mut words = Vec::new();
+    for part in text.split_whitespace() {
+        let (value, times) = part.split_once('*').unwrap_or((part, "1"));
+        let value = u16::from_str_radix(value, 16).map_err(|e| format!("{part}: {e}"))?;
+        let times = times.parse::<usize>().map_err(|e| format!("{part}: {e}"))?;
+        words.extend(std::iter::repeat_n(value, times));
+    }
+    Ok(words)
+}
+
+/// Bytes in hex without spaces, `-` for none.
+fn bytes(text: &str) -> Result<Vec<u8>, String> {
+    if text == "-" {
+        return Ok(Vec::new());
+    }
+    if text.len() % 2 != 0 || !text.is_ascii() {
+        return Err("half a byte".to_string());
+    }
+    let byte = |i: usize| u8::from_str_radix(&text[i..i + 2], 16).map_err(|e| e.to_string());
+    (0..text.len()).step_by(2).map(byte).collect()
+}
+
+pub fn print(case: &Case) -> String {
+    match case {
+        Case::Batch(case) => print_batch(case),
+        Case::Finish(case) => print_finish(case),
+    }
+}
+
+fn print_batch(case: &BatchCase) -> String {
+    let left = if case.left == case.image { "same".to_string() } else { print_words(&case.left) };
+    let steps: String = case.steps.iter().map(|b| format!("{b:02x}")).collect();
+    let lines = [
+        ("case", case.name.clone()),
+        ("image", print_words(&case.image)),
+        ("steps", if steps.is_empty() { "-".to_string() } else { steps }),
+        ("answers", case.answers.to_string()),
+        ("result", case.result.to_string()),
+        ("left", left),
+        ("given", print_words(&case.given)),
+    ];
+    print_lines(&lines)
+}
+
+fn print_finish(case: &FinishCase) -> String {
+    let lines = [
+        ("case", case.name.clone()),
+        ("image", print_words(&case.image)),
+        ("finish", case.value.to_string()),
+        ("left", print_words(&case.left)),
+        ("cover", u16::from(case.cover).to_string()),
+    ];
+    print_lines(&lines)
+}
+
+fn print_lines(lines: &[(&str, String)]) -> String {
+    lines.iter().map(|(key, text)| format!("{key} {text}").trim_end().to_string() + "\n").collect()
+}
+
+/// Three or more equal words are printed as one; two are printed as they are.
+fn print_words(words: &[u16]) -> String {
+    let runs = words.chunk_by(|a, b| a == b).map(|run| match run {
+        [word] => format!("{word:x}"),
+        [word, _] => format!("{word:x} {word:x}"),
+        _ => format!("{:x}*{}", run[0], run.len()),
+    });
+    runs.collect::<Vec<_>>().join(" ")
+}

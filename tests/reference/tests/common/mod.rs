@@ -1,0 +1,81 @@
+//! Small lists of steps by hand.
+
+#![allow(dead_code)]
+
+use reference::made::fresh_image;
+use reference::batch;
+
+pub use reference::record::*;
+pub use reference::Record;
+
+pub fn step(kind: u8, who: u8, a: u16, b: u16, c: u16) -> Record {
+    Record::new(kind, who, a, b, c)
+}
+
+pub fn new(player: u8, register: u16, size: u16, links: u16) -> Record {
+    step(NEW, player, register, size, links)
+}
+
+pub fn load(player: u8, into: u16, from: u16, link: u16) -> Record {
+    step(LOAD, player, into, from, link)
+}
+
+pub fn store(player: u8, into: u16, link: u16, from: u16) -> Record {
+    step(STORE, player, into, link, from)
+}
+
+pub fn barrier(player: u8) -> Record {
+    step(BARRIER, player, 0, 0, 0)
+}
+
+pub fn hand(player: u8, own: u16, to: u16, register: u16) -> Record {
+    step(HAND, player, own, to, register)
+}
+
+pub fn drop(player: u8, register: u16) -> Record {
+    step(DROP, player, register, 0, 0)
+}
+
+pub fn begin() -> Record {
+    step(BEGIN, 0, 0, 0, 0)
+}
+
+pub fn scan(tracer: u8, player: u16) -> Record {
+    step(SCAN, tracer, player, 0, 0)
+}
+
+pub fn trace(tracer: u8) -> Record {
+    step(TRACE, tracer, 0, 0, 0)
+}
+
+pub fn clean(tracer: u8) -> Record {
+    step(CLEAN, tracer, 0, 0, 0)
+}
+
+pub fn finish() -> Record {
+    step(FINISH, 0, 0, 0, 0)
+}
+
+pub fn bytes(records: &[Record]) -> Vec<u8> {
+    records.iter().flat_map(|r| r.to_bytes()).collect()
+}
+
+/// Runs a list in one accepted batch and gives the answers as number and value.
+pub fn run(image: &mut [u16], records: &[Record]) -> Vec<(u16, u16)> {
+    let mut answers = vec![0x5aa5; 2 * records.len()];
+    assert_eq!(batch(image, &bytes(records), &mut answers), 0);
+    answers.chunks(2).map(|answer| (answer[0], answer[1])).collect()
+}
+
+/// The answers of a list on a fresh store of one card.
+pub fn on_one_card(records: &[Record]) -> Vec<(u16, u16)> {
+    run(&mut fresh_image(1), records)
+}
+
+/// The answer of the last step of a list, all others of which are accepted.
+pub fn last(records: &[Record]) -> (u16, u16) {
+    let answers = on_one_card(records);
+    let (last, others) = answers.split_last().expect("a list that is not empty");
+    assert!(others.iter().all(|(number, _)| *number == 0), "{answers:?}");
+    *last
+}

@@ -1,0 +1,74 @@
+//! The cases that `draw` prints: they parse, repeat by seed and show every kind and number.
+
+use std::collections::BTreeSet;
+
+use reference::cases::case;
+use reference::random::Random;
+use reference::record::records;
+use reference::undamaged_but_cover;
+use reference::vectors::{parse, print, BatchCase, Case, FinishCase};
+
+fn draw(seed: u64, count: u64) -> Vec<Case> {
+    let mut random = Random::new(seed);
+    (0..count).map(|number| case(&mut random, number)).collect()
+}
+
+fn batch_cases(cases: &[Case]) -> Vec<&BatchCase> {
+    let mut batches = Vec::new();
+    for case in cases {
+        if let Case::Batch(batch) = case {
+            batches.push(batch);
+        }
+    }
+    batches
+}
+
+fn finish_cases(cases: &[Case]) -> Vec<&FinishCase> {
+    let mut finishes = Vec::new();
+    for case in cases {
+        if let Case::Finish(finish) = case {
+            finishes.push(finish);
+        }
+    }
+    finishes
+}
+
+#[test]
+fn a_seed_gives_the_same_cases() {
+    let cases = draw(5, 50);
+    assert_eq!(cases, draw(5, 50));
+    assert_ne!(cases, draw(6, 50));
+    let printed: String = cases.iter().map(print).collect();
+    assert_eq!(parse(&printed).unwrap(), cases);
+}
+
+#[test]
+fn batches_show_every_kind_and_number() {
+    let cases = draw(1, 2000);
+    let batches = batch_cases(&cases);
+    for result in 0..3 {
+        assert!(batches.iter().filter(|case| case.result == result).count() >= 50, "result {result}");
+    }
+    let accepted = batches.iter().filter(|case| case.result == 0);
+    let shown: BTreeSet<(u8, u16)> = accepted
+        .flat_map(|case| records(&case.steps).zip(case.given.chunks(2)))
+        .map(|(record, answer)| (record.kind, answer[0]))
+        .collect();
+    assert!((1..=14).all(|kind| shown.contains(&(kind, 0))), "{shown:?}");
+    assert!((3..=11).all(|number| shown.iter().any(|&(_, n)| n == number)), "{shown:?}");
+    assert!(shown.iter().any(|&(kind, _)| !(1..=14).contains(&kind)));
+}
+
+#[test]
+fn finishes_free_and_keep_with_cover_and_without() {
+    let cases = draw(2, 2000);
+    let finishes = finish_cases(&cases);
+    assert!((400..600).contains(&finishes.len()));
+    assert!(finishes.iter().all(|case| undamaged_but_cover(&case.image)));
+    for cover in [false, true] {
+        for frees in [false, true] {
+            let alike = finishes.iter().filter(|case| case.cover == cover && (case.value > 0) == frees);
+            assert!(alike.count() >= 20, "cover {cover}, frees {frees}");
+        }
+    }
+}

@@ -1,0 +1,60 @@
+//! The outside vectors against the reference.
+
+use reference::vectors::{parse, print, Case, UNTOUCHED};
+use reference::{batch, cover, finish, undamaged_but_cover};
+
+const BATCHES: &str = include_str!("../../vectors/batches.txt");
+const FINISHES: &str = include_str!("../../vectors/finishes.txt");
+
+#[test]
+fn batches() {
+    let cases = parse(BATCHES).unwrap();
+    assert_eq!(cases.len(), 120);
+    for case in cases {
+        let Case::Batch(case) = case else { panic!("a case of batch") };
+        let mut image = case.image.clone();
+        let mut answers = vec![UNTOUCHED; case.answers];
+        assert_eq!(batch(&mut image, &case.steps, &mut answers), case.result, "result of {}", case.name);
+        assert!(answers == case.given, "answers of {}: {answers:x?}, not {:x?}", case.name, case.given);
+        assert!(image == case.left, "image of {}", case.name);
+        if case.name.ends_with("loose") {
+            assert!(undamaged_but_cover(&case.image), "{}", case.name);
+            assert_eq!(cover(&case.image), case.result == 0, "cover of {}", case.name);
+        }
+    }
+}
+
+#[test]
+fn finishes() {
+    let cases = parse(FINISHES).unwrap();
+    assert_eq!(cases.len(), 60);
+    for case in cases {
+        let Case::Finish(case) = case else { panic!("a case of finish") };
+        assert!(undamaged_but_cover(&case.image), "{}", case.name);
+        assert_eq!(cover(&case.image), case.cover, "cover of {}", case.name);
+        let mut image = case.image.clone();
+        assert_eq!(finish(&mut image), case.value, "value of {}", case.name);
+        assert!(image == case.left, "image of {}", case.name);
+    }
+}
+
+/// A finish that follows every marked object's links (as if all cards were dirty) differs on some vector.
+#[test]
+fn a_finish_that_follows_all_is_caught() {
+    let caught = parse(FINISHES).unwrap().into_iter().any(|case| {
+        let Case::Finish(mut case) = case else { panic!("a case of finish") };
+        let cards = reference::layout::Layout::of_length(case.image.len()).unwrap();
+        case.image[cards.card(0)..cards.card(cards.cards)].fill(1);
+        finish(&mut case.image) != case.value
+    });
+    assert!(caught);
+}
+
+#[test]
+fn printing_and_parsing_agree() {
+    for text in [BATCHES, FINISHES] {
+        let cases = parse(text).unwrap();
+        let printed: String = cases.iter().map(print).collect();
+        assert_eq!(parse(&printed).unwrap(), cases);
+    }
+}
