@@ -1,0 +1,73 @@
+//! Reads cases in the vectors' format from standard input and prints each as theorems of antt: the model's definitions,
+//! computed by the checker, give what the case says.
+
+use std::fmt::Display;
+use std::io::Read;
+
+use reference::vectors::{parse, BatchCase, Case, FinishCase, UNTOUCHED};
+
+const HEAD: &str = "\
+use mathlib.Core.Path.{_≡_, refl}
+use mathlib.Core.List.{List, [], _∷_, _++_}
+use Prim.Native.Nat.{ℕ}
+use lib.ListN.{replicate}
+use Rattle.model.specs.Batch.{Batch, Finished, judgeOf, batchOf, finishOf, model-open}
+
+runs : List ℕ → List ℕ
+runs [] = []
+runs (n ∷ []) = []
+runs (n ∷ v ∷ l) = replicate n v ++ runs l
+";
+
+fn main() {
+    let mut text = String::new();
+    std::io::stdin().read_to_string(&mut text).expect("standard input is text");
+    let cases = parse(&text).expect("cases in the vectors' format");
+    println!("{HEAD}");
+    for (number, case) in cases.iter().enumerate() {
+        match case {
+            Case::Batch(case) => print_batch(number, case),
+            Case::Finish(case) => print_finish(number, case),
+        }
+    }
+}
+
+fn print_batch(number: usize, case: &BatchCase) {
+    let call = format!(
+        "batchOf {} ({}) (replicate {} {UNTOUCHED})",
+        runs(&case.image),
+        list(&case.steps),
+        case.answers
+    );
+    let gives = format!(
+        "record {{ result = {}; image = {}; answers = {} }}",
+        case.result,
+        runs(&case.left),
+        list(&case.given)
+    );
+    print_theorem(number, "batch", &case.name, "Batch", &call, &gives);
+}
+
+fn print_finish(number: usize, case: &FinishCase) {
+    let image = runs(&case.image);
+    let gives = format!("record {{ value = {}; image = {} }}", case.value, runs(&case.left));
+    print_theorem(number, "finish", &case.name, "Finished", &format!("finishOf {image}"), &gives);
+    let verdict = if case.cover { "0" } else { "2" };
+    print_theorem(number, "judged", &case.name, "ℕ", &format!("judgeOf {image}"), verdict);
+}
+
+fn print_theorem(number: usize, what: &str, name: &str, kind: &str, call: &str, gives: &str) {
+    println!("-- case {name}\n{what}-{number} : _≡_ {{A = {kind}}} ({call}) ({gives})");
+    println!("unfolding model-open runs\n{what}-{number} = refl\n");
+}
+
+fn list<T: Display>(items: &[T]) -> String {
+    items.iter().map(|item| format!("{item} ∷ ")).collect::<String>() + "[]"
+}
+
+/// Equal words in a row are written once, with their number before them.
+fn runs(words: &[u16]) -> String {
+    let pairs: Vec<usize> =
+        words.chunk_by(|a, b| a == b).flat_map(|run| [run.len(), usize::from(run[0])]).collect();
+    format!("(runs ({}))", list(&pairs))
+}
