@@ -4,3 +4,4 @@ pub mod Closure
 pub mod Words
 pub mod Entries
 pub mod Cases
+pub mod Examples

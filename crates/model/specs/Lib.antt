@@ -9,5 +9,6 @@ pub mod Finish
 pub mod Steps
 pub mod Batch
 pub mod Cases
+pub mod Examples
 pub mod Plain
 pub mod Claim
