@@ -3,5 +3,7 @@ pub mod Bits
 pub mod Closure
 pub mod Words
 pub mod Entries
+pub mod Sited
+pub mod Found
 pub mod Cases
 pub mod Examples
