@@ -1,21 +1,20 @@
--- An image is its words and the words are its image: both round trips.
-use mathlib.Core.Path.{_≡_, refl, sym, ap, _∙_}
-use mathlib.Core.Bool.{Bool, true}
+-- An image is its words, and words of fitting length are an image: both round trips.
+use mathlib.Core.Path.{_≡_, refl, sym, ap, subst, _∙_}
+use mathlib.Core.Logic.{_⊎_, inl, inr}
+use mathlib.Core.Bool.{Bool, true, false, cond}
 use mathlib.Core.List.{List, [], _∷_, _++_, map}
 use Prim.Native.Nat.{ℕ, zero, suc, _+_, _*_, _-_, _/_, _≤_}
 use native.Mathlib.Omega.{arith}
-use lib.ListN.{length, take, drop, length-drop, take-append-drop}
+use lib.Dec.{eqb}
+use lib.ListN.{length, take, drop, length-drop, length-append, take-append-drop}
 use lib.Seq.{take-at, drop-at}
-use Rattle.model.specs.Image.{Image, lengths, imageLength, cardsOf, fits, split, join, sections, image, imageOf, parts, words}
-use Rattle.model.proofs.Laws.{every-use}
+use borrow.Author.Tests.{eqb-true, eq-eqb, leb-true, le-leb}
+use Rattle.model.specs.Image.{Image, lengths, imageLength, mostCards, cardsOf, fits, split, join, sections, image, imageOf, parts, words}
+use Rattle.model.proofs.Laws.{every-use, every-cons, every-nil}
 
 total : List ℕ → ℕ
 total [] = 0
 total (n ∷ ns) = n + total ns
-
--- the sections have their lengths
-abbrev pub Fits : Image → Type 0
-Fits m = map length (sections m) ≡ lengths (m .width) (m .k)
 
 split-join : (ls : List (List ℕ)) → split (map length ls) (join ls) ≡ ls
 unfolding split join
@@ -28,6 +27,56 @@ join-split [] [] e = refl
 join-split [] (w ∷ ws) e = absurd (omega arith)
 join-split (n ∷ ns) ws e = rw (join-split ns (drop n ws) (rw (length-drop n ws) (omega arith))) (take-append-drop n ws)
 
-pub parts-words : (m : Image) → Fits m → cardsOf (m .width) (length (words m)) ≡ m .k → parts (m .width) (words m) ≡ m
+length-join : (ls : List (List ℕ)) → length (join ls) ≡ total (map length ls)
+unfolding join total
+length-join [] = refl
+length-join (l ∷ ls) = omega (arith, length-append l (join ls), length-join ls)
+
+-- ---- widths and lengths
+
+-- a store has words of 16 or 32 bits
+pub width-cases : (w k : ℕ) → 1 ≤ k → k ≤ mostCards w → (w ≡ 16) ⊎ (w ≡ 32)
+unfolding mostCards
+width-cases w k l h = go (eqb w 16) refl (eqb w 32) refl h
+  where
+    go : (a : Bool) → eqb w 16 ≡ a → (b : Bool) → eqb w 32 ≡ b → k ≤ cond a 512 (cond b 65536 0) → (w ≡ 16) ⊎ (w ≡ 32)
+    go true e b f q = inl (eqb-true w 16 e)
+    go false e true f q = inr (eqb-true w 32 f)
+    go false e false f q = absurd (omega arith)
+
+-- the number of cards comes back from the length
+pub cards-length : (w k : ℕ) → (w ≡ 16) ⊎ (w ≡ 32) → cardsOf w (imageLength w k) ≡ k
+unfolding cardsOf imageLength
+cards-length w k (inl e) = rw e (omega arith)
+cards-length w k (inr e) = rw e (omega arith)
+
+total-lengths : (w k : ℕ) → total (lengths w k) ≡ imageLength w k
+unfolding total lengths imageLength
+total-lengths w k = omega arith
+
+-- ---- the round trips
+
+-- the sections have their lengths, and the number of cards is one that there is at this width
+pub record Fits (m : Image) : Type 0 where
+  pub some-card : 1 ≤ m .k
+  pub few-cards : m .k ≤ mostCards (m .width)
+  pub section-lengths : map length (sections m) ≡ lengths (m .width) (m .k)
+
+pub length-words : (m : Image) → Fits m → length (words m) ≡ imageLength (m .width) (m .k)
+unfolding words
+length-words m f = length-join (sections m) ∙ (ap total (f .section-lengths) ∙ total-lengths (m .width) (m .k))
+
+pub words-fit : (m : Image) → Fits m → fits (m .width) (length (words m)) ≡ true
+unfolding fits
+words-fit m f =
+    let c : cardsOf (m .width) (length (words m)) ≡ m .k = ap (cardsOf (m .width)) (length-words m f) ∙ cards-length (m .width) (m .k) (width-cases _ _ (f .some-card) (f .few-cards)) in
+    every-cons _ _ (rw c (le-leb _ _ (f .some-card))) (every-cons _ _ (rw c (le-leb _ _ (f .few-cards))) (every-cons _ _ (rw c (eq-eqb _ _ (length-words m f))) every-nil))
+
+pub parts-words : (m : Image) → Fits m → parts (m .width) (words m) ≡ m
 unfolding parts imageOf words image sections
-parts-words m f e = rw (e, ← f) (ap (image (m .width) (m .k)) (split-join (sections m)))
+parts-words m f =
+    rw (length-words m f, cards-length (m .width) (m .k) (width-cases _ _ (f .some-card) (f .few-cards)), ← (f .section-lengths)) (ap (image (m .width) (m .k)) (split-join (sections m)))
+
+pub words-parts : (w : ℕ) (ws : List ℕ) → fits w (length ws) ≡ true → words (parts w ws) ≡ ws
+unfolding parts imageOf words image sections fits split lengths
+words-parts w ws e = join-split (lengths w (cardsOf w (length ws))) ws (eqb-true _ _ (every-use _ e 2) ∙ sym (total-lengths w (cardsOf w (length ws))))
