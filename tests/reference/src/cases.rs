@@ -3,8 +3,10 @@
 use crate::finish::finish;
 use crate::generate::{list, misfit, spoil, Pace};
 use crate::judge::cover;
+use crate::layout::{PLAYERS, TRACERS};
 use crate::made::{fresh_image, idle, loose, running, starved, uncovered_image, STARVED_CARDS};
 use crate::random::Random;
+use crate::record::{Record, RECORD_BYTES, SCAN};
 use crate::steps::batch;
 use crate::vectors::{BatchCase, Case, FinishCase, UNTOUCHED};
 
@@ -69,14 +71,29 @@ fn call(random: &mut Random) -> (&'static str, Vec<u16>, Vec<u8>, usize) {
         pace = Pace { wild: 0, finish: 0, ..pace };
     }
     // The list is drawn for the sound image, whatever happens to the image or the lengths then.
-    let steps = list(random, &mut image.clone(), count, pace);
-    let (steps, answers) = if what == "misfit" { misfit(random, &steps) } else { (steps, 2 * count) };
+    let mut sound = image.clone();
+    let mut steps = if what == "starved" { scans(random, &mut sound) } else { Vec::new() };
+    steps.extend(list(random, &mut sound, count, pace));
+    let words = steps.len() / RECORD_BYTES * 2;
+    let (steps, answers) = if what == "misfit" { misfit(random, &steps) } else { (steps, words) };
     match what {
         "spoiled" => spoil(random, &mut image),
         "length" => change_length(random, &mut image),
         _ => {}
     }
     (what, image, steps, answers)
+}
+
+/// Some scans, which reach many objects at once.
+fn scans(random: &mut Random, image: &mut [u16]) -> Vec<u8> {
+    let mut steps = Vec::new();
+    for _ in 0..random.from_to(1, 3) {
+        let player = random.below(PLAYERS) as u16;
+        steps.extend(Record::new(SCAN, random.below(TRACERS) as u8, player, 0, 0).to_bytes());
+    }
+    let mut answers = vec![0; steps.len() / RECORD_BYTES * 2];
+    assert_eq!(batch(image, &steps, &mut answers), 0);
+    steps
 }
 
 /// A fresh store after some steps.

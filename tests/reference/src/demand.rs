@@ -92,7 +92,11 @@ struct List {
 }
 
 fn ensure(holds: bool, what: impl Fn() -> String) -> Result<(), String> {
-    if holds { Ok(()) } else { Err(what()) }
+    if holds {
+        Ok(())
+    } else {
+        Err(what())
+    }
 }
 
 fn ensure_undamaged(image: &[u16], what: &str) -> Result<(), String> {
@@ -117,7 +121,7 @@ impl List {
         let mut left = image.clone();
         let mut answers = vec![UNTOUCHED; answer_words];
         let result = run(&mut left, steps, &mut answers);
-        let fits = steps.len() % RECORD_BYTES == 0 && answer_words == steps.len() / RECORD_BYTES * 2;
+        let fits = steps.len().is_multiple_of(RECORD_BYTES) && answer_words == steps.len() / RECORD_BYTES * 2;
         ensure(result == u16::from(!fits), || format!("the result is {result}"))?;
         if !fits {
             self.counts.refused_batches += 1;

@@ -42,10 +42,12 @@ pub fn cover(image: &[u16]) -> bool {
     first_damage(image).is_none()
 }
 
+type Holds = fn(Image) -> bool;
+
 /// The first line that does not hold. A line may read the image as the lines before it allow.
 pub fn first_damage(words: &[u16]) -> Option<Line> {
     let Some(image) = Image::of(words) else { return Some(Line::Length) };
-    let lines: [(Line, fn(Image) -> bool); 7] = [
+    let lines: [(Line, Holds); 7] = [
         (Line::Words, words_have_values),
         (Line::Filling, heap_is_filled),
         (Line::References, references_are_sound),

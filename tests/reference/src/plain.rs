@@ -98,7 +98,7 @@ impl Plain {
     fn act(&mut self, record: Record, place: usize) -> Value {
         let player = record.who();
         match record.kind {
-            NEW => return self.new(record, place),
+            NEW => return self.make(record, place),
             LOAD => return self.load(record),
             STORE => {
                 let target = self.registers[player][record.c()];
@@ -120,7 +120,7 @@ impl Plain {
         self.objects.get_mut(&name).expect("no object goes")
     }
 
-    fn new(&mut self, record: Record, place: usize) -> Value {
+    fn make(&mut self, record: Record, place: usize) -> Value {
         let levels = GRANULE_WORDS * record.b() - 2 - record.c();
         let object = PlainObject { links: vec![None; record.c()], levels: vec![0; levels] };
         let name = Name::Place(place);

@@ -18,7 +18,7 @@ pub fn fresh(image: &mut [u16]) -> u16 {
 
 /// Runs a batch. 1 and 2 refuse it whole and leave image and answers alone.
 pub fn batch(image: &mut [u16], steps: &[u8], answers: &mut [u16]) -> u16 {
-    let fits = steps.len() % RECORD_BYTES == 0 && answers.len() == steps.len() / RECORD_BYTES * 2;
+    let fits = steps.len().is_multiple_of(RECORD_BYTES) && answers.len() == steps.len() / RECORD_BYTES * 2;
     let judgement = judge(image);
     if judgement == 1 || !fits {
         return 1;
@@ -42,10 +42,12 @@ pub fn step(store: &mut Store, record: Record) -> (u16, u16) {
     }
 }
 
+type Applies = fn(Image, Record) -> bool;
+
 /// The lowest of the numbers 3 to 11 that applies, or 0.
 /// A later condition may rely on the earlier ones not applying.
 fn refusal(image: Image, record: Record) -> u16 {
-    let conditions: [(u16, fn(Image, Record) -> bool); 9] = [
+    let conditions: [(u16, Applies); 9] = [
         (3, |_, record| record.is_unknown()),
         (4, |_, record| record.is_off_the_desk()),
         (5, is_owing),

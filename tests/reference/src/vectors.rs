@@ -84,7 +84,7 @@ fn bytes(text: &str) -> Result<Vec<u8>, String> {
     if text == "-" {
         return Ok(Vec::new());
     }
-    if text.len() % 2 != 0 || !text.is_ascii() {
+    if !text.len().is_multiple_of(2) || !text.is_ascii() {
         return Err("half a byte".to_string());
     }
     let byte = |i: usize| u8::from_str_radix(&text[i..i + 2], 16).map_err(|e| e.to_string());

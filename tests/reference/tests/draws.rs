@@ -3,6 +3,8 @@
 use std::collections::BTreeSet;
 
 use reference::cases::case;
+use reference::image::Image;
+use reference::layout::card_of;
 use reference::random::Random;
 use reference::record::records;
 use reference::undamaged_but_cover;
@@ -57,6 +59,23 @@ fn batches_show_every_kind_and_number() {
     assert!((1..=14).all(|kind| shown.contains(&(kind, 0))), "{shown:?}");
     assert!((3..=11).all(|number| shown.iter().any(|&(_, n)| n == number)), "{shown:?}");
     assert!(shown.iter().any(|&(kind, _)| !(1..=14).contains(&kind)));
+}
+
+/// Newly marked, entered nowhere, on a card that became dirty: there was no packet for it.
+#[test]
+fn starved_cases_find_no_packet() {
+    let cases = draw(3, 4000);
+    let batches = batch_cases(&cases);
+    let starved = batches.iter().filter(|case| case.name.ends_with("starved"));
+    let without_packet = starved.filter(|case| {
+        let (image, left) = (Image::of(&case.image).unwrap(), Image::of(&case.left).unwrap());
+        let entered: Vec<usize> = left.entered().collect();
+        let newly_marked = |g: &usize| left.is_marked(*g) && !image.is_marked(*g);
+        let became_dirty = |c: usize| left.is_dirty(c) && !image.is_dirty(c);
+        left.starts().filter(newly_marked).any(|g| !entered.contains(&g) && became_dirty(card_of(g)))
+    });
+    let count = without_packet.count();
+    assert!(count >= 5, "{count}");
 }
 
 #[test]

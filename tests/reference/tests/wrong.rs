@@ -39,7 +39,7 @@ impl Done<'_> {
 
 /// A batch that runs one record after the other and lets `alter` change what each has done.
 fn altered_batch(image: &mut [u16], steps: &[u8], answers: &mut [u16], alter: &impl Fn(&mut Done)) -> u16 {
-    if steps.len() % 8 != 0 || answers.len() * 4 != steps.len() || judge(image) != 0 {
+    if !steps.len().is_multiple_of(8) || answers.len() * 4 != steps.len() || judge(image) != 0 {
         return batch(image, steps, answers);
     }
     for (bytes, answer) in steps.chunks(8).zip(answers.chunks_mut(2)) {
@@ -59,7 +59,11 @@ fn assert_caught(reasons: &[&str], alter: impl Fn(&mut Done)) {
     for seed in 0..40 {
         let mut random = Random::new(seed);
         let k = random.from_to(1, 3);
-        let make = random.weighted(&[(1, running as fn(&mut Random, usize) -> Vec<u16>), (1, idle), (1, |_, k| fresh_image(k))]);
+        let make = random.weighted(&[
+            (1, running as fn(&mut Random, usize) -> Vec<u16>),
+            (1, idle),
+            (1, |_, k| fresh_image(k)),
+        ]);
         let image = make(&mut random, k);
         let pace = Pace { wild: 10, finish: 6, tracers: 60 };
         let steps = list(&mut random, &mut image.clone(), 300, pace);
@@ -85,7 +89,8 @@ fn the_right_batch_passes() {
         let pace = Pace::draw(&mut random);
         let steps = list(&mut random, &mut image.clone(), 200, pace);
         let batches = batches(&mut random, &steps);
-        let right = |image: &mut [u16], steps: &[u8], answers: &mut [u16]| altered_batch(image, steps, answers, &|_| ());
+        let right =
+            |image: &mut [u16], steps: &[u8], answers: &mut [u16]| altered_batch(image, steps, answers, &|_| ());
         whole_list(&image, &batches, right).unwrap();
     }
 }
@@ -326,7 +331,7 @@ fn results() {
     };
     assert!(run(writes_when_refused).unwrap_err().contains("a refused batch wrote"));
     let forgets_all_but_the_first = |image: &mut [u16], steps: &[u8], answers: &mut [u16]| {
-        if steps.len() <= 8 || steps.len() % 8 != 0 {
+        if steps.len() <= 8 || !steps.len().is_multiple_of(8) {
             return batch(image, steps, answers);
         }
         batch(image, &steps[..8], &mut answers[..2])

@@ -2,8 +2,8 @@
 
 #![allow(dead_code)]
 
-use reference::made::fresh_image;
 use reference::batch;
+use reference::made::fresh_image;
 
 pub use reference::record::*;
 pub use reference::Record;
