@@ -1,1 +1,3 @@
 pub mod Cover
+pub mod Lists
+pub mod Walk
