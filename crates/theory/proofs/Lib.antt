@@ -1,3 +1,4 @@
 pub mod Cover
 pub mod Lists
 pub mod Walk
+pub mod Sweep
