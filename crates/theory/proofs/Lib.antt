@@ -3,3 +3,4 @@ pub mod Lists
 pub mod Walk
 pub mod Sweep
 pub mod FinishHeap
+pub mod Pieces
