@@ -1,1 +1,6 @@
 pub mod Cover
+pub mod Lists
+pub mod Walk
+pub mod Sweep
+pub mod FinishHeap
+pub mod Pieces
