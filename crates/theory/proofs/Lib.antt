@@ -5,3 +5,6 @@ pub mod Lines
 pub mod Distinct
 pub mod Tests
 pub mod Judged
+pub mod Lists
+pub mod Walk
+pub mod Sweep

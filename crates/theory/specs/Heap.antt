@@ -43,6 +43,13 @@ pub record HeapFilled (m : Image) : Type 0 where
   pub heap-filled : Filled (isStart m) 1 (drop 4 (m .heap)) (firstRun m) false
   pub start-range : (g : ℕ) → isStart m g ≡ true → (1 ≤ g) × (g < granules m)
 
+-- the object at a start
+pub record ObjectAt (m : Image) (g : ℕ) : Type 0 where
+  pub sized : 1 ≤ size m g
+  pub links-in : links m g + 2 ≤ 4 * size m g
+  pub in-heap : g + size m g ≤ granules m
+  pub none-inside : (h : ℕ) → g < h → h < g + size m g → isStart m h ≡ false
+
 -- objects do not overlap, and links lie inside
 pub record Laid (m : Image) : Type 0 where
   pub apart : (g h : ℕ) → isStart m g ≡ true → isStart m h ≡ true → g < h → g + size m g ≤ h
