@@ -8,3 +8,5 @@ pub mod Judged
 pub mod Lists
 pub mod Walk
 pub mod Sweep
+pub mod Covering
+pub mod Reaching
