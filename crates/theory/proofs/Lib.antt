@@ -10,3 +10,6 @@ pub mod Walk
 pub mod Sweep
 pub mod Covering
 pub mod Reaching
+pub mod Tracing
+pub mod Cleaning
+pub mod Beginning
