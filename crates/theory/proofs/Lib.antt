@@ -13,3 +13,5 @@ pub mod Reaching
 pub mod Tracing
 pub mod Cleaning
 pub mod Beginning
+pub mod FinishHeap
+pub mod Pieces
