@@ -1,6 +1,17 @@
 pub mod Cover
+pub mod Packets
+pub mod Sections
+pub mod Lines
+pub mod Distinct
+pub mod Tests
+pub mod Judged
 pub mod Lists
 pub mod Walk
 pub mod Sweep
+pub mod Covering
+pub mod Reaching
+pub mod Tracing
+pub mod Cleaning
+pub mod Beginning
 pub mod FinishHeap
 pub mod Pieces

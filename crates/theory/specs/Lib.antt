@@ -1,3 +1,4 @@
 pub mod Heap
 pub mod Cover
+pub mod Lines
 pub mod Pieces
