@@ -1,3 +1,4 @@
 pub mod Cover
 pub mod PlainLaws
 pub mod PlainWrites
+pub mod PlainNew

@@ -179,6 +179,20 @@ agrees-narrow sub s = record {
   same-level = λ g i c. s .same-level g i (sub g c);
 }
 
+pub agrees-either : {P Q : ℕ → Type 0} {name : ℕ → Object} {m : Image} {q : PlainStore} → Agrees P name m q → Agrees Q name m q → Agrees (λ a. P a ⊎ Q a) name m q
+agrees-either {P} {Q} {name} {m} {q} s t = record {
+  same-reg = s .same-reg;
+  same-owing = s .same-owing;
+  same-size = λ g c. one g (λ g. q .sizeOf (name g) ≡ size m g) (s .same-size g) (t .same-size g) c;
+  same-count = λ g c. one g (λ g. q .linkCount (name g) ≡ links m g) (s .same-count g) (t .same-count g) c;
+  same-link = λ g i c. one g (λ g. i < links m g → q .linkOf (name g) i ≡ name (link m g i)) (s .same-link g i) (t .same-link g i) c;
+  same-level = λ g i c. one g (λ g. i < levels m g → q .levelOf (name g) i ≡ level m g i) (s .same-level g i) (t .same-level g i) c;
+}
+  where
+    one : (g : ℕ) (F : ℕ → Type 0) → (P g → F g) → (Q g → F g) → P g ⊎ Q g → F g
+    one g F a b (inl x) = a x
+    one g F a b (inr x) = b x
+
 -- Where size and number of links of what a chain reaches in m stay, agreement on that is asked in the words of m.
 module _ (m m′ : Image) (head : (g i : ℕ) → Chain m g → i < 2 → word m′ g i ≡ word m g i) where
   pub size-stays : (g : ℕ) → Chain m g → size m′ g ≡ size m g
