@@ -15,3 +15,7 @@ pub mod Cleaning
 pub mod Beginning
 pub mod FinishHeap
 pub mod Pieces
+pub mod PlainLaws
+pub mod PlainWrites
+pub mod PlainNew
+pub mod PlainAlike

@@ -1,0 +1,185 @@
+-- An image and a plain store that agree give a player's step the same number, but for 9.
+use mathlib.Core.Path.{_≡_, refl, sym, ap, subst, _∙_}
+use mathlib.Core.Logic.{_⊎_, inl, inr}
+use mathlib.Core.Bool.{Bool, true, false, not, cond, _&&_, _||_}
+use mathlib.Core.List.{List, [], _∷_}
+use Prim.Native.Nat.{ℕ, zero, suc, _+_, _*_, _-_, _≤_, _<_}
+use native.Mathlib.Omega.{arith}
+use lib.Dec.{eqb, ltb, leb}
+use lib.ListN.{getD, set}
+use borrow.Author.Tests.{eqb-false, ltb-false, not-true}
+use Rattle.model.specs.Base.{first, some}
+use Rattle.model.specs.Image.{Image, size, links, levels, reg, owed}
+use Rattle.model.specs.Records.{Step, Kind, new, load, store, barrier, handOver, dropReg, read, write, begin, scan, trace, clean, finish, isDue, unknown}
+use Rattle.model.specs.Mutate.{roomFor}
+use Rattle.model.specs.Steps.{isNew, unnamed, offDesk, badSize, object, owes, owing, noObject, pastEnd, noRoom, wrongPhase, nothingToDo, refusal}
+use Rattle.model.specs.Plain.{Object, isNil, PlainStore, holding, plainOwing, plainNoObject, plainLevels, plainPastEnd, plainNothing, plainRefusal, feeds}
+use Rattle.model.specs.Claim.{Chain, chain-reg}
+use Rattle.model.proofs.Laws.{false≢, some-false, first-none}
+use Rattle.theory.specs.Same.{Names, Agrees, Same}
+use Rattle.theory.proofs.PlainLaws.{nil-name}
+
+-- ---- tables of lines
+
+-- a line taken off, where it is not the one that is given
+first-off : (n : ℕ) (l : List Bool) (i : ℕ) → (first n l ≡ n + i → ⊥) → first n l ≡ first n (set l i false)
+unfolding first
+first-off n [] i ne = refl
+first-off n (true ∷ l) zero ne = absurd (ne (omega arith))
+first-off n (true ∷ l) (suc i) ne = refl
+first-off n (false ∷ l) zero ne = refl
+first-off n (false ∷ l) (suc i) ne = first-off (suc n) l i (λ e. ne (omega arith))
+
+-- the tables agree on a line, and on the rest where it does not apply
+first-cons : (n : ℕ) (b b′ : Bool) (l l′ : List Bool) → b ≡ b′ → (b ≡ false → first (suc n) l ≡ first (suc n) l′) → first n (b ∷ l) ≡ first n (b′ ∷ l′)
+unfolding first
+first-cons n true b′ l l′ e h = ap (λ z. first n (z ∷ l′)) e
+first-cons n false b′ l l′ e h = h refl ∙ ap (λ z. first n (z ∷ l′)) e
+
+first-low : (n : ℕ) (l : List Bool) → (first n l ≡ 0) ⊎ (n ≤ first n l)
+unfolding first
+first-low n [] = inl refl
+first-low n (true ∷ l) = inr (omega arith)
+first-low n (false ∷ l) = more (first-low (suc n) l)
+  where
+    more : (first (suc n) l ≡ 0) ⊎ (suc n ≤ first (suc n) l) → (first (suc n) l ≡ 0) ⊎ (n ≤ first (suc n) l)
+    more (inl e) = inl e
+    more (inr h) = inr (omega arith)
+
+-- the line that is given passes
+first-passes : (n : ℕ) (l : List Bool) (i : ℕ) → first (suc n) l ≡ suc n + i → getD l i false ≡ true
+unfolding first
+first-passes n [] i e = absurd (omega arith)
+first-passes n (true ∷ l) zero e = refl
+first-passes n (true ∷ l) (suc i) e = absurd (omega arith)
+first-passes n (false ∷ l) zero e = absurd (past (first-low (suc (suc n)) l))
+  where
+    past : (first (suc (suc n)) l ≡ 0) ⊎ (suc (suc n) ≤ first (suc (suc n)) l) → ⊥
+    past (inl z) = omega arith
+    past (inr z) = omega arith
+first-passes n (false ∷ l) (suc i) e = first-passes (suc n) l i (omega arith)
+
+-- the lines of 10, 4, 5, 6, 7 and 11 on an image, and those of 5, 6, 7 and 11 on a plain store: they agree where 4 does not apply, that of 7
+-- where 6 does not apply either
+record SameLines (phase off w x y z w′ x′ y′ z′ : Bool) : Type 0 where
+  pub in-phase : phase ≡ false
+  pub owing-line : off ≡ false → w ≡ w′
+  pub object-line : off ≡ false → x ≡ x′
+  pub end-line : off ≡ false → x ≡ false → y ≡ y′
+  pub nothing-line : off ≡ false → z ≡ z′
+
+lines-number : (u b phase off w x y z w′ x′ y′ z′ : Bool) → SameLines phase off w x y z w′ x′ y′ z′
+    → first 3 (u ∷ off ∷ w ∷ x ∷ y ∷ b ∷ false ∷ phase ∷ z ∷ []) ≡ first 3 (u ∷ off ∷ w′ ∷ x′ ∷ y′ ∷ b ∷ false ∷ false ∷ z′ ∷ [])
+lines-number u b phase off w x y z w′ x′ y′ z′ l =
+    first-cons 3 u u _ _ refl (λ n.
+    first-cons 4 off off _ _ refl (λ d.
+    first-cons 5 w w′ _ _ (l .owing-line d) (λ n.
+    first-cons 6 x x′ _ _ (l .object-line d) (λ o.
+    first-cons 7 y y′ _ _ (l .end-line d o) (λ n.
+    first-cons 8 b b _ _ refl (λ n.
+    first-cons 9 false false _ _ refl (λ n.
+    first-cons 10 phase false _ _ (l .in-phase) (λ n.
+    first-cons 11 z z′ _ _ (l .nothing-line d) (λ n. refl)))))))))
+
+-- ---- accepted steps
+
+-- a player or register on the desk
+pub low : (x : ℕ) → ltb 15 x ≡ false → x < 16
+low x e = omega (arith, ltb-false 15 x e)
+
+-- no line applies
+pub record Admitted (m : Image) (s : Step) (n : Kind) : Type 0 where
+  pub on-desk : offDesk s n ≡ false
+  pub has-object : noObject m s n ≡ false
+  pub not-past : pastEnd m s n ≡ false
+  pub good-size : badSize s n ≡ false
+
+pub admitted : (m : Image) (s : Step) (n : Kind) → refusal m s n ≡ 0 → Admitted m s n
+unfolding refusal
+admitted m s n e = record { on-desk = first-none 2 _ e 1; has-object = first-none 2 _ e 3; not-past = first-none 2 _ e 4; good-size = first-none 2 _ e 5 }
+
+-- only a new is answered 9
+pub not-nine : (m : Image) (s : Step) (n : Kind) → isNew n ≡ false → refusal m s n ≡ 9 → ⊥
+unfolding refusal noRoom
+not-nine m s n e x = false≢ (sym (ap (λ z. z && eqb ((roomFor m (s .b)) .run) 0) e) ∙ first-passes 2 _ 6 x)
+
+-- ---- the lines of an image and of a plain store
+
+module _ (m : Image) (s : Step) (q : PlainStore) (name : ℕ → Object) (i : ℕ) (ns : Names name i) (S : Same name m q) where
+  -- a register of a player on the desk
+  pub in-register : (r : ℕ) → s .who < 16 → r < 16 → holding q s r ≡ name (object m s r)
+  unfolding holding object
+  in-register r hp hr = S .same-reg (s .who) r hp hr
+
+  pub held-chain : (r : ℕ) → s .who < 16 → r < 16 → (object m s r ≡ 0 → ⊥) → Chain m (object m s r)
+  unfolding object
+  held-chain r hp hr nz = chain-reg (s .who) r hp hr refl nz
+
+  owes-alike : (p : ℕ) → p < 16 → owes m s p ≡ q .owing p
+  unfolding owes
+  owes-alike p hp = sym (S .same-owing p hp)
+
+  links-alike : (r : ℕ) → s .who < 16 → r < 16 → (object m s r ≡ 0 → ⊥) → links m (object m s r) ≡ q .linkCount (holding q s r)
+  links-alike r hp hr nz = sym (ap (q .linkCount) (in-register r hp hr) ∙ S .same-count (object m s r) (held-chain r hp hr nz))
+
+  levels-alike : (r : ℕ) → s .who < 16 → r < 16 → (object m s r ≡ 0 → ⊥) → levels m (object m s r) ≡ plainLevels q s (holding q s r)
+  unfolding levels plainLevels
+  levels-alike r hp hr nz = let k : Chain m (object m s r) = held-chain r hp hr nz in rw (in-register r hp hr, S .same-count (object m s r) k, S .same-size (object m s r) k)
+
+  -- kinds without an object register, and kinds with one
+  bare-lines : (off w w′ : Bool) → (off ≡ false → w ≡ w′) → SameLines false off w false false false w′ false false false
+  bare-lines off w w′ h = record { in-phase = refl; owing-line = h; object-line = λ d. refl; end-line = λ d o. refl; nothing-line = λ d. refl }
+
+  object-lines : (off : Bool) (r j : ℕ) (count : ℕ → ℕ) (count′ : Object → ℕ) → (off ≡ false → (s .who < 16) × (r < 16))
+      → (s .who < 16 → r < 16 → (object m s r ≡ 0 → ⊥) → count (object m s r) ≡ count′ (holding q s r))
+      → SameLines false off (owes m s (s .who)) (eqb (object m s r) 0) (leb (count (object m s r)) j) false (q .owing (s .who)) (isNil (holding q s r)) (leb (count′ (holding q s r)) j) false
+  object-lines off r j count count′ desk same = record {
+    in-phase = refl;
+    owing-line = λ d. owes-alike (s .who) ((desk d) .0);
+    object-line = λ d. sym (ap isNil (in-register r ((desk d) .0) ((desk d) .1)) ∙ nil-name ns (object m s r));
+    end-line = λ d o. ap (λ x. leb x j) (same ((desk d) .0) ((desk d) .1) (eqb-false _ _ o));
+    nothing-line = λ d. refl;
+  }
+
+  barrier-lines : (off : Bool) → (off ≡ false → s .who < 16) → SameLines false off false false false (eqb (owed m (s .who)) 0) false false false (not (q .owing (s .who)))
+  unfolding owes
+  barrier-lines off h = record {
+    in-phase = refl;
+    owing-line = λ d. refl;
+    object-line = λ d. refl;
+    end-line = λ d o. refl;
+    nothing-line = λ d. twice (eqb (owed m (s .who)) 0) ∙ ap not (owes-alike (s .who) (h d));
+  }
+    where
+      twice : (a : Bool) → a ≡ not (not a)
+      twice true = refl
+      twice false = refl
+
+  abbrev LinesOf : Kind → Type 0
+  LinesOf n =
+      SameLines (wrongPhase m s n) (offDesk s n) (owing m s n) (noObject m s n) (pastEnd m s n) (nothingToDo m s n)
+      (plainOwing q s n) (plainNoObject q s n) (plainPastEnd q s n) (plainNothing q s n)
+
+  lines-of : (n : Kind) → feeds n 0 ≡ true → LinesOf n
+  unfolding wrongPhase offDesk owing noObject pastEnd nothingToDo plainOwing plainNoObject plainPastEnd plainNothing feeds
+  lines-of new e = bare-lines _ _ _ (λ d. owes-alike (s .who) (low (s .who) (some-false _ d 0)))
+  lines-of load e = object-lines _ (s .b) (s .c) (links m) (q .linkCount) (λ d. (low (s .who) (some-false _ d 0), low (s .b) (some-false _ d 2))) (links-alike (s .b))
+  lines-of store e = object-lines _ (s .a) (s .b) (links m) (q .linkCount) (λ d. (low (s .who) (some-false _ d 0), low (s .a) (some-false _ d 1))) (links-alike (s .a))
+  lines-of barrier e = barrier-lines _ (low (s .who))
+  lines-of handOver e =
+      bare-lines _ _ _
+      (λ d. ap (λ z. z || owes m s (s .b)) (owes-alike (s .who) (low (s .who) (some-false _ d 0))) ∙ ap (λ z. q .owing (s .who) || z) (owes-alike (s .b) (low (s .b) (some-false _ d 2))))
+  lines-of dropReg e = bare-lines _ _ _ (λ d. owes-alike (s .who) (low (s .who) (some-false _ d 0)))
+  lines-of read e = object-lines _ (s .a) (s .b) (levels m) (plainLevels q s) (λ d. (low (s .who) (some-false _ d 0), low (s .a) (some-false _ d 1))) (levels-alike (s .a))
+  lines-of write e = object-lines _ (s .a) (s .b) (levels m) (plainLevels q s) (λ d. (low (s .who) (some-false _ d 0), low (s .a) (some-false _ d 1))) (levels-alike (s .a))
+  lines-of begin e = false≢ e
+  lines-of scan e = false≢ e
+  lines-of trace e = false≢ e
+  lines-of clean e = false≢ e
+  lines-of finish e = false≢ e
+  lines-of isDue e = false≢ e
+  lines-of unknown e = false≢ e
+
+  pub same-number : (n : Kind) → feeds n 0 ≡ true → (refusal m s n ≡ 9 → ⊥) → refusal m s n ≡ plainRefusal q s n
+  unfolding refusal plainRefusal
+  same-number n e ne = first-off 3 _ 6 ne ∙ lines-number (unnamed s n) (badSize s n) _ _ _ _ _ _ _ _ _ _ (lines-of n e)
