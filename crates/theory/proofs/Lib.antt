@@ -1,3 +1,4 @@
 pub mod Cover
 pub mod Safe
 pub mod Live
+pub mod Quiet
