@@ -2,3 +2,4 @@ pub mod Cover
 pub mod Safe
 pub mod Live
 pub mod Quiet
+pub mod Carries

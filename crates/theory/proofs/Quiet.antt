@@ -17,7 +17,7 @@ use Rattle.model.proofs.Bits.{setBit-other}
 use Rattle.theory.specs.Cycle.{Quiet}
 
 -- the image with other cards, packets, tracers, players and general words
-abbrev silent : Image → (cs ps ts ls gs : List ℕ) → Image
+abbrev pub silent : Image → (cs ps ts ls gs : List ℕ) → Image
 silent m cs ps ts ls gs = record { width = m .width; k = m .k; heap = m .heap; starts = m .starts; marks = m .marks; cards = cs; regs = m .regs; packets = ps; tracers = ts; players = ls; general = gs }
 
 -- the next link of the object in hand, if it is an object, passes
