@@ -19,3 +19,7 @@ pub mod PlainLaws
 pub mod PlainWrites
 pub mod PlainNew
 pub mod PlainAlike
+pub mod Safe
+pub mod Live
+pub mod Quiet
+pub mod Carries
