@@ -1,0 +1,2 @@
+// The library: records decoded, steps dispatched, batches run.
+pub mod record; // record.rt: a step record from its bytes
