@@ -4,3 +4,4 @@ pub mod Walk
 pub mod Sweep
 pub mod FinishHeap
 pub mod Pieces
+pub mod Free
