@@ -5,3 +5,4 @@ pub mod Sweep
 pub mod FinishHeap
 pub mod Pieces
 pub mod Free
+pub mod Room
