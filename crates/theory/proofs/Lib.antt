@@ -6,3 +6,4 @@ pub mod FinishHeap
 pub mod Pieces
 pub mod Free
 pub mod Room
+pub mod Carve
