@@ -23,3 +23,6 @@ pub mod Safe
 pub mod Live
 pub mod Quiet
 pub mod Carries
+pub mod Free
+pub mod Room
+pub mod Carve
