@@ -15,3 +15,5 @@ pub mod Cleaning
 pub mod Beginning
 pub mod FinishHeap
 pub mod Pieces
+pub mod Facts
+pub mod Written
