@@ -17,3 +17,4 @@ pub mod FinishHeap
 pub mod Pieces
 pub mod Facts
 pub mod Written
+pub mod Mutating
