@@ -3,3 +3,4 @@ pub mod Safe
 pub mod Live
 pub mod Quiet
 pub mod Carries
+pub mod LiveSteps
