@@ -4,3 +4,4 @@ pub mod Live
 pub mod Quiet
 pub mod Carries
 pub mod LiveSteps
+pub mod Finishes

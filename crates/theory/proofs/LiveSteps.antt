@@ -16,7 +16,7 @@ use Rattle.model.specs.Steps.{Done, unnamed, offDesk, object, owing, noObject, 
 use Rattle.model.proofs.Laws.{first-none, some-false}
 use Rattle.model.proofs.Entries.{nth-take, nth-drop}
 use Rattle.model.proofs.Found.{place}
-use Rattle.theory.specs.Cycle.{Facts, Source, in-reg, in-link, is-marked, no-start, Carries, Quiet, Placed, Live}
+use Rattle.theory.specs.Cycle.{Facts, Source, in-reg, in-link, is-marked, no-start, Carries, Quiet, NewPlaced, NoFinish, Live}
 use Rattle.theory.proofs.Quiet.{Next, silent, quiet-refl, quiet-silent, quiet-begin, quiet-scan, quiet-trace, quiet-clean}
 use Rattle.theory.proofs.Carries.{quiet-carries, carries-silent, setReg-carries, setWord-carries, new-carries}
 use Rattle.theory.proofs.Live.{live-carried}
@@ -39,15 +39,35 @@ scan-source m p hp g k nz =
     let h : r .0 < 16 = omega (arith, r .1, length-take 16 (drop (16 * p) (m .regs))) in
     in-reg p (r .0) hp h (sym (nth-drop (16 * p) (m .regs) (r .0)) ∙ (sym (nth-take 16 (drop (16 * p) (m .regs)) (r .0) h) ∙ r .2)) nz
 
+-- ---- numbers
+
+pub act-number : (m : Image) (s : Step) (n : Kind) → (act m s n) .number ≡ 0
+unfolding act accept finishDone
+act-number m s new = refl
+act-number m s load = refl
+act-number m s store = refl
+act-number m s barrier = refl
+act-number m s handOver = refl
+act-number m s dropReg = refl
+act-number m s read = refl
+act-number m s write = refl
+act-number m s begin = refl
+act-number m s scan = refl
+act-number m s trace = refl
+act-number m s clean = refl
+act-number m s finish = refl
+act-number m s isDue = refl
+act-number m s unknown = refl
+
+-- line i of the numbers of an accepted step does not apply
+pub line : (m : Image) (s : Step) (n : Kind) → refusal m s n ≡ 0 → (i : ℕ)
+    → getD (unnamed s n ∷ offDesk s n ∷ owing m s n ∷ noObject m s n ∷ pastEnd m s n ∷ badSize s n ∷ noRoom m s n ∷ wrongPhase m s n ∷ nothingToDo m s n ∷ []) i false ≡ false
+unfolding refusal
+line m s n e i = first-none 2 _ e i
+
 -- ---- the kinds
 
 module _ (m : Image) (s : Step) (f : Facts m) where
-  -- line i of the numbers of an accepted step does not apply
-  line : (n : Kind) → refusal m s n ≡ 0 → (i : ℕ)
-      → getD (unnamed s n ∷ offDesk s n ∷ owing m s n ∷ noObject m s n ∷ pastEnd m s n ∷ badSize s n ∷ noRoom m s n ∷ wrongPhase m s n ∷ nothingToDo m s n ∷ []) i false ≡ false
-  unfolding refusal
-  line n e i = first-none 2 _ e i
-
   -- what a register on the desk holds
   held : (r : ℕ) → ltb 15 (s .who) ≡ false → ltb 15 r ≡ false → (object m s r ≡ 0 → ⊥) → Source m (object m s r)
   unfolding object
@@ -61,35 +81,35 @@ module _ (m : Image) (s : Step) (f : Facts m) where
   load-carries : refusal m s load ≡ 0 → Carries m ((act m s load) .image)
   unfolding act accept offDesk noObject pastEnd
   load-carries e =
-      let d = some-false _ (line load e 1) in
-      let nz : object m s (s .b) ≡ 0 → ⊥ = eqb-false _ _ (line load e 3) in
-      setReg-carries m (s .who) (s .a) _ (λ z. in-link (object m s (s .b)) (s .c) (held (s .b) (d 0) (d 2) nz) (held-start (s .b) (d 0) (d 2) nz) (leb-false _ _ (line load e 4)) refl z)
+      let d = some-false _ (line m s load e 1) in
+      let nz : object m s (s .b) ≡ 0 → ⊥ = eqb-false _ _ (line m s load e 3) in
+      setReg-carries m (s .who) (s .a) _ (λ z. in-link (object m s (s .b)) (s .c) (held (s .b) (d 0) (d 2) nz) (held-start (s .b) (d 0) (d 2) nz) (leb-false _ _ (line m s load e 4)) refl z)
 
   store-carries : refusal m s store ≡ 0 → Carries m ((act m s store) .image)
   unfolding act accept offDesk noObject pastEnd setOwed withPlayers
   store-carries e =
-      let d = some-false _ (line store e 1) in
+      let d = some-false _ (line m s store e 1) in
       let g : ℕ = object m s (s .a) in
-      let nz : g ≡ 0 → ⊥ = eqb-false _ _ (line store e 3) in
+      let nz : g ≡ 0 → ⊥ = eqb-false _ _ (line m s store e 3) in
       let st = held-start (s .a) (d 0) (d 1) nz in
-      let l : s .b < links m g = leb-false _ _ (line store e 4) in
+      let l : s .b < links m g = leb-false _ _ (line m s store e 4) in
       carries-silent m (setWord m g (2 + s .b) (object m s (s .c))) _ _ _ _ _
       (setWord-carries m (f .laid) g (s .b) (object m s (s .c)) st (omega (arith, l, (f .laid .inside g st) .0)) (λ k. held (s .c) (d 0) (d 2)))
 
   write-carries : refusal m s write ≡ 0 → Carries m ((act m s write) .image)
   unfolding act accept offDesk noObject pastEnd levels
   write-carries e =
-      let d = some-false _ (line write e 1) in
+      let d = some-false _ (line m s write e 1) in
       let g : ℕ = object m s (s .a) in
-      let nz : g ≡ 0 → ⊥ = eqb-false _ _ (line write e 3) in
-      let l : s .b < 4 * size m g - 2 - links m g = leb-false _ _ (line write e 4) in
+      let nz : g ≡ 0 → ⊥ = eqb-false _ _ (line m s write e 3) in
+      let l : s .b < 4 * size m g - 2 - links m g = leb-false _ _ (line m s write e 4) in
       let a : 2 + links m g + s .b ≡ 2 + (links m g + s .b) = omega arith in
       subst (λ i. Carries m (setWord m g i (s .c))) (sym a)
       (setWord-carries m (f .laid) g (links m g + s .b) (s .c) (held-start (s .a) (d 0) (d 1) nz) (omega arith) (λ k. absurd (omega arith)))
 
   hand-carries : refusal m s handOver ≡ 0 → Carries m ((act m s handOver) .image)
   unfolding act accept offDesk
-  hand-carries e = let d = some-false _ (line handOver e 1) in setReg-carries m (s .b) (s .c) _ (held (s .a) (d 0) (d 1))
+  hand-carries e = let d = some-false _ (line m s handOver e 1) in setReg-carries m (s .b) (s .c) _ (held (s .a) (d 0) (d 1))
 
   drop-carries : Carries m ((act m s dropReg) .image)
   unfolding act accept
@@ -101,21 +121,17 @@ module _ (m : Image) (s : Step) (f : Facts m) where
 
   scan-carries : refusal m s scan ≡ 0 → Carries m ((act m s scan) .image)
   unfolding act accept offDesk
-  scan-carries e = let d = some-false _ (line scan e 1) in quiet-carries m _ (quiet-scan m (s .who) (s .a) (scan-source m (s .a) (on-desk 15 (s .a) (d 1))))
+  scan-carries e = let d = some-false _ (line m s scan e 1) in quiet-carries m _ (quiet-scan m (s .who) (s .a) (scan-source m (s .a) (on-desk 15 (s .a) (d 1))))
 
   trace-carries : refusal m s trace ≡ 0 → Carries m ((act m s trace) .image)
   unfolding act accept offDesk
-  trace-carries e = quiet-carries m _ (quiet-trace m (s .who) (next-source m f (s .who) (on-desk 7 (s .who) (line trace e 1))))
+  trace-carries e = quiet-carries m _ (quiet-trace m (s .who) (next-source m f (s .who) (on-desk 7 (s .who) (line m s trace e 1))))
 
   clean-carries : refusal m s clean ≡ 0 → Carries m ((act m s clean) .image)
   unfolding act accept offDesk
-  clean-carries e = quiet-carries m _ (quiet-clean m (s .who) (next-source m f (s .who) (on-desk 7 (s .who) (line clean e 1))))
+  clean-carries e = quiet-carries m _ (quiet-clean m (s .who) (next-source m f (s .who) (on-desk 7 (s .who) (line m s clean e 1))))
 
-  -- what an accepted new leaves, of which the heap's part is given
-  abbrev pub NewPlaced : Type 0
-  NewPlaced = refusal m s new ≡ 0 → Placed m (newObject m (s .who) (s .a) (s .b) (s .c)) ((roomFor m (s .b)) .run)
-
-  act-carries : NewPlaced → (n : Kind) → refusal m s n ≡ 0 → (n ≡ finish → ⊥) → Carries m ((act m s n) .image)
+  act-carries : NewPlaced m s → (n : Kind) → refusal m s n ≡ 0 → (n ≡ finish → ⊥) → Carries m ((act m s n) .image)
   unfolding act accept
   act-carries np new e nf = new-carries m (s .who) (s .a) (s .b) (s .c) (np e)
   act-carries np load e nf = load-carries e
@@ -135,25 +151,18 @@ module _ (m : Image) (s : Step) (f : Facts m) where
 
   -- ---- every step but an accepted finish
 
-  abbrev pub NoFinish : Type 0
-  NoFinish = kindOf (s .kind) ≡ finish → (step m s) .number ≡ 0 → ⊥
-
-  finish-number : {n : Kind} → n ≡ finish → (act m s n) .number ≡ 0
-  unfolding act finishDone accept
-  finish-number k = subst (λ n. (act m s n) .number ≡ 0) (sym k) refl
-
-  pub step-carries : NewPlaced → NoFinish → Carries m ((step m s) .image)
+  pub step-carries : NewPlaced m s → NoFinish m s → Carries m ((step m s) .image)
   unfolding step
   step-carries np nf = go (refusal m s (kindOf (s .kind))) refl nf
     where
       go : (r : ℕ) → refusal m s (kindOf (s .kind)) ≡ r → (kindOf (s .kind) ≡ finish → (outcome m s (kindOf (s .kind)) r) .number ≡ 0 → ⊥) → Carries m ((outcome m s (kindOf (s .kind)) r) .image)
-      go zero e nf′ = unfold outcome in act-carries np (kindOf (s .kind)) e (λ k. nf′ k (finish-number k))
+      go zero e nf′ = unfold outcome in act-carries np (kindOf (s .kind)) e (λ k. nf′ k (act-number m s (kindOf (s .kind))))
       go (suc r) e nf′ = unfold outcome in carries-refl m
 
   -- start bits stay
-  pub step-stays : NewPlaced → NoFinish → (g : ℕ) → isStart m g ≡ true → isStart ((step m s) .image) g ≡ true
+  pub step-stays : NewPlaced m s → NoFinish m s → (g : ℕ) → isStart m g ≡ true → isStart ((step m s) .image) g ≡ true
   step-stays np nf = (step-carries np nf) .starts-stay
 
   -- what is live stays so
-  pub step-live : NewPlaced → NoFinish → (S : ℕ → Type 0) → Live S m → Live S ((step m s) .image)
+  pub step-live : NewPlaced m s → NoFinish m s → (S : ℕ → Type 0) → Live S m → Live S ((step m s) .image)
   step-live np nf S = live-carried S m _ (step-carries np nf)
