@@ -3,4 +3,6 @@ pub mod Bits
 pub mod Closure
 pub mod Words
 pub mod Entries
+pub mod Sited
+pub mod Found
 pub mod Cases

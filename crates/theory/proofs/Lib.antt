@@ -18,3 +18,9 @@ pub mod Pieces
 pub mod Facts
 pub mod Written
 pub mod Mutating
+pub mod Safe
+pub mod Live
+pub mod Quiet
+pub mod Carries
+pub mod LiveSteps
+pub mod Finishes

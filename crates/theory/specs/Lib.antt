@@ -2,3 +2,4 @@ pub mod Heap
 pub mod Cover
 pub mod Lines
 pub mod Pieces
+pub mod Cycle
