@@ -19,6 +19,9 @@ pub mod PlainLaws
 pub mod PlainWrites
 pub mod PlainNew
 pub mod PlainAlike
+pub mod Facts
+pub mod Written
+pub mod Mutating
 pub mod Safe
 pub mod Live
 pub mod Quiet
@@ -26,3 +29,5 @@ pub mod Carries
 pub mod Free
 pub mod Room
 pub mod Carve
+pub mod LiveSteps
+pub mod Finishes
