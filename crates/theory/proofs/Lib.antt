@@ -3,3 +3,5 @@ pub mod PlainLaws
 pub mod PlainWrites
 pub mod PlainNew
 pub mod PlainAlike
+pub mod PlainAccepted
+pub mod PlainQuiet

@@ -16,7 +16,7 @@ use Rattle.model.specs.Steps.{isNew, unnamed, offDesk, badSize, object, owes, o
 use Rattle.model.specs.Plain.{Object, isNil, PlainStore, holding, plainOwing, plainNoObject, plainLevels, plainPastEnd, plainNothing, plainRefusal, feeds}
 use Rattle.model.specs.Claim.{Chain, chain-reg}
 use Rattle.model.proofs.Laws.{false≢, some-false, first-none}
-use Rattle.theory.specs.Same.{Names, Agrees, Same}
+use Rattle.theory.specs.Same.{Names, Agrees, Same, SameLines, Admitted}
 use Rattle.theory.proofs.PlainLaws.{nil-name}
 
 -- ---- tables of lines
@@ -59,15 +59,6 @@ first-passes n (false ∷ l) zero e = absurd (past (first-low (suc (suc n)) l))
     past (inr z) = omega arith
 first-passes n (false ∷ l) (suc i) e = first-passes (suc n) l i (omega arith)
 
--- the lines of 10, 4, 5, 6, 7 and 11 on an image, and those of 5, 6, 7 and 11 on a plain store: they agree where 4 does not apply, that of 7
--- where 6 does not apply either
-record SameLines (phase off w x y z w′ x′ y′ z′ : Bool) : Type 0 where
-  pub in-phase : phase ≡ false
-  pub owing-line : off ≡ false → w ≡ w′
-  pub object-line : off ≡ false → x ≡ x′
-  pub end-line : off ≡ false → x ≡ false → y ≡ y′
-  pub nothing-line : off ≡ false → z ≡ z′
-
 lines-number : (u b phase off w x y z w′ x′ y′ z′ : Bool) → SameLines phase off w x y z w′ x′ y′ z′
     → first 3 (u ∷ off ∷ w ∷ x ∷ y ∷ b ∷ false ∷ phase ∷ z ∷ []) ≡ first 3 (u ∷ off ∷ w′ ∷ x′ ∷ y′ ∷ b ∷ false ∷ false ∷ z′ ∷ [])
 lines-number u b phase off w x y z w′ x′ y′ z′ l =
@@ -86,13 +77,6 @@ lines-number u b phase off w x y z w′ x′ y′ z′ l =
 -- a player or register on the desk
 pub low : (x : ℕ) → ltb 15 x ≡ false → x < 16
 low x e = omega (arith, ltb-false 15 x e)
-
--- no line applies
-pub record Admitted (m : Image) (s : Step) (n : Kind) : Type 0 where
-  pub on-desk : offDesk s n ≡ false
-  pub has-object : noObject m s n ≡ false
-  pub not-past : pastEnd m s n ≡ false
-  pub good-size : badSize s n ≡ false
 
 pub admitted : (m : Image) (s : Step) (n : Kind) → refusal m s n ≡ 0 → Admitted m s n
 unfolding refusal
