@@ -5,3 +5,4 @@ pub mod PlainNew
 pub mod PlainAlike
 pub mod PlainAccepted
 pub mod PlainQuiet
+pub mod PlainList

@@ -1,20 +1,18 @@
 -- A player's step on an image and on a plain store that agree: they answer alike and agree again.
 use mathlib.Core.Path.{_≡_, refl, sym, ap, subst, _∙_}
-use mathlib.Core.Bool.{Bool, true, false, not, cond, _&&_, _||_}
-use mathlib.Core.List.{List, [], _∷_}
+use mathlib.Core.Bool.{true, false, not}
 use Prim.Native.Nat.{ℕ, zero, suc, _+_, _*_, _-_, _/_, _≤_, _<_}
 use native.Mathlib.Omega.{arith}
-use lib.Dec.{eqb, ltb, leb}
+use lib.Dec.{eqb}
 use lib.ListN.{length}
 use borrow.Author.Tests.{eqb-false, ne-eqb, ltb-false, leb-false}
-use Rattle.model.specs.Base.{some}
-use Rattle.model.specs.Image.{Image, word, size, links, link, levels, level, reg, owed, withHeap, withCards, setWord, setReg, setState, setOwed, dirtyCard}
+use Rattle.model.specs.Image.{Image, word, links, link, reg, owed, withHeap, withCards, setWord, setState, dirtyCard}
 use Rattle.model.specs.Records.{Step, Kind, new, load, store, barrier, handOver, dropReg, read, write, begin, scan, trace, clean, finish, isDue, unknown, kindOf}
-use Rattle.model.specs.Steps.{Done, Event, isNew, offDesk, badSize, object, noObject, pastEnd, refusal, accept, act, outcome}
-use Rattle.model.specs.Plain.{Object, old, made, PlainStore, upd, putReg, putLink, putLevel, putOwing, putObject, Value, as-object, as-is, Reply, PlainDone, byPlayerKind, holding, plainRefusal, plainAccept, plainAct, plainOutcome, feeds, named, reading}
+use Rattle.model.specs.Steps.{isNew, offDesk, badSize, object, noObject, pastEnd, refusal, accept, act, outcome}
+use Rattle.model.specs.Plain.{Object, made, PlainStore, putLink, Value, as-is, PlainDone, byPlayerKind, holding, plainRefusal, plainAccept, plainAct, plainOutcome, feeds, named, reading}
 use Rattle.model.specs.Claim.{Chain, chain-link}
 use Rattle.model.proofs.Laws.{false≢, some-false}
-use Rattle.theory.specs.Same.{Names, Agrees, Same, Related, Facts, KeptWords, ObjectMade, NewMade, event, Admitted}
+use Rattle.theory.specs.Same.{Names, Same, Related, Facts, KeptWords, ObjectMade, NewMade, event, Admitted}
 use Rattle.theory.proofs.PlainLaws.{upd-same, names-more, names-new, same-kept}
 use Rattle.theory.proofs.PlainWrites.{same-setReg, same-stored, same-written, same-setOwed}
 use Rattle.theory.proofs.PlainNew.{same-new}
@@ -24,7 +22,7 @@ abbrev replied : PlainStore → ℕ → Value → PlainDone
 replied q r v = record { plain = q; reply = record { number = r; value = v } }
 
 -- one value for all kinds
-by-one : {A : Type 0} (z : A) (n : Kind) → byPlayerKind z z z z z z z z z n ≡ z
+pub by-one : {A : Type 0} (z : A) (n : Kind) → byPlayerKind z z z z z z z z z n ≡ z
 by-one z new = refl
 by-one z load = refl
 by-one z store = refl

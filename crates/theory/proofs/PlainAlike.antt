@@ -1,22 +1,22 @@
 -- An image and a plain store that agree give a player's step the same number, but for 9.
-use mathlib.Core.Path.{_≡_, refl, sym, ap, subst, _∙_}
+use mathlib.Core.Path.{_≡_, refl, sym, ap, _∙_}
 use mathlib.Core.Logic.{_⊎_, inl, inr}
-use mathlib.Core.Bool.{Bool, true, false, not, cond, _&&_, _||_}
+use mathlib.Core.Bool.{Bool, true, false, not, _&&_, _||_}
 use mathlib.Core.List.{List, [], _∷_}
-use Prim.Native.Nat.{ℕ, zero, suc, _+_, _*_, _-_, _≤_, _<_}
+use Prim.Native.Nat.{ℕ, zero, suc, _+_, _≤_, _<_}
 use native.Mathlib.Omega.{arith}
 use lib.Dec.{eqb, ltb, leb}
 use lib.ListN.{getD, set}
-use borrow.Author.Tests.{eqb-false, ltb-false, not-true}
-use Rattle.model.specs.Base.{first, some}
-use Rattle.model.specs.Image.{Image, size, links, levels, reg, owed}
+use borrow.Author.Tests.{eqb-false, ltb-false}
+use Rattle.model.specs.Base.{first}
+use Rattle.model.specs.Image.{Image, links, levels, owed}
 use Rattle.model.specs.Records.{Step, Kind, new, load, store, barrier, handOver, dropReg, read, write, begin, scan, trace, clean, finish, isDue, unknown}
 use Rattle.model.specs.Mutate.{roomFor}
 use Rattle.model.specs.Steps.{isNew, unnamed, offDesk, badSize, object, owes, owing, noObject, pastEnd, noRoom, wrongPhase, nothingToDo, refusal}
 use Rattle.model.specs.Plain.{Object, isNil, PlainStore, holding, plainOwing, plainNoObject, plainLevels, plainPastEnd, plainNothing, plainRefusal, feeds}
 use Rattle.model.specs.Claim.{Chain, chain-reg}
 use Rattle.model.proofs.Laws.{false≢, some-false, first-none}
-use Rattle.theory.specs.Same.{Names, Agrees, Same, SameLines, Admitted}
+use Rattle.theory.specs.Same.{Names, Same, SameLines, Admitted}
 use Rattle.theory.proofs.PlainLaws.{nil-name}
 
 -- ---- tables of lines

@@ -1,8 +1,8 @@
 -- Functions with one value replaced, names of granules, chains, and when an image and a plain store agree.
 use mathlib.Core.Path.{_≡_, refl, sym, ap, subst, _∙_}
 use mathlib.Core.Logic.{_⊎_, inl, inr}
-use mathlib.Core.Bool.{Bool, true, false, not, cond}
-use Prim.Native.Nat.{ℕ, zero, suc, _+_, _*_, _-_, _≤_, _<_}
+use mathlib.Core.Bool.{true, false, not}
+use Prim.Native.Nat.{ℕ, suc, _+_, _*_, _≤_, _<_}
 use native.Mathlib.Decide.{ℕ-discrete}
 use native.Mathlib.Omega.{arith}
 use lib.Dec.{eqb}
@@ -10,8 +10,8 @@ use borrow.Author.Tests.{eq-eqb, ne-eqb}
 use Rattle.model.specs.Image.{Image, word, isStart, size, links, link, levels, level, reg, owed}
 use Rattle.model.specs.Plain.{Object, old, made, sameObject, isNil, PlainStore, upd, updObject, ofImage, plainOf}
 use Rattle.model.specs.Claim.{Chain, chain-reg, chain-link}
-use Rattle.theory.specs.Heap.{Laid, Proper}
-use Rattle.theory.specs.Same.{Names, Agrees, Same, Facts, WordsStay, KeptWords}
+use Rattle.theory.specs.Heap.{Proper}
+use Rattle.theory.specs.Same.{Names, Agrees, Same, Facts, KeptWords}
 
 -- ---- one value of a function replaced
 

@@ -1,8 +1,8 @@
 -- An image and a plain store agree again after a new: its object has a new name, all else in reach has the name that it had.
 use mathlib.Core.Path.{_≡_, refl, sym, ap, subst, _∙_}
 use mathlib.Core.Logic.{_⊎_, inl, inr}
-use mathlib.Core.Bool.{Bool, true, false, not}
-use Prim.Native.Nat.{ℕ, zero, suc, _+_, _*_, _-_, _≤_, _<_}
+use mathlib.Core.Bool.{not}
+use Prim.Native.Nat.{ℕ, _+_, _*_, _≤_, _<_}
 use native.Mathlib.Omega.{arith}
 use lib.Dec.{eqb}
 use Rattle.model.specs.Image.{Image, word, size, links, link, levels, level, reg, owed, setReg}
@@ -10,7 +10,7 @@ use Rattle.model.specs.Plain.{Object, old, made, PlainStore, upd, updObject, pu
 use Rattle.model.specs.Claim.{Chain, chain-reg, chain-link}
 use Rattle.model.proofs.Laws.{false≢}
 use Rattle.theory.specs.Same.{Names, Agrees, Same, Facts, ObjectMade}
-use Rattle.theory.proofs.PlainLaws.{upd-same, upd-other, updObject-same, updObject-other, name-fresh, chain-least, moved, chain-start, in-object, level-inside, agrees-narrow, agrees-either, size-stays, count-stays, agrees-renew}
+use Rattle.theory.proofs.PlainLaws.{upd-same, upd-other, updObject-same, updObject-other, name-fresh, chain-least, moved, chain-start, in-object, level-inside, agrees-narrow, agrees-either, count-stays, agrees-renew}
 use Rattle.theory.proofs.PlainWrites.{held-after, regs-agree}
 
 module _ (m m′ : Image) (f : Facts m) (p r b c g : ℕ) (hp : p < 16) (hr : r < 16) (hc : c + 2 ≤ 4 * b) (o : ObjectMade m m′ p r b c g) where

@@ -1,15 +1,15 @@
 -- The collector's steps but finish leave heap, starts, registers and owed cards as they are; finish leaves registers and owed cards.
-use mathlib.Core.Path.{_≡_, refl, sym, ap, subst, _∙_}
-use mathlib.Core.Bool.{Bool, true, false, not, cond}
+use mathlib.Core.Path.{_≡_, refl, ap, _∙_}
+use mathlib.Core.Bool.{Bool, true, false, cond}
 use mathlib.Core.List.{List, [], _∷_}
-use Prim.Native.Nat.{ℕ, zero, suc, _+_, _*_, _-_, _/_, _<_}
+use Prim.Native.Nat.{ℕ, zero, suc, _+_, _*_, _-_, _/_}
 use native.Mathlib.Omega.{arith}
 use lib.Dec.{eqb, ltb}
-use lib.ListN.{getD, take, drop}
-use Rattle.model.specs.Base.{nth, put, some}
-use Rattle.model.specs.Image.{Image, word, marked, links, link, dirty, reg, owed, count, entry, input, output, hand, nextLink, handCard, nextGranule, withMarks, withCards, withPackets, withTracers, withPlayers, withGeneral, setMark, setState, dirtyCard, setTracer, setScanned}
-use Rattle.model.specs.Records.{Step, Kind, begin, scan, trace, clean, finish, isDue, unknown}
-use Rattle.model.specs.Collect.{fullest, append, pop, takeOutput, enter, reach, reachAll, scanPlayer, beginCycle, putHand, takeObject, traceHand, traceInput, tracePool, traceOutput, traceLine, traceStep, putCard, nextMarked, cleanTo, cleanCard, lowestDirty, takeCard, cleanLine, cleanStep}
+use lib.ListN.{getD}
+use Rattle.model.specs.Base.{nth, some}
+use Rattle.model.specs.Image.{Image, word, marked, links, link, dirty, reg, owed, count, entry, input, output, hand, nextLink, withMarks, withCards, withPackets, withTracers, withPlayers, withGeneral, setMark, setState, dirtyCard, setTracer, setScanned}
+use Rattle.model.specs.Records.{Step, finish}
+use Rattle.model.specs.Collect.{append, pop, takeOutput, enter, reach, reachAll, scanPlayer, beginCycle, putHand, takeObject, traceHand, traceInput, tracePool, traceOutput, traceLine, traceStep, putCard, cleanTo, cleanCard, lowestDirty, takeCard, cleanLine, cleanStep}
 use Rattle.model.specs.Finish.{scannedOff, finishWith, finishStep}
 use Rattle.model.specs.Steps.{accept, finishDone, act}
 use Rattle.model.proofs.Laws.{nth-put-other}

@@ -1,20 +1,18 @@
 -- An image and a plain store agree again after the same write to both: a register, a link, a level word, what a player owes.
 use mathlib.Core.Path.{_≡_, refl, sym, ap, subst, _∙_}
 use mathlib.Core.Logic.{_⊎_, inl, inr}
-use mathlib.Core.Bool.{Bool, true, false, not}
-use mathlib.Core.List.{List}
-use Prim.Native.Nat.{ℕ, zero, suc, _+_, _*_, _-_, _≤_, _<_}
+use mathlib.Core.Bool.{true, not}
+use Prim.Native.Nat.{ℕ, _+_, _*_, _≤_, _<_}
 use native.Mathlib.Decide.{ℕ-discrete, decLt}
 use native.Mathlib.Omega.{arith}
 use lib.Dec.{eqb}
 use lib.ListN.{length}
 use Rattle.model.specs.Base.{nth, put}
-use Rattle.model.specs.Image.{Image, granules, word, isStart, size, links, link, levels, level, reg, owed, withHeap, withRegs, withPlayers, setWord, setReg, setOwed}
-use Rattle.model.specs.Plain.{Object, PlainStore, upd, updObject, putReg, putLink, putLevel, putOwing}
+use Rattle.model.specs.Image.{Image, word, isStart, size, links, link, levels, level, reg, owed, withHeap, withRegs, withPlayers, setWord, setReg, setOwed}
+use Rattle.model.specs.Plain.{Object, PlainStore, upd, putReg, putLink, putLevel, putOwing}
 use Rattle.model.specs.Claim.{Chain, chain-reg, chain-link}
 use Rattle.model.proofs.Laws.{nth-put-same, nth-put-other}
-use Rattle.theory.specs.Heap.{Laid}
-use Rattle.theory.specs.Same.{Agrees, Same, Facts}
+use Rattle.theory.specs.Same.{Same, Facts}
 use Rattle.theory.proofs.PlainLaws.{both, upd-same, upd-other, upd-at, updObject-at, chain-least, moved, chain-start, in-object, level-inside, agrees-narrow, count-stays, agrees-renew}
 
 -- ---- a register: load, hand, drop

@@ -1,13 +1,13 @@
 -- An image and a plain store agree; what a step leaves of that; what an undamaged image gives for it.
 use mathlib.Core.Path.{_≡_}
-use mathlib.Core.Bool.{Bool, true, false, not}
-use mathlib.Core.List.{List}
+use mathlib.Core.Bool.{Bool, false, not}
+use mathlib.Core.List.{List, [], _++_}
 use Prim.Native.Nat.{ℕ, suc, _+_, _*_, _≤_, _<_}
 use lib.Dec.{eqb}
 use lib.ListN.{length}
 use Rattle.model.specs.Image.{Image, word, isStart, size, links, link, levels, level, reg, owed, setReg}
 use Rattle.model.specs.Records.{Step, Kind, new}
-use Rattle.model.specs.Steps.{Done, Event, offDesk, badSize, noObject, pastEnd, refusal, act}
+use Rattle.model.specs.Steps.{Done, Event, offDesk, badSize, noObject, pastEnd, refusal, act, run, after}
 use Rattle.model.specs.Plain.{Object, old, made, PlainStore, PlainDone, named, reading}
 use Rattle.model.specs.Claim.{Chain}
 use Rattle.theory.specs.Heap.{HeapFilled, Laid, Proper}
@@ -105,3 +105,10 @@ pub record Quiet (m m′ : Image) : Type 0 where
   pub quiet-starts : m′ .starts ≡ m .starts
   pub quiet-regs : m′ .regs ≡ m .regs
   pub quiet-owed : (p : ℕ) → owed m′ p ≡ owed m p
+
+-- ---- lists of steps
+
+-- the events of lists of steps that are run one after the other, each on the image that the last left
+pub data Runs : Image → List Event → Type 0 where
+  runs-none : {m : Image} → Runs m []
+  runs-more : {m : Image} {es : List Event} (ss : List Step) → Runs (after m (run m ss)) es → Runs m (run m ss ++ es)
