@@ -6,3 +6,4 @@ pub mod PlainAlike
 pub mod PlainAccepted
 pub mod PlainQuiet
 pub mod PlainList
+pub mod PlainHistory

@@ -12,7 +12,7 @@ use Rattle.model.specs.Steps.{isNew, offDesk, badSize, object, noObject, pastEn
 use Rattle.model.specs.Plain.{Object, made, PlainStore, putLink, Value, as-is, PlainDone, byPlayerKind, holding, plainRefusal, plainAccept, plainAct, plainOutcome, feeds, named, reading}
 use Rattle.model.specs.Claim.{Chain, chain-link}
 use Rattle.model.proofs.Laws.{false≢, some-false}
-use Rattle.theory.specs.Same.{Names, Same, Related, Facts, KeptWords, ObjectMade, NewMade, event, Admitted}
+use Rattle.theory.specs.Same.{Names, SameStore, Related, Facts, KeptWords, ObjectMade, NewMade, event, Admitted}
 use Rattle.theory.proofs.PlainLaws.{upd-same, names-more, names-new, same-kept}
 use Rattle.theory.proofs.PlainWrites.{same-setReg, same-stored, same-written, same-setOwed}
 use Rattle.theory.proofs.PlainNew.{same-new}
@@ -43,7 +43,7 @@ by-one z unknown = refl
 as-number : (name : ℕ → Object) (i : ℕ) → Names name i → (m m′ : Image) (s : Step) (r v : ℕ) (q : PlainStore) (w : ℕ) → v ≡ w
     → byPlayerKind false (eqb r 0) false false false false false false false (kindOf (s .kind)) ≡ false
     → byPlayerKind false (eqb r 0) (eqb r 0) false false false false false false (kindOf (s .kind)) ≡ false
-    → Same name m′ q → Related name i (event m s (record { image = m′; number = r; value = v })) (replied q r (as-is w))
+    → SameStore name m′ q → Related name i (event m s (record { image = m′; number = r; value = v })) (replied q r (as-is w))
 unfolding named reading
 as-number name i ns m m′ s r v q w e no-new no-object a = record { names-after = rw no-new (names-more ns); same-after = rw no-new a; same-reply = rw (no-object, e) }
 
@@ -54,7 +54,7 @@ size-fits s e =
     let nz : s .b ≡ 0 → ⊥ = eqb-false (s .b) 0 (some-false _ e 0) in
     omega (arith, ltb-false (4 * s .b - 2) (s .c) (some-false _ e 2))
 
-module _ (m : Image) (f : Facts m) (s : Step) (q : PlainStore) (name : ℕ → Object) (i : ℕ) (ns : Names name i) (S : Same name m q) where
+module _ (m : Image) (f : Facts m) (s : Step) (q : PlainStore) (name : ℕ → Object) (i : ℕ) (ns : Names name i) (S : SameStore name m q) where
   abbrev Alike : Kind → Type 0
   Alike n = kindOf (s .kind) ≡ n → Admitted m s n → Related name i (event m s (act m s n)) (plainAct q s i n)
 
@@ -66,7 +66,7 @@ module _ (m : Image) (f : Facts m) (s : Step) (q : PlainStore) (name : ℕ → O
 
   -- an accepted step of a kind whose value is a number
   number-reply : (n : Kind) → kindOf (s .kind) ≡ n → byPlayerKind false true false false false false false false false n ≡ false → byPlayerKind false true true false false false false false false n ≡ false
-      → (m′ : Image) (v : ℕ) (q′ : PlainStore) (w : ℕ) → v ≡ w → Same name m′ q′ → Related name i (event m s (record { image = m′; number = 0; value = v })) (replied q′ 0 (as-is w))
+      → (m′ : Image) (v : ℕ) (q′ : PlainStore) (w : ℕ) → v ≡ w → SameStore name m′ q′ → Related name i (event m s (record { image = m′; number = 0; value = v })) (replied q′ 0 (as-is w))
   number-reply n k no-new no-object m′ v q′ w e a = as-number name i ns m m′ s 0 v q′ w e (rw k no-new) (rw k no-object) a
 
   refused-alike : (r : ℕ) → Related name i (event m s (record { image = m; number = suc r; value = 0 })) (replied q (suc r) (as-is 0))
@@ -140,7 +140,7 @@ module _ (m : Image) (f : Facts m) (s : Step) (q : PlainStore) (name : ℕ → O
       m₁ : Image
       m₁ = setWord m g (2 + s .b) v
 
-      s₁ : Same name m₁ (putLink q (name g) (s .b) (name v))
+      s₁ : SameStore name m₁ (putLink q (name g) (s .b) (name v))
       s₁ = same-stored m f g (s .b) v (reach-of (s .a) hp ha (eqb-false _ _ (a .has-object))) (leb-false _ _ (a .not-past)) (reach-of (s .c) hp hc) name (ns .name-one) q S
 
       len : length (m₁ .players) ≡ 32

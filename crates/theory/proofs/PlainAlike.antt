@@ -16,7 +16,7 @@ use Rattle.model.specs.Steps.{isNew, unnamed, offDesk, badSize, object, owes, o
 use Rattle.model.specs.Plain.{Object, isNil, PlainStore, holding, plainOwing, plainNoObject, plainLevels, plainPastEnd, plainNothing, plainRefusal, feeds}
 use Rattle.model.specs.Claim.{Chain, chain-reg}
 use Rattle.model.proofs.Laws.{false≢, some-false, first-none}
-use Rattle.theory.specs.Same.{Names, Same, SameLines, Admitted}
+use Rattle.theory.specs.Same.{Names, SameStore, SameLines, Admitted}
 use Rattle.theory.proofs.PlainLaws.{nil-name}
 
 -- ---- tables of lines
@@ -89,7 +89,7 @@ not-nine m s n e x = false≢ (sym (ap (λ z. z && eqb ((roomFor m (s .b)) .run)
 
 -- ---- the lines of an image and of a plain store
 
-module _ (m : Image) (s : Step) (q : PlainStore) (name : ℕ → Object) (i : ℕ) (ns : Names name i) (S : Same name m q) where
+module _ (m : Image) (s : Step) (q : PlainStore) (name : ℕ → Object) (i : ℕ) (ns : Names name i) (S : SameStore name m q) where
   -- a register of a player on the desk
   pub in-register : (r : ℕ) → s .who < 16 → r < 16 → holding q s r ≡ name (object m s r)
   unfolding holding object

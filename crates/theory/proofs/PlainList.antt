@@ -12,7 +12,7 @@ use Rattle.model.specs.Records.{Step, Kind, new, load, store, barrier, handOver
 use Rattle.model.specs.Steps.{Done, Event, isNew, refusal, accept, finishDone, act, outcome, step, run, after}
 use Rattle.model.specs.Plain.{Object, old, made, PlainStore, upd, plainOf, Reply, PlainDone, byPlayerKind, plainRefusal, plainOutcome, plainStep, Fed, feeds, feedsEvent, feed, plainRun, named, reading, readings, SameAnswers}
 use Rattle.model.proofs.Laws.{false≢, bool-cases}
-use Rattle.theory.specs.Same.{Names, Same, Related, event, Facts, WordsStay, KeptWords, NewMade, Runs, runs-none, runs-more}
+use Rattle.theory.specs.Same.{Names, SameStore, Related, event, Facts, WordsStay, KeptWords, NewMade, Runs, runs-none, runs-more}
 use Rattle.theory.proofs.PlainLaws.{names-old, names-more, agrees-first, same-kept}
 use Rattle.theory.proofs.PlainAlike.{not-nine}
 use Rattle.theory.proofs.PlainAccepted.{by-one, fed-alike}
@@ -152,7 +152,7 @@ module _ (Ok : Image → Type 0)
     (new-made : (m : Image) (s : Step) → Ok m → NewMade m s)
     (finish-stays : (m : Image) (s : Step) → Ok m → refusal m s finish ≡ 0 → WordsStay m ((act m s finish) .image)) where
   abbrev SameFrom : List Step → Type 0
-  SameFrom ss = (name : ℕ → Object) (i : ℕ) (m : Image) (q : PlainStore) → Ok m → Names name i → Same name m q → readings name i (run m ss) ≡ plainRun q (feed i (run m ss))
+  SameFrom ss = (name : ℕ → Object) (i : ℕ) (m : Image) (q : PlainStore) → Ok m → Names name i → SameStore name m q → readings name i (run m ss) ≡ plainRun q (feed i (run m ss))
 
   same-cons : (s : Step) (ss : List Step) → SameFrom ss → SameFrom (s ∷ ss)
   unfolding readings run plainRun feed step plainStep
@@ -188,7 +188,7 @@ module _ (Ok : Image → Type 0)
       fed : feeds n (refusal m s n) ≡ true → Related name i e p
       fed t = fed-alike m (facts m o) s q name i ns S (new-made m s o) n (fed-zero n _ t) (fed-not-nine m s n t) refl
 
-      unfed : feeds n (refusal m s n) ≡ false → Same name (d .image) q
+      unfed : feeds n (refusal m s n) ≡ false → SameStore name (d .image) q
       unfed t = same-kept m (facts m o) (d .image) (unfed-kept m s (finish-stays m s o) n t) name q S
 
       go : (b : Bool) → feedsEvent e ≡ b → cond b (reading f e ∷ R) R ≡ plainRun q (cond b (record { place = i; request = s } ∷ F) F)
@@ -197,7 +197,7 @@ module _ (Ok : Image → Type 0)
           ap (λ x. x ∷ R) (r .same-reply) ∙ ap (λ l. p .reply ∷ l) (ih f (suc i) (d .image) (p .plain) ok (r .names-after) (r .same-after))
       go false t =
           let x : name ≡ f = sym (unfed-named name i e t) in
-          ih f (suc i) (d .image) q ok (subst (λ h. Names h (suc i)) x (names-more ns)) (subst (λ h. Same h (d .image) q) x (unfed (sym number ∙ t)))
+          ih f (suc i) (d .image) q ok (subst (λ h. Names h (suc i)) x (names-more ns)) (subst (λ h. SameStore h (d .image) q) x (unfed (sym number ∙ t)))
 
   same-from : (ss : List Step) → SameFrom ss
   unfolding readings run plainRun feed

@@ -30,13 +30,13 @@ pub record Agrees (P : ℕ → Type 0) (name : ℕ → Object) (m : Image) (q : 
   pub same-level : (g i : ℕ) → P g → i < levels m g → q .levelOf (name g) i ≡ level m g i
 
 -- they agree on what a chain from a register reaches; the plain store has all else too
-abbrev pub Same : (ℕ → Object) → Image → PlainStore → Type 0
-Same name m q = Agrees (Chain m) name m q
+abbrev pub SameStore : (ℕ → Object) → Image → PlainStore → Type 0
+SameStore name m q = Agrees (Chain m) name m q
 
 -- the event at place i and the plain store's step answer alike and leave an image and a plain store that agree
 pub record Related (name : ℕ → Object) (i : ℕ) (e : Event) (d : PlainDone) : Type 0 where
   pub names-after : Names (named name i e) (suc i)
-  pub same-after : Same (named name i e) (e .done .image) (d .plain)
+  pub same-after : SameStore (named name i e) (e .done .image) (d .plain)
   pub same-reply : reading (named name i e) e ≡ d .reply
 
 abbrev pub event : Image → Step → Done → Event
