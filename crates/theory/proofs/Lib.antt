@@ -31,3 +31,7 @@ pub mod Room
 pub mod Carve
 pub mod LiveSteps
 pub mod Finishes
+pub mod PlainAccepted
+pub mod PlainQuiet
+pub mod PlainList
+pub mod PlainHistory
