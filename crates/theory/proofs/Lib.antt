@@ -5,3 +5,4 @@ pub mod Quiet
 pub mod Carries
 pub mod LiveSteps
 pub mod Finishes
+pub mod Claim
