@@ -5,4 +5,5 @@ pub mod Quiet
 pub mod Carries
 pub mod LiveSteps
 pub mod Finishes
+pub mod Linked
 pub mod Claim

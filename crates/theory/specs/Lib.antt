@@ -1,3 +1,4 @@
 pub mod Heap
 pub mod Cover
 pub mod Cycle
+pub mod Events
