@@ -1,7 +1,7 @@
 -- From a begin to the next finish: where what a step puts into registers, links and marks comes from, and what stays true of it.
 use mathlib.Core.Path.{_≡_}
 use mathlib.Core.Logic.{_⊎_}
-use mathlib.Core.Bool.{Bool, true, false}
+use mathlib.Core.Bool.{true, false}
 use Prim.Native.Nat.{ℕ, _*_, _<_}
 use lib.ListN.{length, getD}
 use Rattle.model.specs.Image.{Image, word, isStart, marked, size, links, link, reg, hand, nextLink, running}
