@@ -35,3 +35,5 @@ pub mod PlainAccepted
 pub mod PlainQuiet
 pub mod PlainList
 pub mod PlainHistory
+pub mod Linked
+pub mod Claim

@@ -5,3 +5,4 @@ pub mod Pieces
 pub mod Same
 pub mod Cycle
 pub mod Carved
+pub mod Events
