@@ -1,3 +1,5 @@
 pub mod Sized
 pub mod Size
 pub mod Bits
+pub mod Clear
+pub mod Made
