@@ -6,7 +6,7 @@ use native.Mathlib.Nat.{zero-add}
 use native.Mathlib.Omega.{arith}
 use lib.ListN.{getD, set, length}
 use Rattle.model.specs.Base.{nth, put}
-use Rattle.model.specs.Image.{lengths, split, image, imageOf, withHeap, withStarts, withMarks, withCards, withRegs, withPackets, withTracers, withPlayers, withGeneral, sections, words}
+use Rattle.model.specs.Image.{mostCards, lengths, split, image, imageOf, withHeap, withStarts, withMarks, withCards, withRegs, withPackets, withTracers, withPlayers, withGeneral, sections, words}
 use Rattle.image.specs.Sized.{narrow, Sized}
 use Rattle.image.proofs.Split.{place, split-get, split-put, total, join-split, split-lengths}
 use Rattle.model.proofs.Words.{Fits}
@@ -110,8 +110,8 @@ module _ (k : ℕ) (ws : List ℕ) (z : Sized k ws) where
 
   -- the sections have their lengths
   pub narrow-fits : Fits (narrow k ws)
-  unfolding narrow imageOf image sections lengths split
-  narrow-fits = split-lengths (lengths 16 k) ws whole
+  unfolding narrow imageOf image sections lengths split mostCards
+  narrow-fits = record { some-card = z .low; few-cards = z .high; section-lengths = split-lengths (lengths 16 k) ws whole }
 
 -- the words are known by their image
 pub narrow-inj : (k : ℕ) (ws vs : List ℕ) → Sized k ws → Sized k vs → narrow k ws ≡ narrow k vs → ws ≡ vs
