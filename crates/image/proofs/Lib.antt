@@ -4,3 +4,4 @@ pub mod Stretches
 pub mod Sizes
 pub mod Masks
 pub mod BitWords
+pub mod FreshStore

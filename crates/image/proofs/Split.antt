@@ -1,13 +1,13 @@
 -- Words cut into sections: a word and a stretch of words, read and written, seen in the section that holds them.
 use mathlib.Core.Path.{_≡_, refl, ap, _∙_, sym}
-use mathlib.Core.List.{List, [], _∷_}
+use mathlib.Core.List.{List, [], _∷_, map}
 use Prim.Native.Nat.{ℕ, zero, suc, _+_, _≤_, _<_}
 use native.Mathlib.Nat.{add-assoc, zero-add, add-suc}
 use native.Mathlib.Omega.{arith}
-use lib.ListN.{length, getD, set, take, drop, length-drop}
+use lib.ListN.{length, getD, set, take, drop, length-drop, take-append-drop}
 use lib.Seq.{getD-take, getD-drop, take-set-lt, take-set-le, drop-set-add, drop-set-lt, length-take-le, getD-set-same, set-getD, set-set, sets}
 use Rattle.model.specs.Base.{nth, put}
-use Rattle.model.specs.Image.{split}
+use Rattle.model.specs.Image.{split, join}
 
 -- the place of section s among sections of the given lengths
 abbrev pub place : List ℕ → ℕ → ℕ
@@ -56,3 +56,20 @@ split-sets ns ws s i (v ∷ vs) h =
     let x : List ℕ = set (getD (split ns ws) s []) i v in
     rw (one, add-suc (place ns s) i) at (split-sets ns (set ws (place ns s + i) v) s (suc i) vs (omega arith))
     ∙ rw (getD-set-same (split ns ws) s x [] l, set-set (split ns ws) s x (sets x (suc i) vs))
+
+-- ---- all sections together
+
+abbrev pub total : List ℕ → ℕ
+total [] = 0
+total (n ∷ ns) = n + total ns
+
+pub join-split : (ns ws : List ℕ) → length ws ≡ total ns → join (split ns ws) ≡ ws
+unfolding split join
+join-split [] [] e = refl
+join-split [] (w ∷ ws) e = absurd (omega arith)
+join-split (n ∷ ns) ws e = rw (join-split ns (drop n ws) (rw (length-drop n ws) (omega arith))) (take-append-drop n ws)
+
+pub split-lengths : (ns ws : List ℕ) → length ws ≡ total ns → map length (split ns ws) ≡ ns
+unfolding split
+split-lengths [] ws e = refl
+split-lengths (n ∷ ns) ws e = rw (length-take-le n ws (omega arith)) (ap (λ r. n ∷ r) (split-lengths ns (drop n ws) (rw (length-drop n ws) (omega arith))))

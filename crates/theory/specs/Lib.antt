@@ -4,3 +4,5 @@ pub mod Lines
 pub mod Pieces
 pub mod Same
 pub mod Cycle
+pub mod Carved
+pub mod Events

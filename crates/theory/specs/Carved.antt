@@ -1,0 +1,26 @@
+-- What a new object writes in the heap: the run that it takes, what is left of it, and the run before it.
+use mathlib.Core.Path.{_≡_}
+use mathlib.Core.Bool.{Bool, true, false, cond}
+use Prim.Native.Nat.{ℕ, suc, _+_, _*_, _≤_, _<_}
+use lib.Dec.{eqb}
+use Rattle.model.specs.Base.{nth}
+use Rattle.model.specs.Image.{Image, granules, word, isStart}
+
+-- n is m with an object of b granules and c links in the run at r; `next` follows the run `before` in place of r
+pub record Carved (m n : Image) (b c r before next : ℕ) : Type 0 where
+  pub same-granules : granules n ≡ granules m
+  pub start-new : isStart n r ≡ true
+  pub start-old : (h : ℕ) → (h ≡ r → ⊥) → isStart n h ≡ isStart m h
+  pub size-new : word n r 0 ≡ b
+  pub links-new : word n r 1 ≡ c
+  pub left-next : b < word m r 0 → next ≡ r + b
+  pub left-size : b < word m r 0 → word n (r + b) 0 + b ≡ word m r 0
+  pub left-pointer : b < word m r 0 → word n (r + b) 1 ≡ word m r 1
+  pub none-left : word m r 0 ≡ b → next ≡ word m r 1
+  pub pointer : (before ≡ 0 → ⊥) → word n before 1 ≡ next
+  pub others : (x : ℕ) → (x ≡ 4 * r → ⊥) → (x ≡ 4 * r + 1 → ⊥) → (x ≡ 4 * before + 1 → ⊥) → (b < word m r 0 → (x ≡ 4 * (r + b) → ⊥) × (x ≡ 4 * (r + b) + 1 → ⊥))
+      → nth (n .heap) x ≡ nth (m .heap) x
+
+-- what follows the run `last`, where it was `now`
+abbrev pub following : ℕ → ℕ → ℕ → ℕ → ℕ
+following before next last now = cond (eqb last before) next now
