@@ -7,3 +7,4 @@ pub mod Pieces
 pub mod Free
 pub mod Room
 pub mod Carve
+pub mod TakeRun

@@ -1,10 +1,44 @@
 -- What a new object writes in the heap: the run that it takes, what is left of it, and the run before it.
 use mathlib.Core.Path.{_≡_}
 use mathlib.Core.Bool.{Bool, true, false, cond}
-use Prim.Native.Nat.{ℕ, suc, _+_, _*_, _≤_, _<_}
+use mathlib.Core.List.{List}
+use Prim.Native.Nat.{ℕ, zero, suc, _+_, _*_, _-_, _≤_, _<_}
 use lib.Dec.{eqb}
+use lib.ListN.{length}
 use Rattle.model.specs.Base.{nth}
-use Rattle.model.specs.Image.{Image, granules, word, isStart}
+use Rattle.model.specs.Image.{Image, granules, word, isStart, setWord, setStart}
+use Rattle.model.specs.Mutate.{takeRun}
+
+-- new, before its register is written: an object of b granules and c links at the start of the run g, which follows the run `before`
+unfoldable pub placed : Image → ℕ → ℕ → ℕ → ℕ → Image
+placed m g before b c = setStart (setWord (setWord (takeRun m g before b (word m g 0 - b)) g 0 b) g 1 c) g
+
+-- m with another heap, other start bits and another general section
+abbrev pub reheaped : Image → List ℕ → List ℕ → List ℕ → Image
+reheaped m hs ss gs = record {
+  width = m .width;
+  k = m .k;
+  heap = hs;
+  starts = ss;
+  marks = m .marks;
+  cards = m .cards;
+  regs = m .regs;
+  packets = m .packets;
+  tracers = m .tracers;
+  players = m .players;
+  general = gs;
+}
+
+-- the sections besides heap and general stay, and of general only the first run is written
+pub record OnlyFirst (m n : Image) : Type 0 where
+  pub sections : n ≡ reheaped m (n .heap) (m .starts) (n .general)
+  pub general-word : (i : ℕ) → (i ≡ 1 → ⊥) → nth (n .general) i ≡ nth (m .general) i
+  pub general-length : length (n .general) ≡ length (m .general)
+
+-- what follows `before` once run g is taken, if that much is left of it
+unfoldable pub nextOf : Image → ℕ → ℕ → ℕ → ℕ
+nextOf m g b zero = word m g 1
+nextOf m g b (suc left) = g + b
 
 -- n is m with an object of b granules and c links in the run at r; `next` follows the run `before` in place of r
 pub record Carved (m n : Image) (b c r before next : ℕ) : Type 0 where
