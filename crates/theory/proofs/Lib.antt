@@ -5,6 +5,9 @@ pub mod Sweep
 pub mod FinishHeap
 pub mod Pieces
 pub mod Free
+pub mod Unused
 pub mod Room
 pub mod Carve
 pub mod TakeRun
+pub mod NewHeap
+pub mod NewMade

@@ -1,23 +1,21 @@
 -- The words that new writes besides the object's: the pointer of the run before, and what is left of the run.
 use mathlib.Core.Path.{_≡_, refl, _∙_}
-use mathlib.Core.Bool.{cond}
 use Prim.Native.Nat.{ℕ, zero, suc, _+_, _*_, _≤_, _<_}
 use native.Mathlib.Omega.{arith}
 use borrow.Author.Tests.{ne-eqb}
-use lib.Dec.{eqb}
 use lib.ListN.{length}
 use Rattle.model.specs.Base.{nth, put}
 use Rattle.model.specs.Image.{Image, word, firstRun, withHeap, withGeneral, setWord, setFirstRun}
 use Rattle.model.specs.Mutate.{setNext, takeRun}
 use Rattle.model.proofs.Laws.{nth-put-same, nth-put-other, length-put}
-use Rattle.theory.specs.Carved.{reheaped, OnlyFirst, nextOf, following}
+use Rattle.theory.specs.New.{OnlyFirst, nextOf, following}
 
 -- ---- the pointer of the run before
 
-next-nth : (m : Image) (before v x : ℕ) → (x ≡ 4 * before + 1 → ⊥) → nth ((setNext m before v) .heap) x ≡ nth (m .heap) x
+next-nth : (m : Image) (before v x : ℕ) → (1 ≤ before → x ≡ 4 * before + 1 → ⊥) → nth ((setNext m before v) .heap) x ≡ nth (m .heap) x
 unfolding setNext setFirstRun setWord withGeneral withHeap
 next-nth m zero v x ne = refl
-next-nth m (suc p) v x ne = nth-put-other (m .heap) (4 * suc p + 1) x v ne
+next-nth m (suc p) v x ne = nth-put-other (m .heap) (4 * suc p + 1) x v (ne (omega arith))
 
 next-length : (m : Image) (before v : ℕ) → length ((setNext m before v) .heap) ≡ length (m .heap)
 unfolding setNext setFirstRun setWord withGeneral withHeap
@@ -57,13 +55,13 @@ module _ (m : Image) (g before b : ℕ) where
   left-word : (left : ℕ) → 4 * (g + b) + 1 < length (m .heap) → (word (leftover left) (g + b) 0 ≡ left) × (word (leftover left) (g + b) 1 ≡ word m g 1)
   unfolding leftover setWord withHeap word
   left-word left l = (
-      nth-put-other (put (m .heap) (4 * (g + b) + 0) left) (4 * (g + b) + 1) (4 * (g + b) + 0) (nth (m .heap) (4 * g + 1)) (λ e. omega arith) ∙ nth-put-same (m .heap) (4 * (g + b) + 0) left (omega arith),
-      nth-put-same (put (m .heap) (4 * (g + b) + 0) left) (4 * (g + b) + 1) (nth (m .heap) (4 * g + 1)) (rw (length-put (m .heap) (4 * (g + b) + 0) left) l),
-    )
+    nth-put-other (put (m .heap) (4 * (g + b) + 0) left) (4 * (g + b) + 1) (4 * (g + b) + 0) (nth (m .heap) (4 * g + 1)) (λ e. omega arith) ∙ nth-put-same (m .heap) (4 * (g + b) + 0) left (omega arith),
+    nth-put-same (put (m .heap) (4 * (g + b) + 0) left) (4 * (g + b) + 1) (nth (m .heap) (4 * g + 1)) (rw (length-put (m .heap) (4 * (g + b) + 0) left) l),
+  )
 
   -- ---- the run taken
 
-  pub take-nth : (left x : ℕ) → (x ≡ 4 * before + 1 → ⊥) → (1 ≤ left → (x ≡ 4 * (g + b) → ⊥) × (x ≡ 4 * (g + b) + 1 → ⊥)) → nth ((takeRun m g before b left) .heap) x ≡ nth (m .heap) x
+  pub take-nth : (left x : ℕ) → (1 ≤ before → x ≡ 4 * before + 1 → ⊥) → (1 ≤ left → (x ≡ 4 * (g + b) → ⊥) × (x ≡ 4 * (g + b) + 1 → ⊥)) → nth ((takeRun m g before b left) .heap) x ≡ nth (m .heap) x
   unfolding takeRun leftover
   take-nth zero x nb nl = next-nth m before (word m g 1) x nb
   take-nth (suc l) x nb nl = let k = nl (omega arith) in next-nth (leftover (suc l)) before (g + b) x nb ∙ left-nth (suc l) x (k .0) (k .1)
@@ -84,7 +82,7 @@ module _ (m : Image) (g before b : ℕ) where
   take-left zero h l q = absurd (omega arith)
   take-left (suc x) h l q =
       let k = left-word (suc x) q in
-      (next-nth (leftover (suc x)) before (g + b) (4 * (g + b) + 0) (λ e. omega arith) ∙ k .0, next-nth (leftover (suc x)) before (g + b) (4 * (g + b) + 1) (λ e. omega arith) ∙ k .1)
+      (next-nth (leftover (suc x)) before (g + b) (4 * (g + b) + 0) (λ u e. omega arith) ∙ k .0, next-nth (leftover (suc x)) before (g + b) (4 * (g + b) + 1) (λ u e. omega arith) ∙ k .1)
 
   pub take-first : (left : ℕ) → 2 ≤ length (m .general) → firstRun (takeRun m g before b left) ≡ following before (nextOf m g b left) 0 (firstRun m)
   unfolding takeRun leftover nextOf

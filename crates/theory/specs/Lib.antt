@@ -1,4 +1,4 @@
 pub mod Heap
 pub mod Cover
 pub mod Pieces
-pub mod Carved
+pub mod New
