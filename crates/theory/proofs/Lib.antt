@@ -1,6 +1,7 @@
 pub mod Cover
 pub mod Lists
 pub mod Walk
+pub mod HeapOf
 pub mod Sweep
 pub mod FinishHeap
 pub mod Pieces
