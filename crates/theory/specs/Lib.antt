@@ -6,3 +6,4 @@ pub mod Same
 pub mod Cycle
 pub mod Carved
 pub mod Events
+pub mod New

@@ -67,6 +67,13 @@ pub record Unused (m : Image) (y : ℕ) : Type 0 where
 abbrev pub Stretch : Image → ℕ → ℕ → Type 0
 Stretch m b g = (y : ℕ) → g ≤ y → y < g + b → Unused m y
 
+-- granule y lies in a run, behind whose end stands an object or nothing: runs are joined
+pub record InRun (m : Image) (y : ℕ) : Type 0 where
+  pub run : ℕ
+  pub run-apart : RunApart m run
+  pub inside : (run ≤ y) × (y < run + word m run 0)
+  pub joined : (run + word m run 0 ≡ granules m) ⊎ (isStart m (run + word m run 0) ≡ true)
+
 -- ---- granules counted
 
 -- v 0 + v 1 + .. + v (n - 1)
