@@ -23,3 +23,4 @@ pub mod Safe
 pub mod Live
 pub mod Quiet
 pub mod Carries
+pub mod Free

@@ -21,11 +21,11 @@ abbrev pub Reads : (ℕ → ℕ → ℕ) → ℕ → List ℕ → Type 0
 Reads rd g ws = (h i : ℕ) → g ≤ h → nth ws (4 * (h - g) + i) ≡ rd h i
 
 module _ (st : ℕ → Bool) (rd : ℕ → ℕ → ℕ) (e : ℕ) where
-  reads-behind : (g s : ℕ) (l r : List ℕ) → length l ≡ 4 * s → Reads rd g (l ++ r) → Reads rd (g + s) r
+  pub reads-behind : (g s : ℕ) (l r : List ℕ) → length l ≡ 4 * s → Reads rd g (l ++ r) → Reads rd (g + s) r
   reads-behind g s l r q a h i p = sym (nth-behind g s h i l r q p) ∙ a h i (omega arith)
 
   -- word i of the piece in front
-  front : (g i : ℕ) (ws : List ℕ) → Reads rd g ws → rd g i ≡ nth ws i
+  pub front : (g i : ℕ) (ws : List ℕ) → Reads rd g ws → rd g i ≡ nth ws i
   front g i ws a = let z : 4 * (g - g) + i ≡ i = omega arith in sym (a g i (omega arith)) ∙ ap (nth ws) z
 
   second : (x : ℕ) (l : List ℕ) (i : ℕ) → nth (x ∷ l) (suc i) ≡ nth l i
