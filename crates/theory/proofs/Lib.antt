@@ -19,8 +19,13 @@ pub mod PlainLaws
 pub mod PlainWrites
 pub mod PlainNew
 pub mod PlainAlike
+pub mod Facts
+pub mod Written
+pub mod Mutating
 pub mod Safe
 pub mod Live
 pub mod Quiet
 pub mod Carries
 pub mod Free
+pub mod LiveSteps
+pub mod Finishes

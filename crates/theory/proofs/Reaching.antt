@@ -34,7 +34,7 @@ take-coming : (m : Image) (t g i : ℕ) → Coming m g i → Coming (takeOutput 
 unfolding takeOutput
 take-coming m t g i c = hold-coming m t 1 _ (omega arith) g i c
 
-dirty-coming : (m : Image) (c g i : ℕ) → c < length (m .cards) → Coming m g i → Coming (dirtyCard m c) g i
+pub dirty-coming : (m : Image) (c g i : ℕ) → c < length (m .cards) → Coming m g i → Coming (dirtyCard m c) g i
 unfolding dirtyCard setState withCards dirty state count entry hand nextLink handCard nextGranule
 dirty-coming m c g i h (on-dirty q) = on-dirty (dirty-keeps m c (g / 64) h q)
 dirty-coming m c g i h (on-entry q e hq he r) = on-entry q e hq he r

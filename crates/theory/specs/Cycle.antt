@@ -2,12 +2,14 @@
 use mathlib.Core.Path.{_≡_}
 use mathlib.Core.Logic.{_⊎_}
 use mathlib.Core.Bool.{Bool, true, false}
-use mathlib.Core.List.{List, [], _∷_, List·Memᴰ}
+use mathlib.Core.List.{List, [], _∷_}
 use Prim.Native.Nat.{ℕ, _*_, _<_}
 use lib.ListN.{length, getD}
 use Rattle.model.specs.Image.{Image, word, isStart, marked, size, links, link, reg, hand, nextLink, running}
 use Rattle.model.specs.Finish.{keptSet}
-use Rattle.model.specs.Steps.{Event, step}
+use Rattle.model.specs.Records.{Step, new, finish, kindOf}
+use Rattle.model.specs.Mutate.{roomFor, newObject}
+use Rattle.model.specs.Steps.{Event, refusal, step}
 use Rattle.model.specs.Claim.{Chain}
 use Rattle.theory.specs.Heap.{Proper, Laid}
 use Rattle.theory.specs.Cover.{Counted}
@@ -57,6 +59,14 @@ pub record Placed (m n : Image) (a : ℕ) : Type 0 where
   pub old-count : (g : ℕ) → isStart m g ≡ true → links n g ≡ links m g
   pub old-links : (g i : ℕ) → isStart m g ≡ true → i < links m g → link n g i ≡ link m g i
   pub new-links : (i : ℕ) → i < links n a → link n a i ≡ 0
+
+-- that, where a new is accepted
+abbrev pub NewPlaced : Image → Step → Type 0
+NewPlaced m s = refusal m s new ≡ 0 → Placed m (newObject m (s .who) (s .a) (s .b) (s .c)) ((roomFor m (s .b)) .run)
+
+-- the record is no finish that is accepted
+abbrev pub NoFinish : Image → Step → Type 0
+NoFinish m s = kindOf (s .kind) ≡ finish → (step m s) .number ≡ 0 → ⊥
 
 -- ---- what stays true from a begin on
 
