@@ -29,3 +29,4 @@ pub mod Carries
 pub mod Free
 pub mod LiveSteps
 pub mod Finishes
+pub mod Room

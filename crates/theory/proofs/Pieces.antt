@@ -97,9 +97,9 @@ module _ (st : ℕ → Bool) (rd : ℕ → ℕ → ℕ) (e : ℕ) where
       (filled-of p (drop (4 * rd g 0) (x ∷ ws)) (reads-drop g (rd g 0) (x ∷ ws) a) (omega (arith, length-drop (4 * rd g 0) (x ∷ ws), o .ends)))))
 
   -- behind a run stands an object, or nothing
-  pub behind-run : {g next : ℕ} → Pieces st rd e g next true → (g ≡ e) ⊎ (st g ≡ true)
+  pub behind-run : {g next : ℕ} → Pieces st rd e g next true → (g ≡ e) ⊎ ObjectHere st rd e g
   behind-run at-end = inl refl
-  behind-run (at-object o p) = inr (o .starts)
+  behind-run (at-object o p) = inr o
 
   pub loosen : {g next : ℕ} → Pieces st rd e g next true → Pieces st rd e g next false
   loosen at-end = at-end
