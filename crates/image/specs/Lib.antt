@@ -2,3 +2,4 @@ pub mod Sized
 pub mod Size
 pub mod Bits
 pub mod Clear
+pub mod Answer
