@@ -42,3 +42,6 @@ pub mod Claim
 pub mod TakeRun
 pub mod NewHeap
 pub mod NewMade
+pub mod LiveSteps
+pub mod Finishes
+pub mod Room
