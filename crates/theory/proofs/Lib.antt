@@ -42,6 +42,3 @@ pub mod Claim
 pub mod TakeRun
 pub mod NewHeap
 pub mod NewMade
-pub mod LiveSteps
-pub mod Finishes
-pub mod Room

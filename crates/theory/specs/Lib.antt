@@ -4,6 +4,5 @@ pub mod Lines
 pub mod Pieces
 pub mod Same
 pub mod Cycle
-pub mod Carved
 pub mod Events
 pub mod New

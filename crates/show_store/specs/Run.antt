@@ -1,0 +1,20 @@
+-- The records of a batch by their place, what the first of them do, and what an answer writes.
+use mathlib.Core.List.{List}
+use Prim.Native.Nat.{ℕ, _+_, _*_}
+use lib.ListN.{set, take, drop}
+use Rattle.model.specs.Base.{table}
+use Rattle.model.specs.Image.{Image}
+use Rattle.model.specs.Records.{Step, stepOf}
+use Rattle.model.specs.Steps.{Done, Event, run}
+
+-- record i of the step bytes
+unfoldable pub recordAt : List ℕ → ℕ → Step
+recordAt bytes i = stepOf 16 (take 8 (drop (8 * i) bytes))
+
+-- the first n records, run
+unfoldable pub ran : Image → List ℕ → ℕ → List Event
+ran m bytes n = run m (table n (recordAt bytes))
+
+-- the answer words with the two of record i written
+unfoldable pub answered : List ℕ → ℕ → Done → List ℕ
+answered answers i d = set (set answers (2 * i) (d .number)) (2 * i + 1) (d .value)
