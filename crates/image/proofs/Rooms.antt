@@ -30,9 +30,24 @@ module _ (m : Image) (b : ℕ) where
   fit-next n before zero i l = absurd (omega arith)
   fit-next n before (suc g) i l = rw (lt-leb b (word m (suc g) 0) l, fit)
 
-linked-in : (m : Image) (g : ℕ) → Linked m g → (g ≡ 0 → ⊥) → (g < granules m) × ((word m g 1 ≡ 0) ⊎ (g < word m g 1)) × Linked m (word m g 1)
+-- ---- one turn along the chain
+
+-- what falls with each turn
+abbrev pub over : ℕ → ℕ → ℕ
+over n g = cond (eqb g 0) 0 (n - g)
+
+pub linked-in : (m : Image) (g : ℕ) → Linked m g → (g ≡ 0 → ⊥) → (g < granules m) × ((word m g 1 ≡ 0) ⊎ (g < word m g 1)) × Linked m (word m g 1)
 linked-in m g linked-end h = absurd (h refl)
 linked-in m g (linked-run a l n r) h = (l, n, r)
+
+pub linked-less : (m : Image) (g : ℕ) → Linked m g → (g ≡ 0 → ⊥) → over (granules m) (word m g 1) < over (granules m) g
+linked-less m g l h =
+    let r = linked-in m g l h in
+    rw (ne-eqb g 0 h) (⊎-elim (λ z. rw (eq-eqb (word m g 1) 0 z) (omega (arith, r .0))) (λ (z : g < word m g 1). go (r .0) (eqb (word m g 1) 0) z) (r .1))
+  where
+    go : g < granules m → (t : Bool) → g < word m g 1 → cond t 0 (granules m - word m g 1) < granules m - g
+    go i true z = omega arith
+    go i false z = omega arith
 
 -- ---- where the walk stands
 
@@ -41,10 +56,6 @@ pub record Walk (m : Image) (b before g : ℕ) : Type 0 where
   pub enough : (g ≡ 0) ⊎ (granules m ≤ left + g)
   pub same : fit m b left before g ≡ roomFor m b
   pub linked : Linked m g
-
--- what falls with each turn
-abbrev pub over : ℕ → ℕ → ℕ
-over n g = cond (eqb g 0) 0 (n - g)
 
 pub walk-first : (m : Image) (b g : ℕ) → g ≡ firstRun m → Linked m (firstRun m) → Walk m b 0 g
 unfolding roomFor
@@ -76,8 +87,4 @@ module _ (m : Image) (b before g : ℕ) (w : Walk m b before g) where
         }
 
     pub walk-less : over (granules m) (word m g 1) < over (granules m) g
-    walk-less = rw (ne-eqb g 0 h) (⊎-elim (λ z. rw (eq-eqb (word m g 1) 0 z) (omega (arith, walk-in))) (λ (z : g < word m g 1). go (eqb (word m g 1) 0) z) (linked-in m g (w .linked) h .1))
-      where
-        go : (t : Bool) → g < word m g 1 → cond t 0 (granules m - word m g 1) < granules m - g
-        go true z = omega (arith, walk-in)
-        go false z = omega (arith, walk-in)
+    walk-less = linked-less m g (w .linked) h

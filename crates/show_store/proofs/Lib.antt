@@ -1,2 +1,3 @@
 pub mod Records
 pub mod Ran
+pub mod FreeRuns

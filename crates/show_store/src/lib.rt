@@ -1,2 +1,3 @@
 // The library: records decoded, steps dispatched, batches run.
+pub mod due; // due.rt: kind 14
 pub mod record; // record.rt: a step record from its bytes

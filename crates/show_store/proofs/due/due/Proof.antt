@@ -1,0 +1,26 @@
+use borrow.Author.Needs.{needs}
+use Rattle.show_store.proofs.FreeRuns.{due-unnamed, due-yes, due-no}
+use Rattle.show_store.proofs.due.due.Statement.{statement}
+use Rattle.show_store.proofs.due.due.Tie as tie
+use Rattle.show_store.proofs.due.due.Reads as reads
+use Rattle.show_store.proofs.due.due.Lts as lts
+use Rattle.show_store.proofs.due.any_set.Reads as any-set-reads
+use Rattle.show_store.proofs.due.free_granules.Reads as free-granules-reads
+
+any-set-requires : tie.Need-any-set-requires
+any-set-requires c κs = search needs
+
+returns : tie.Need-returns
+returns c = search due-unnamed
+
+free-granules-requires : tie.Need-free-granules-requires
+free-granules-requires c κs = search needs
+
+returns-2 : tie.Need-returns-2
+returns-2 c = search due-yes
+
+returns-3 : tie.Need-returns-3
+returns-3 c = search due-no
+
+pub due-spec : {M : Type 1} → statement M
+due-spec = tie.close (tie.spec any-set-requires returns free-granules-requires returns-2 returns-3)
