@@ -199,13 +199,18 @@ plainRun q (f ∷ fs) = let d : PlainDone = plainStep q (f .request) (f .place) 
 unfoldable pub named : (ℕ → Object) → ℕ → Event → ℕ → Object
 named name i e = cond (byPlayerKind false (eqb (e .done .number) 0) false false false false false false false (kindOf (e .request .kind))) (upd name (e .done .value) (made i)) name
 
--- "the value g of an accepted new or load is compared as the object ..; 0 as nil. Other values, and all numbers, must be equal as they are."
+-- "0 as nil"
+unfoldable pub objectAt : (ℕ → Object) → ℕ → Object
+objectAt name zero = old 0
+objectAt name (suc g) = name (suc g)
+
+-- "the value g of an accepted new or load is compared as the object .. Other values, and all numbers, must be equal as they are."
 unfoldable pub reading : (ℕ → Object) → Event → Reply
 reading name e =
     let n : Bool = eqb (e .done .number) 0 in
     record {
       number = e .done .number;
-      value = cond (byPlayerKind false n n false false false false false false (kindOf (e .request .kind))) (as-object (name (e .done .value))) (as-is (e .done .value));
+      value = cond (byPlayerKind false n n false false false false false false (kindOf (e .request .kind))) (as-object (objectAt name (e .done .value))) (as-is (e .done .value));
     }
 
 -- the real answers of the records that the plain store is fed, read; `name` is the reading of granule numbers so far
@@ -222,5 +227,5 @@ SameAnswers m es = readings old 0 es ≡ plainRun (plainOf m) (feed 0 es)
 
 -- opens all of these
 unfoldable pub plain-open : ℕ
-unfolding sameObject isNil upd updObject putReg putLink putLevel putOwing putObject ofImage plainOf holding plainOwing plainNoObject plainLevels plainPastEnd plainNothing plainRefusal plainAccept plainAct plainOutcome plainStep feeds feedsEvent feed plainRun named reading readings
+unfolding sameObject isNil upd updObject putReg putLink putLevel putOwing putObject ofImage plainOf holding plainOwing plainNoObject plainLevels plainPastEnd plainNothing plainRefusal plainAccept plainAct plainOutcome plainStep feeds feedsEvent feed plainRun named objectAt reading readings
 plain-open = 0
