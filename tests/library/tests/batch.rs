@@ -120,7 +120,8 @@ fn from_large_images() {
             1 => idle(&mut random, 512),
             _ => fresh_image(512),
         };
-        let steps = list(&mut random, &mut image.clone(), 1_500, Pace::draw(&mut random));
+        let pace = Pace::draw(&mut random);
+        let steps = list(&mut random, &mut image.clone(), 1_500, pace);
         let mut image = image;
         for part in steps.chunks(300 * RECORD_BYTES) {
             same(&mut image, part, part.len() / RECORD_BYTES * 2, &mut seen);
@@ -135,7 +136,8 @@ fn damaged_images() {
     let mut seen = Seen::default();
     for round in 0..20_000 {
         let mut image = running(&mut random, 1 + round % 3);
-        let steps = list(&mut random, &mut image.clone(), 3, Pace::draw(&mut random));
+        let pace = Pace::draw(&mut random);
+        let steps = list(&mut random, &mut image.clone(), 3, pace);
         spoil(&mut random, &mut image);
         // A word that is free to change leaves an image in which the list may run.
         if reference::judge(&image) == 2 {
@@ -216,7 +218,8 @@ fn whole_lists() {
     for round in 0..120 {
         let k = 1 + round % 6;
         let image = if round % 2 == 0 { fresh_image(k) } else { running(&mut random, k) };
-        let steps = list(&mut random, &mut image.clone(), 1_000, Pace::draw(&mut random));
+        let pace = Pace::draw(&mut random);
+        let steps = list(&mut random, &mut image.clone(), 1_000, pace);
         let batches = batches(&mut random, &steps);
         counts.add(&whole_list(&image, &batches, library::batch).unwrap());
     }
