@@ -48,7 +48,7 @@ module _ (st : ℕ → Bool) (rd : ℕ → ℕ → ℕ) where
 
 -- ---- the chain has every granule that no object has
 
-chain-end : (m : Image) (n : ℕ) → freeFrom m n 0 ≡ 0
+pub chain-end : (m : Image) (n : ℕ) → freeFrom m n 0 ≡ 0
 unfolding freeFrom
 chain-end m zero = refl
 chain-end m (suc n) = refl

@@ -1,16 +1,16 @@
 -- What the lines of "undamaged" on the heap say, for an image whose sections have their lengths.
-use mathlib.Core.Path.{_≡_, refl, sym, ap, _∙_}
+use mathlib.Core.Path.{_≡_, refl, sym, _∙_}
 use mathlib.Core.Logic.{_⊎_, inl, inr}
-use mathlib.Core.Bool.{Bool, true, false, not, cond}
+use mathlib.Core.Bool.{Bool, true, false, cond}
 use mathlib.Core.List.{List}
-use Prim.Native.Nat.{ℕ, zero, suc, _+_, _*_, _/_, _%_, _^_, _≤_, _<_}
+use Prim.Native.Nat.{ℕ, zero, suc, _*_, _/_, _%_, _^_, _≤_, _<_}
 use native.Mathlib.Nat.{zero-div}
-use native.Mathlib.Decide.{ℕ-discrete, decLt}
+use native.Mathlib.Decide.{decLt}
 use native.Mathlib.Omega.{arith}
 use lib.Dec.{eqb}
 use lib.ListN.{length, List·getD-eq-default}
 use borrow.Author.Tests.{eqb-true, not-true}
-use Rattle.model.specs.Base.{nth, every, testBit, bit}
+use Rattle.model.specs.Base.{nth, testBit, bit}
 use Rattle.model.specs.Image.{Image, mostCards, granules, isStart}
 use Rattle.model.specs.Undamaged.{zeroGranule, filled}
 use Rattle.model.proofs.Laws.{false≢, every-use}

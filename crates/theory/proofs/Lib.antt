@@ -6,7 +6,9 @@ pub mod Sweep
 pub mod FinishHeap
 pub mod Pieces
 pub mod Free
+pub mod FinishMade
 pub mod Unused
+pub mod Outside
 pub mod Room
 pub mod Carve
 pub mod TakeRun

@@ -12,7 +12,7 @@ use Rattle.model.specs.Mutate.{Room, fit, roomFor}
 use Rattle.theory.specs.Heap.{HeapFilled, HeapSized}
 use Rattle.theory.specs.Pieces.{at-end, at-object, at-run, past-object, past-run, place-here, ObjectIn, PiecesIn, PlaceIn, RunApart, Unused, Stretch}
 use Rattle.theory.proofs.Pieces.{behind-run, image-pieces}
-use Rattle.theory.proofs.Unused.{Clear, clear-object, clear-run, run-apart, clear-one}
+use Rattle.theory.proofs.Unused.{Clear, clear-object, clear-run, run-apart, run-unused, clear-one}
 
 module _ (m : Image) (b : ℕ) where
   -- ---- what the walk of the run chain finds
@@ -98,14 +98,6 @@ module _ (m : Image) (b : ℕ) where
   before-apart {x} hx (past-run o l p) c k = before-apart (omega arith) p (clear-run m x o c) (inr (run-apart m x hx o c))
   before-apart hx (place-here o l p) c k = k
 
-  apart-stretch : (r : ℕ) → RunApart m r → b ≤ word m r 0 → Stretch m b r
-  unfolding size
-  apart-stretch r a l y p q = record { in-range = (omega (arith, a .not-nil), omega (arith, a .is-run .ends)); in-no-object = λ h e u v. cs h u v (a .apart h e) }
-    where
-      cs : (h : ℕ) → h ≤ y → y < h + word m h 0 → (h + word m h 0 ≤ r) ⊎ (r + word m r 0 ≤ h) → ⊥
-      cs h u v (inl k) = omega arith
-      cs h u v (inr k) = omega arith
-
   -- ---- demand 2 on number 9: "no b neighbouring granules free"
 
   module _ (o : HeapFilled m) (z : HeapSized m) where
@@ -115,7 +107,7 @@ module _ (m : Image) (b : ℕ) where
 
     -- the run that is found is a stretch, and no stretch starts lower
     pub room-stretch : (g : ℕ) → (roomFor m b) .run ≡ suc g → Stretch m b (suc g)
-    room-stretch g e = let a = place-apart (omega arith) (room-place g e) (clear-one m o) in apart-stretch (suc g) (a .0) (a .1)
+    room-stretch g e = let a = place-apart (omega arith) (room-place g e) (clear-one m o) in λ y p q. run-unused m (suc g) y (a .0) p (omega (arith, a .1))
 
     pub room-lowest : 1 ≤ b → (g : ℕ) → (roomFor m b) .run ≡ suc g → (u : ℕ) → Stretch m b u → suc g ≤ u
     room-lowest hb g e u s = cs (decLt u (suc g))

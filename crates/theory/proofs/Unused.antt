@@ -43,6 +43,14 @@ module _ (m : Image) where
       cs h e (no y) (no q) (yes k) = false≢ (sym (o .alone h (omega arith) k) ∙ e)
       cs h e (no y) (no q) (no k) = inr (omega arith)
 
+  -- the granules of a run are unused
+  pub run-unused : (r y : ℕ) → RunApart m r → r ≤ y → y < r + word m r 0 → Unused m y
+  run-unused r y a l q = record { in-range = (omega (arith, a .not-nil), omega (arith, a .is-run .ends)); in-no-object = λ h e u v. cs h u v (a .apart h e) }
+    where
+      cs : (h : ℕ) → h ≤ y → y < h + size m h → (h + size m h ≤ r) ⊎ (r + word m r 0 ≤ h) → ⊥
+      cs h u v (inl k) = omega arith
+      cs h u v (inr k) = omega arith
+
   pub clear-one : HeapFilled m → Clear 1
   clear-one o h e l = absurd (omega (arith, (o .start-range h e) .0))
 

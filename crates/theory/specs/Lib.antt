@@ -2,3 +2,4 @@ pub mod Heap
 pub mod Cover
 pub mod Pieces
 pub mod New
+pub mod Finish

@@ -1,8 +1,10 @@
 -- The heap read by granule: objects and runs from a granule on, the run that new takes, unused granules and stretches of them.
 use mathlib.Core.Path.{_≡_}
 use mathlib.Core.Logic.{_⊎_}
-use mathlib.Core.Bool.{Bool, true, false, cond}
+use mathlib.Core.Bool.{Bool, true, false, cond, _&&_}
 use Prim.Native.Nat.{ℕ, zero, suc, _+_, _*_, _≤_, _<_}
+use lib.Dec.{ltb}
+use Rattle.model.specs.Base.{any}
 use Rattle.model.specs.Image.{Image, granules, word, isStart, size}
 use Rattle.theory.specs.Heap.{Bare}
 
@@ -87,3 +89,11 @@ sizes st rd g = cond (st g) (rd g 0) 0
 
 unfoldable pub usedGranules : Image → ℕ
 usedGranules m = total (sizes (isStart m) (word m)) (granules m)
+
+-- granule y is in an object
+unfoldable pub inObject : Image → ℕ → Bool
+inObject m y = any (suc y) (λ h. isStart m h && ltb y (h + size m h))
+
+-- the number of granules that are in no object, granule 0 among them
+unfoldable pub granulesOutside : Image → ℕ
+granulesOutside m = total (λ y. cond (inObject m y) 0 1) (granules m)
