@@ -16,7 +16,8 @@ use Rattle.model.proofs.Entries.{nth-take}
 use Rattle.theory.specs.Heap.{Filled, HeapFilled, HeapSized}
 use Rattle.theory.proofs.Lists.{nth-left, nth-right}
 use Rattle.theory.proofs.Walk.{word-behind}
-use Rattle.theory.proofs.Sweep.{Stays, nth-swept, SweptOk, swept-filled, sweep-ok, length-swept, sweep-stays}
+use Rattle.theory.specs.Sweep.{Stays, SweptOk}
+use Rattle.theory.proofs.Sweep.{nth-swept, swept-filled, sweep-ok, length-swept, sweep-stays}
 
 -- ---- the set that is kept
 
@@ -66,7 +67,7 @@ module _ (m : Image) (keep : List Bool) (o : HeapFilled m) (z : HeapSized m) (ke
   len : length ws + 4 ≡ 4 * granules m
   len = omega (arith, length-drop 4 (m .heap), o .heap-words, z .some-granules)
 
-  ok : SweptOk (isStart m) keeps kept 1 (length ws) swept-heap
+  ok : SweptOk keeps 1 (length ws) swept-heap
   ok = sweep-ok (isStart m) keeps kept (granules m) (o .heap-filled) (omega (arith, len))
 
   four : length (take 4 (m .heap)) ≡ 4

@@ -12,12 +12,12 @@ use Rattle.model.specs.Mutate.{freeFrom, freeGranules}
 use Rattle.model.specs.Finish.{runTail, Swept, swept, sweep, finishWith}
 use Rattle.model.proofs.Laws.{bool-cases}
 use Rattle.theory.specs.Heap.{runWords, Bare, Filled, f-end, f-object, f-run, HeapFilled, HeapSized}
-use Rattle.theory.specs.Pieces.{Pieces, at-end, at-object, at-run, total, sizes, usedGranules}
+use Rattle.theory.specs.Pieces.{Reads, Pieces, at-end, at-object, at-run, total, sizes, usedGranules}
 use Rattle.theory.proofs.Lists.{nth-head, length-run}
 use Rattle.theory.proofs.Walk.{word-behind, object-at}
 use Rattle.theory.proofs.Sweep.{sweep-piece, not-kept}
 use Rattle.theory.proofs.FinishHeap.{finish-starts, finish-filled, finish-words, finish-sized}
-use Rattle.theory.proofs.Pieces.{Reads, reads-behind, front, image-pieces}
+use Rattle.theory.proofs.Pieces.{reads-behind, front, image-pieces}
 
 -- ---- sums
 

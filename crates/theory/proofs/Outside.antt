@@ -12,10 +12,10 @@ use Rattle.model.specs.Image.{Image, granules, word, isStart, size}
 use Rattle.model.specs.Mutate.{freeFrom, freeGranules}
 use Rattle.model.proofs.Laws.{bool-cases, and-split, and-join, any-use, any-make}
 use Rattle.theory.specs.Heap.{HeapFilled, HeapSized}
-use Rattle.theory.specs.Pieces.{at-end, at-object, at-run, PiecesIn, RunApart, total, inObject, granulesOutside}
+use Rattle.theory.specs.Pieces.{at-end, at-object, at-run, PiecesIn, RunApart, Clear, total, inObject, granulesOutside}
 use Rattle.theory.proofs.Pieces.{image-pieces}
 use Rattle.theory.proofs.Free.{chain-end}
-use Rattle.theory.proofs.Unused.{Clear, clear-object, clear-run, run-apart, run-unused, clear-one}
+use Rattle.theory.proofs.Unused.{clear-object, clear-run, run-apart, run-unused, clear-one}
 
 -- ---- sums over a piece
 

@@ -1,5 +1,6 @@
 pub mod Heap
 pub mod Cover
 pub mod Pieces
-pub mod New
+pub mod Sweep
 pub mod Finish
+pub mod New
