@@ -1,17 +1,16 @@
 -- With a new object in the lowest run that suffices, pieces fill the heap again.
 use mathlib.Core.Path.{_≡_, refl, sym, ap, subst, _∙_}
 use mathlib.Core.Logic.{_⊎_, inl, inr}
-use mathlib.Core.Bool.{Bool, true, false, cond}
-use Prim.Native.Nat.{ℕ, zero, suc, _+_, _*_, _-_, _≤_, _<_}
-use native.Mathlib.Decide.{ℕ-discrete, decLt}
+use mathlib.Core.Bool.{Bool, true, false}
+use Prim.Native.Nat.{ℕ, zero, _+_, _*_, _≤_, _<_}
+use native.Mathlib.Decide.{ℕ-discrete}
 use native.Mathlib.Omega.{arith}
-use lib.Dec.{eqb}
 use borrow.Author.Tests.{eq-eqb, ne-eqb}
 use Rattle.model.specs.Base.{nth}
-use Rattle.model.specs.Image.{Image, granules, word, isStart, size}
+use Rattle.model.specs.Image.{Image, granules, word, isStart}
 use Rattle.theory.specs.Heap.{Bare}
 use Rattle.theory.specs.Pieces.{Pieces, ObjectHere, RunHere, at-end, at-object, at-run, past-object, past-run, place-here, ObjectIn, RunIn, PiecesIn, PlaceIn}
-use Rattle.theory.specs.Carved.{Carved, following}
+use Rattle.theory.specs.New.{Carved, following}
 use Rattle.theory.proofs.Pieces.{loosen}
 
 -- ---- where the places lie
@@ -51,13 +50,13 @@ module _ (m n : Image) (b c r before next : ℕ) (w : Carved m n b c r before ne
   Now = Pieces (isStart n) (word n) (granules m)
 
   -- words of granules before the run, but the pointer of the run before it
-  word-before : (h i : ℕ) → 4 * h + i < 4 * r → (4 * h + i ≡ 4 * before + 1 → ⊥) → word n h i ≡ word m h i
+  pub word-before : (h i : ℕ) → 4 * h + i < 4 * r → (4 * h + i ≡ 4 * before + 1 → ⊥) → word n h i ≡ word m h i
   unfolding word
-  word-before h i l nb = w .others (4 * h + i) (λ e. omega arith) (λ e. omega arith) nb (λ k. ((λ e. omega arith), (λ e. omega arith)))
+  word-before h i l nb = w .others (4 * h + i) (λ e. omega arith) (λ e. omega arith) (λ u. nb) (λ k. ((λ e. omega arith), (λ e. omega arith)))
 
-  word-behind : (h i : ℕ) → r + word m r 0 ≤ h → b ≤ word m r 0 → word n h i ≡ word m h i
+  pub word-behind : (h i : ℕ) → r + word m r 0 ≤ h → b ≤ word m r 0 → word n h i ≡ word m h i
   unfolding word
-  word-behind h i l lb = w .others (4 * h + i) (λ e. omega arith) (λ e. omega arith) (λ e. omega arith) (λ k. ((λ e. omega arith), (λ e. omega arith)))
+  word-behind h i l lb = w .others (4 * h + i) (λ e. omega arith) (λ e. omega arith) (λ u e. omega arith) (λ k. ((λ e. omega arith), (λ e. omega arith)))
 
   bare-same : (x s : ℕ) → ((h : ℕ) → x < h → h < x + s → h ≡ r → ⊥) → Bare (isStart m) x s → Bare (isStart n) x s
   bare-same x s off ba h p q = w .start-old h (off h p q) ∙ ba h p q
@@ -121,7 +120,7 @@ module _ (m n : Image) (b c r before next : ℕ) (w : Carved m n b c r before ne
         zero i k = same i ∙ (shift i ∙ o .zero-words (4 * b + i) (omega arith))
           where
             same : (i : ℕ) → word n (r + b) (2 + i) ≡ word m (r + b) (2 + i)
-            same i = unfold word in w .others (4 * (r + b) + (2 + i)) (λ e. omega arith) (λ e. omega arith) (λ e. omega arith) (λ k. ((λ e. omega arith), (λ e. omega arith)))
+            same i = unfold word in w .others (4 * (r + b) + (2 + i)) (λ e. omega arith) (λ e. omega arith) (λ u e. omega arith) (λ k. ((λ e. omega arith), (λ e. omega arith)))
 
             shift : (i : ℕ) → word m (r + b) (2 + i) ≡ word m r (2 + (4 * b + i))
             shift i = unfold word in ap (nth (m .heap)) (omega arith)

@@ -7,6 +7,7 @@ pub mod Tests
 pub mod Judged
 pub mod Lists
 pub mod Walk
+pub mod HeapOf
 pub mod Sweep
 pub mod Covering
 pub mod Reaching
@@ -27,6 +28,9 @@ pub mod Live
 pub mod Quiet
 pub mod Carries
 pub mod Free
+pub mod FinishMade
+pub mod Unused
+pub mod Outside
 pub mod Room
 pub mod Carve
 pub mod LiveSteps
@@ -37,3 +41,6 @@ pub mod PlainList
 pub mod PlainHistory
 pub mod Linked
 pub mod Claim
+pub mod TakeRun
+pub mod NewHeap
+pub mod NewMade

@@ -6,3 +6,6 @@ pub mod Same
 pub mod Cycle
 pub mod Carved
 pub mod Events
+pub mod Sweep
+pub mod Finish
+pub mod New
