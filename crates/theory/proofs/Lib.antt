@@ -24,3 +24,4 @@ pub mod Quiet
 pub mod Carries
 pub mod LiveSteps
 pub mod Finishes
+pub mod Replaced
