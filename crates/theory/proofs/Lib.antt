@@ -25,3 +25,4 @@ pub mod Carries
 pub mod LiveSteps
 pub mod Finishes
 pub mod Replaced
+pub mod FinishKept
