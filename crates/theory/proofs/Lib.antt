@@ -26,3 +26,4 @@ pub mod LiveSteps
 pub mod Finishes
 pub mod Replaced
 pub mod FinishKept
+pub mod Sizes
