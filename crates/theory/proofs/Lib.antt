@@ -27,3 +27,4 @@ pub mod Finishes
 pub mod Replaced
 pub mod FinishKept
 pub mod Sizes
+pub mod Passing
