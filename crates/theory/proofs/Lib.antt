@@ -28,3 +28,4 @@ pub mod Replaced
 pub mod FinishKept
 pub mod Sizes
 pub mod Passing
+pub mod EachKind
