@@ -29,3 +29,4 @@ pub mod FinishKept
 pub mod Sizes
 pub mod Passing
 pub mod EachKind
+pub mod Kept
