@@ -2,7 +2,7 @@
 use mathlib.Core.Path.{_≡_, refl, sym, ap, subst, fun-ext, _∙_}
 use mathlib.Core.Logic.{_⊎_, inl, inr}
 use mathlib.Core.Bool.{Bool, true, false, cond, _&&_, _||_}
-use mathlib.Core.List.{List, [], _∷_, _++_}
+use mathlib.Core.List.{List, _++_}
 use Prim.Native.Nat.{ℕ, zero, suc, _+_, _*_, _-_, _/_, _≤_, _<_}
 use native.Mathlib.Decide.{ℕ-discrete, decLt}
 use native.Mathlib.Omega.{arith}
@@ -12,8 +12,8 @@ use lib.Seq.{length-take-le, drop-at}
 use borrow.Author.Tests.{eqb-true}
 use Rattle.model.specs.Base.{nth, put, zeros, bit, setBit, table, addBits}
 use Rattle.model.specs.Image.{Image, mostCards, granules, word, isStart, marked, size, firstRun}
-use Rattle.model.specs.Finish.{Swept, sweptWords, firstOf, sweep, foundSet, keptSet, Finish, finishWith, finishStep}
-use Rattle.model.proofs.Laws.{false≢, bool-cases, and-split, nth-put-same, length-put}
+use Rattle.model.specs.Finish.{Swept, sweptWords, firstOf, sweep, foundSet, keptSet, finishWith}
+use Rattle.model.proofs.Laws.{false≢, and-split, nth-put-same, length-put}
 use Rattle.model.proofs.Bits.{length-addBits, addBits-bit, setBit-other, bit-zeros}
 use Rattle.model.proofs.Entries.{nth-take}
 use Rattle.theory.specs.Heap.{Filled, HeapFilled, HeapSized}

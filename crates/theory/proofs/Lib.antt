@@ -30,3 +30,10 @@ pub mod Sizes
 pub mod Passing
 pub mod EachKind
 pub mod Kept
+pub mod Free
+pub mod Unused
+pub mod Room
+pub mod Carve
+pub mod TakeRun
+pub mod NewHeap
+pub mod NewMade

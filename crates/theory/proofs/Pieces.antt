@@ -3,15 +3,14 @@ use mathlib.Core.Path.{_≡_, refl, sym, ap, subst, _∙_}
 use mathlib.Core.Logic.{_⊎_, inl, inr}
 use mathlib.Core.Bool.{Bool, true, false}
 use mathlib.Core.List.{List, [], _∷_, _++_}
-use Prim.Native.Nat.{ℕ, zero, suc, _+_, _*_, _-_, _≤_, _<_}
+use Prim.Native.Nat.{ℕ, suc, _+_, _*_, _-_, _≤_, _<_}
 use native.Mathlib.Omega.{arith}
 use lib.ListN.{length, drop, length-append, length-drop}
 use Rattle.model.specs.Base.{nth}
 use Rattle.model.specs.Image.{Image, granules, word, isStart, firstRun}
 use Rattle.model.specs.Finish.{runTail}
-use Rattle.model.proofs.Laws.{false≢}
 use Rattle.model.proofs.Entries.{nth-drop}
-use Rattle.theory.specs.Heap.{Object, runWords, Bare, Filled, f-end, f-object, f-run, HeapFilled, HeapSized}
+use Rattle.theory.specs.Heap.{runWords, Filled, f-end, f-object, f-run, HeapFilled, HeapSized}
 use Rattle.theory.specs.Pieces.{ObjectHere, RunHere, Pieces, at-end, at-object, at-run}
 use Rattle.theory.proofs.Lists.{nth-head, nth-left, length-run, run-next, run-zero, nth-behind}
 use Rattle.theory.proofs.Walk.{object-filled, run-filled, word-behind}
@@ -21,11 +20,11 @@ abbrev pub Reads : (ℕ → ℕ → ℕ) → ℕ → List ℕ → Type 0
 Reads rd g ws = (h i : ℕ) → g ≤ h → nth ws (4 * (h - g) + i) ≡ rd h i
 
 module _ (st : ℕ → Bool) (rd : ℕ → ℕ → ℕ) (e : ℕ) where
-  reads-behind : (g s : ℕ) (l r : List ℕ) → length l ≡ 4 * s → Reads rd g (l ++ r) → Reads rd (g + s) r
+  pub reads-behind : (g s : ℕ) (l r : List ℕ) → length l ≡ 4 * s → Reads rd g (l ++ r) → Reads rd (g + s) r
   reads-behind g s l r q a h i p = sym (nth-behind g s h i l r q p) ∙ a h i (omega arith)
 
   -- word i of the piece in front
-  front : (g i : ℕ) (ws : List ℕ) → Reads rd g ws → rd g i ≡ nth ws i
+  pub front : (g i : ℕ) (ws : List ℕ) → Reads rd g ws → rd g i ≡ nth ws i
   front g i ws a = let z : 4 * (g - g) + i ≡ i = omega arith in sym (a g i (omega arith)) ∙ ap (nth ws) z
 
   second : (x : ℕ) (l : List ℕ) (i : ℕ) → nth (x ∷ l) (suc i) ≡ nth l i
@@ -97,9 +96,9 @@ module _ (st : ℕ → Bool) (rd : ℕ → ℕ → ℕ) (e : ℕ) where
       (filled-of p (drop (4 * rd g 0) (x ∷ ws)) (reads-drop g (rd g 0) (x ∷ ws) a) (omega (arith, length-drop (4 * rd g 0) (x ∷ ws), o .ends)))))
 
   -- behind a run stands an object, or nothing
-  pub behind-run : {g next : ℕ} → Pieces st rd e g next true → (g ≡ e) ⊎ (st g ≡ true)
+  pub behind-run : {g next : ℕ} → Pieces st rd e g next true → (g ≡ e) ⊎ ObjectHere st rd e g
   behind-run at-end = inl refl
-  behind-run (at-object o p) = inr (o .starts)
+  behind-run (at-object o p) = inr o
 
   pub loosen : {g next : ℕ} → Pieces st rd e g next true → Pieces st rd e g next false
   loosen at-end = at-end

@@ -1,18 +1,18 @@
 -- A sweep: what it leaves fills the heap again, is as long, and has the words of the kept objects.
 use mathlib.Core.Path.{_≡_, refl, sym, ap, _∙_}
 use mathlib.Core.Logic.{_⊎_, inl, inr}
-use mathlib.Core.Bool.{Bool, true, false, cond}
-use mathlib.Core.List.{List, [], _∷_, _++_}
+use mathlib.Core.Bool.{Bool, true, false}
+use mathlib.Core.List.{List, _∷_, _++_}
 use Prim.Native.Nat.{ℕ, zero, suc, _+_, _*_, _-_, _≤_, _<_}
 use native.Mathlib.Nat.{add-zero, add-assoc}
 use native.Mathlib.Decide.{ℕ-discrete, decLt}
 use native.Mathlib.Omega.{arith}
-use lib.ListN.{length, take, drop, length-append}
+use lib.ListN.{length, length-append}
 use lib.Seq.{take-at, drop-at}
 use Rattle.model.specs.Base.{nth}
 use Rattle.model.specs.Finish.{runTail, Swept, sweptWords, firstOf, swept, sweep}
 use Rattle.model.proofs.Laws.{false≢, bool-cases}
-use Rattle.theory.specs.Heap.{Object, runWords, Bare, Filled, f-end, f-object, f-run}
+use Rattle.theory.specs.Heap.{runWords, Bare, Filled, f-end, f-object, f-run}
 use Rattle.theory.proofs.Lists.{nth-head, nth-left, nth-right, length-run, nth-behind, head-behind}
 
 -- a run may follow where none ends

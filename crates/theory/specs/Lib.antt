@@ -3,3 +3,4 @@ pub mod Cover
 pub mod Lines
 pub mod Pieces
 pub mod Cycle
+pub mod New

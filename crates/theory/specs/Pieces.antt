@@ -36,6 +36,26 @@ module _ (st : ℕ → Bool) (rd : ℕ → ℕ → ℕ) (e : ℕ) where
     past-run : {g last r before : ℕ} → RunHere g → rd g 0 < b → Place b (g + rd g 0) (rd g 1) true g r before → Place b g g false last r before
     place-here : {g last : ℕ} → RunHere g → b ≤ rd g 0 → Pieces (g + rd g 0) (rd g 1) true → Place b g g false last g last
 
+-- ---- of an image
+
+abbrev pub ObjectIn : Image → ℕ → Type 0
+ObjectIn m = ObjectHere (isStart m) (word m) (granules m)
+
+abbrev pub RunIn : Image → ℕ → Type 0
+RunIn m = RunHere (isStart m) (word m) (granules m)
+
+abbrev pub PiecesIn : Image → ℕ → ℕ → Bool → Type 0
+PiecesIn m = Pieces (isStart m) (word m) (granules m)
+
+abbrev pub PlaceIn : Image → ℕ → ℕ → ℕ → Bool → ℕ → ℕ → ℕ → Type 0
+PlaceIn m b = Place (isStart m) (word m) (granules m) b
+
+-- a run, with all objects before it or behind it
+pub record RunApart (m : Image) (r : ℕ) : Type 0 where
+  pub not-nil : 1 ≤ r
+  pub is-run : RunIn m r
+  pub apart : (h : ℕ) → isStart m h ≡ true → (h + size m h ≤ r) ⊎ (r + word m r 0 ≤ h)
+
 -- ---- "no b neighbouring granules free"
 
 -- granule y is in no object
@@ -46,6 +66,13 @@ pub record Unused (m : Image) (y : ℕ) : Type 0 where
 -- b neighbouring unused granules, the first of them g
 abbrev pub Stretch : Image → ℕ → ℕ → Type 0
 Stretch m b g = (y : ℕ) → g ≤ y → y < g + b → Unused m y
+
+-- granule y lies in a run, behind whose end stands an object or nothing: runs are joined
+pub record InRun (m : Image) (y : ℕ) : Type 0 where
+  pub run : ℕ
+  pub run-apart : RunApart m run
+  pub inside : (run ≤ y) × (y < run + word m run 0)
+  pub joined : (run + word m run 0 ≡ granules m) ⊎ (isStart m (run + word m run 0) ≡ true)
 
 -- ---- granules counted
 
