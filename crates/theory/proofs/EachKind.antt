@@ -1,4 +1,4 @@
--- Every accepted step but new keeps "undamaged", kind by kind.
+-- Every accepted step keeps "undamaged", kind by kind.
 use mathlib.Core.Path.{_≡_, refl, sym, ap}
 use mathlib.Core.Logic.{inl, inr}
 use mathlib.Core.Bool.{Bool, true, false, _||_}
@@ -7,9 +7,10 @@ use native.Mathlib.Omega.{arith}
 use lib.Dec.{ltb, eqb}
 use borrow.Author.Tests.{ltb-false, leb-false, eqb-true, eqb-false, not-false}
 use Rattle.model.specs.Base.{nth}
-use Rattle.model.specs.Image.{Image, image, size, links, levels, reg, owed, running, withHeap, withCards, withRegs, withPlayers, withGeneral, setWord, setState, dirtyCard, setReg, setOwed}
+use Rattle.model.specs.Image.{Image, sections, image, size, links, levels, reg, owed, running, withHeap, withCards, withRegs, withPlayers, withGeneral, setWord, setState, dirtyCard, setReg, setOwed}
 use Rattle.model.specs.Undamaged.{sound, cover}
 use Rattle.model.specs.Records.{Step, Kind, new, load, store, barrier, handOver, dropReg, read, write, begin, scan, trace, clean, finish, isDue, unknown}
+use Rattle.model.specs.Mutate.{newObject}
 use Rattle.model.specs.Collect.{scanPlayer, beginCycle, traceStep, cleanStep}
 use Rattle.model.specs.Finish.{finishWith, finishStep}
 use Rattle.model.specs.Steps.{offDesk, object, owes, owing, noObject, pastEnd, wrongPhase, nothingToDo, refusal, accept, finishDone, act}
@@ -21,6 +22,7 @@ use Rattle.theory.proofs.Facts.{reg-value, link-value}
 use Rattle.theory.proofs.FinishKept.{finish-keeps}
 use Rattle.theory.proofs.LiveSteps.{line}
 use Rattle.theory.proofs.Mutating.{reg-keeps, barrier-keeps, store-keeps, write-keeps}
+use Rattle.theory.proofs.NewKept.{new-does, new-step}
 use Rattle.theory.proofs.Reaching.{Stays}
 use Rattle.theory.proofs.Tracing.{trace-does}
 
@@ -135,42 +137,46 @@ module _ (m : Image) (s : Step) (u : Undamaged m) where
       let l : s .b < 4 * size m (object m s (s .a)) - 2 - links m (object m s (s .a)) = leb-false (4 * size m (object m s (s .a)) - 2 - links m (object m s (s .a))) (s .b) (line m s write r 4) in
       write-keeps m u g (s .b) (s .c) (held-start (s .a) (line m s write r 3)) (omega arith)
 
-  -- ---- every kind, from new
+  -- ---- every kind
 
-  pub kind-keeps : (refusal m s new ≡ 0 → Undamaged ((act m s new) .image)) → (n : Kind) → refusal m s n ≡ 0 → Undamaged ((act m s n) .image)
+  pub kind-keeps : (n : Kind) → refusal m s n ≡ 0 → Undamaged ((act m s n) .image)
   unfolding act accept wrongPhase
-  kind-keeps f new r = f r
-  kind-keeps f load r = load-keeps r
-  kind-keeps f store r = store-step r
-  kind-keeps f barrier r = barrier-step r
-  kind-keeps f handOver r = hand-keeps r
-  kind-keeps f dropReg r = drop-keeps r
-  kind-keeps f read r = u
-  kind-keeps f write r = write-step r
-  kind-keeps f begin r = begin-keeps r
-  kind-keeps f scan r = stays-undamaged m _ (u .sound .lines) (line m s scan r 7) (scan-stays r)
-  kind-keeps f trace r = stays-undamaged m _ (u .sound .lines) (line m s trace r 7) (trace-stays r)
-  kind-keeps f clean r = stays-undamaged m _ (u .sound .lines) (line m s clean r 7) (clean-stays r)
-  kind-keeps f finish r = finish-step
-  kind-keeps f isDue r = u
-  kind-keeps f unknown r = u
+  kind-keeps new r = new-step m s u r
+  kind-keeps load r = load-keeps r
+  kind-keeps store r = store-step r
+  kind-keeps barrier r = barrier-step r
+  kind-keeps handOver r = hand-keeps r
+  kind-keeps dropReg r = drop-keeps r
+  kind-keeps read r = u
+  kind-keeps write r = write-step r
+  kind-keeps begin r = begin-keeps r
+  kind-keeps scan r = stays-undamaged m _ (u .sound .lines) (line m s scan r 7) (scan-stays r)
+  kind-keeps trace r = stays-undamaged m _ (u .sound .lines) (line m s trace r 7) (trace-stays r)
+  kind-keeps clean r = stays-undamaged m _ (u .sound .lines) (line m s clean r 7) (clean-stays r)
+  kind-keeps finish r = finish-step
+  kind-keeps isDue r = u
+  kind-keeps unknown r = u
 
   -- ---- no kind changes the width or the number of cards
 
-  pub kind-shape : (refusal m s new ≡ 0 → SameShape m ((act m s new) .image)) → (n : Kind) → refusal m s n ≡ 0 → SameShape m ((act m s n) .image)
+  new-shape : refusal m s new ≡ 0 → SameShape m (newObject m (s .who) (s .a) (s .b) (s .c))
+  unfolding setReg withRegs
+  new-shape r = let e = new-does m s (u .sound .lines) r .sections in (ap (λ x. x .width) e, ap (λ x. x .k) e)
+
+  pub kind-shape : (n : Kind) → refusal m s n ≡ 0 → SameShape m ((act m s n) .image)
   unfolding act accept finishDone finishStep finishWith beginCycle setReg setWord setOwed dirtyCard setState withRegs withHeap withPlayers withCards withGeneral
-  kind-shape f new r = f r
-  kind-shape f load r = (refl, refl)
-  kind-shape f store r = (refl, refl)
-  kind-shape f barrier r = (refl, refl)
-  kind-shape f handOver r = (refl, refl)
-  kind-shape f dropReg r = (refl, refl)
-  kind-shape f read r = (refl, refl)
-  kind-shape f write r = (refl, refl)
-  kind-shape f begin r = (refl, refl)
-  kind-shape f scan r = stays-shape (scan-stays r)
-  kind-shape f trace r = stays-shape (trace-stays r)
-  kind-shape f clean r = stays-shape (clean-stays r)
-  kind-shape f finish r = (refl, refl)
-  kind-shape f isDue r = (refl, refl)
-  kind-shape f unknown r = (refl, refl)
+  kind-shape new r = new-shape r
+  kind-shape load r = (refl, refl)
+  kind-shape store r = (refl, refl)
+  kind-shape barrier r = (refl, refl)
+  kind-shape handOver r = (refl, refl)
+  kind-shape dropReg r = (refl, refl)
+  kind-shape read r = (refl, refl)
+  kind-shape write r = (refl, refl)
+  kind-shape begin r = (refl, refl)
+  kind-shape scan r = stays-shape (scan-stays r)
+  kind-shape trace r = stays-shape (trace-stays r)
+  kind-shape clean r = stays-shape (clean-stays r)
+  kind-shape finish r = (refl, refl)
+  kind-shape isDue r = (refl, refl)
+  kind-shape unknown r = (refl, refl)

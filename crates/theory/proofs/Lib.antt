@@ -28,6 +28,7 @@ pub mod Replaced
 pub mod FinishKept
 pub mod Sizes
 pub mod Passing
+pub mod NewKept
 pub mod EachKind
 pub mod Kept
 pub mod Free

@@ -107,7 +107,7 @@ store-idle : (m : Image) → Sound m → (p g b c : ℕ) → let m′ = stored m
 unfolding setOwed withPlayers setWord withHeap
 store-idle m s p g b c z = still-idle (s .idle z) p (suc (g / 64))
 
-is-start : (m : Image) (g : ℕ) → Start m g → isStart m g ≡ true
+pub is-start : (m : Image) (g : ℕ) → Start m g → isStart m g ≡ true
 unfolding isStart
 is-start m g s = s .1
 

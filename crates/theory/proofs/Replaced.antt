@@ -15,6 +15,7 @@ use Rattle.model.specs.Steps.{run}
 use Rattle.model.proofs.Laws.{false≢, nth-put-same, nth-put-other, length-put}
 use Rattle.theory.specs.Cover.{Covered, owes-by, to-nil, to-marked, is-coming, is-owed}
 use Rattle.theory.specs.Lines.{PacketsOk, TracersOk, NilOr, GeneralOk, HeapOk, Start, Marked, Lines, Undamaged, none}
+use Rattle.theory.specs.New.{reheaped}
 use Rattle.theory.proofs.Beginning.{zeros-nth, length-zeros, running-ok, no-bit}
 use Rattle.theory.proofs.Covering.{same-coming}
 use Rattle.theory.proofs.Sections.{tracers-mono}
@@ -95,10 +96,7 @@ cleared-keeps m o hs ss f h rs = record {
 
 -- ---- new: heap, starts and first run written
 
-abbrev pub reheaped : Image → List ℕ → List ℕ → List ℕ → Image
-reheaped m hs ss gs = record { width = m .width; k = m .k; heap = hs; starts = ss; marks = m .marks; cards = m .cards; regs = m .regs; packets = m .packets; tracers = m .tracers; players = m .players; general = gs }
-
-nil-mono : {P Q : ℕ → Type 0} → ((a : ℕ) → P a → Q a) → (a : ℕ) → NilOr P a → NilOr Q a
+pub nil-mono : {P Q : ℕ → Type 0} → ((a : ℕ) → P a → Q a) → (a : ℕ) → NilOr P a → NilOr Q a
 nil-mono f a (inl z) = inl z
 nil-mono f a (inr h) = inr (f a h)
 
