@@ -27,6 +27,15 @@ pub mod Safe
 pub mod Live
 pub mod Quiet
 pub mod Carries
+pub mod LiveSteps
+pub mod Finishes
+pub mod Replaced
+pub mod FinishKept
+pub mod Sizes
+pub mod Passing
+pub mod NewKept
+pub mod EachKind
+pub mod Kept
 pub mod Free
 pub mod FinishMade
 pub mod Unused

@@ -6,7 +6,7 @@ use mathlib.Core.List.{List}
 use Prim.Native.Nat.{ℕ, zero, suc, _+_, _*_, _-_, _/_, _≤_, _<_}
 use lib.ListN.{length, drop}
 use Rattle.model.specs.Base.{nth, bit}
-use Rattle.model.specs.Image.{Image}
+use Rattle.model.specs.Image.{Image, mostCards}
 use Rattle.model.specs.Undamaged.{fill}
 use Rattle.theory.specs.Cover.{Cover}
 
@@ -162,3 +162,10 @@ pub record Sizes (m : Image) : Type 0 where
   pub tracers-size : length (m .tracers) ≡ 64
   pub players-size : length (m .players) ≡ 32
   pub general-size : length (m .general) ≡ 8
+
+-- ---- an image that judging passes
+
+pub record Passes (m : Image) : Type 0 where
+  pub is-undamaged : Undamaged m
+  pub width-is : (m .width ≡ 16) ⊎ (m .width ≡ 32)
+  pub cards-most : m .k ≤ mostCards (m .width)
