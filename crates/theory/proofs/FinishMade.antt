@@ -2,18 +2,21 @@
 use mathlib.Core.Path.{_≡_, _∙_}
 use mathlib.Core.Bool.{Bool, true, false}
 use mathlib.Core.List.{List}
-use Prim.Native.Nat.{ℕ}
+use mathlib.Core.Logic.{_⊎_}
+use Prim.Native.Nat.{ℕ, _<_}
 use native.Mathlib.Omega.{arith}
 use lib.ListN.{length, getD, replicate, length-replicate}
 use Rattle.model.specs.Base.{nth, put, zeros}
-use Rattle.model.specs.Image.{Image, granules, isStart}
-use Rattle.model.specs.Finish.{keptSet, finishWith, finishStep}
+use Rattle.model.specs.Image.{Image, granules, word, isStart}
+use Rattle.model.specs.Finish.{Finish, keptSet, finishWith, finishStep}
 use Rattle.model.proofs.Laws.{nth-put-same, nth-put-other, length-put}
 use Rattle.model.proofs.Bits.{length-addBits}
 use Rattle.theory.specs.Heap.{HeapFilled, HeapSized}
+use Rattle.theory.specs.Pieces.{Unused, InRun}
 use Rattle.theory.specs.Finish.{FinishMade}
 use Rattle.theory.proofs.FinishHeap.{kept-start, finish-starts, finish-filled, finish-words, finish-zero, finish-sized}
 use Rattle.theory.proofs.Free.{finish-value}
+use Rattle.theory.proofs.Unused.{unused-in-run, in-run-zero}
 
 module _ (m : Image) (keep : List Bool) where
   starts-length : length (((finishWith m keep) .image) .starts) ≡ length (m .starts)
@@ -49,3 +52,11 @@ module _ (m : Image) (keep : List Bool) where
 pub finish-made : (m : Image) → HeapFilled m → HeapSized m → FinishMade m (keptSet m) (finishStep m)
 unfolding finishStep
 finish-made m o z = finish-with-made m (keptSet m) o z (kept-start m)
+
+-- ---- "neighbouring runs joined, and freed granules are zeroed but for a run's two words"
+
+pub freed-run : {m : Image} {keep : List Bool} {f : Finish} → FinishMade m keep f → (y : ℕ) → Unused (f .image) y → InRun (f .image) y
+freed-run {f = f} k y u = unused-in-run (f .image) (k .filled) (k .sized) y u
+
+pub freed-zero : {m : Image} {keep : List Bool} {f : Finish} (k : FinishMade m keep f) (y i : ℕ) (u : Unused (f .image) y) → i < 4 → ((y ≡ (freed-run k y u) .run) × (i < 2)) ⊎ (word (f .image) y i ≡ 0)
+freed-zero {f = f} k y i u l = in-run-zero (f .image) y i (freed-run k y u) l
