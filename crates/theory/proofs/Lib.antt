@@ -42,8 +42,6 @@ pub mod Unused
 pub mod Outside
 pub mod Room
 pub mod Carve
-pub mod LiveSteps
-pub mod Finishes
 pub mod PlainAccepted
 pub mod PlainQuiet
 pub mod PlainList

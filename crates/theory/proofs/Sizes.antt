@@ -16,7 +16,7 @@ use Rattle.model.proofs.Laws.{every-use, false≢, every-nil, every-cons}
 use Rattle.model.proofs.Words.{Fits, parts-words}
 use Rattle.theory.specs.Lines.{Sizes, Lines}
 use Rattle.theory.proofs.Facts.{some-card}
-use Rattle.theory.proofs.FinishHeap.{width-of, bit-word}
+use Rattle.theory.proofs.HeapOf.{width-of, bit-word}
 use Rattle.theory.proofs.Judged.{nth-out}
 
 -- ---- lengths of sections

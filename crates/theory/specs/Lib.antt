@@ -4,7 +4,6 @@ pub mod Lines
 pub mod Pieces
 pub mod Same
 pub mod Cycle
-pub mod Carved
 pub mod Events
 pub mod Sweep
 pub mod Finish
