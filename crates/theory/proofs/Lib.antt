@@ -38,3 +38,5 @@ pub mod Carve
 pub mod TakeRun
 pub mod NewHeap
 pub mod NewMade
+pub mod Linked
+pub mod Claim

@@ -1,15 +1,15 @@
 -- Safety: with Cover, a finish keeps what a chain from a register reaches.
 use mathlib.Core.Path.{_≡_, sym, ap, subst, _∙_}
 use mathlib.Core.Logic.{_⊎_, inl, inr}
-use mathlib.Core.Bool.{Bool, true, false}
-use Prim.Native.Nat.{ℕ, zero, suc, _+_, _*_, _≤_, _<_}
+use mathlib.Core.Bool.{true, false}
+use Prim.Native.Nat.{ℕ, _<_}
 use native.Mathlib.Omega.{arith}
-use Rattle.model.specs.Image.{Image, granules, isStart, marked, links, link, size}
-use Rattle.model.specs.Finish.{Due, due-entered, due-in-hand, due-dirty, due-card-in-hand, Found, found-reg, found-link, found-due, Kept, kept-marked, kept-found}
+use Rattle.model.specs.Image.{Image, granules, isStart, marked}
+use Rattle.model.specs.Finish.{Due, due-entered, due-in-hand, due-dirty, due-card-in-hand, found-reg, found-link, found-due, Kept, kept-marked, kept-found}
 use Rattle.model.specs.Claim.{Chain, chain-reg, chain-link}
 use Rattle.model.proofs.Laws.{false≢, bool-cases}
 use Rattle.theory.specs.Heap.{Proper, Laid}
-use Rattle.theory.specs.Cover.{Coming, on-dirty, on-entry, on-hand, on-card, Owes, owes-by, Covered, to-nil, to-marked, is-coming, is-owed, Cover}
+use Rattle.theory.specs.Cover.{Coming, on-dirty, on-entry, on-hand, on-card, owes-by, Covered, to-nil, to-marked, is-coming, is-owed, Cover}
 
 -- a chain reaches objects
 pub chain-start : (m : Image) → Proper m → {a : ℕ} → Chain m a → isStart m a ≡ true

@@ -4,3 +4,4 @@ pub mod Lines
 pub mod Pieces
 pub mod Cycle
 pub mod New
+pub mod Events
