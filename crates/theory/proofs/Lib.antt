@@ -40,3 +40,4 @@ pub mod NewHeap
 pub mod NewMade
 pub mod Linked
 pub mod Claim
+pub mod InOrder
