@@ -1,11 +1,12 @@
 -- Every step keeps "undamaged", and so does every list of steps: a refused one leaves the image as it was, an accepted one goes by its kind.
-use mathlib.Core.Path.{_≡_, refl, sym, subst, _∙_}
-use mathlib.Core.List.{List, [], _∷_, List·Memᴰ, List·Memᴰ·head, List·Memᴰ·tail}
+use mathlib.Core.Path.{_≡_, refl, _∙_}
+use mathlib.Core.List.{List, [], _∷_}
 use Prim.Native.Nat.{ℕ, zero, suc}
-use Rattle.model.specs.Image.{Image, image, imageOf, parts, words}
+use Rattle.model.specs.Image.{Image, image, parts}
 use Rattle.model.specs.Undamaged.{judgeAt}
-use Rattle.model.specs.Records.{Step, Kind, kindOf}
-use Rattle.model.specs.Steps.{refusal, act, outcome, step, Event, run, after}
+use Rattle.model.specs.Records.{Step, Kind, kindOf, records}
+use Rattle.model.specs.Steps.{refusal, act, outcome, step, run, after}
+use Rattle.model.specs.Batch.{callNumber, events, batchWith, batchAt}
 use Rattle.theory.specs.Lines.{Undamaged, Passes}
 use Rattle.theory.proofs.EachKind.{SameShape, kind-keeps, kind-shape}
 use Rattle.theory.proofs.LiveSteps.{act-number}
@@ -39,10 +40,10 @@ step-keeps m s u = step-cases Undamaged m s u (kind-keeps m s u)
 pub step-shape : (m : Image) (s : Step) → Undamaged m → SameShape m ((step m s) .image)
 step-shape m s u = step-cases (SameShape m) m s (refl, refl) (kind-shape m s u)
 
-pub step-passes : (m : Image) (s : Step) → Passes m → Passes ((step m s) .image)
-step-passes m s p =
+pub step-passes : (w : ℕ) (m : Image) (s : Step) → Passes w m → Passes w ((step m s) .image)
+step-passes w m s p =
     let e = step-shape m s (p .is-undamaged) in
-    record { is-undamaged = step-keeps m s (p .is-undamaged); width-is = rw (e .0) (p .width-is); cards-most = rw (e .0, e .1) (p .cards-most) }
+    record { is-undamaged = step-keeps m s (p .is-undamaged); same-width = e .0 ∙ p .same-width; width-is = p .width-is; cards-most = rw (e .1) (p .cards-most) }
 
 -- ---- lists of steps
 
@@ -51,25 +52,18 @@ unfolding run after
 run-keeps m [] u = u
 run-keeps m (s ∷ ss) u = run-keeps ((step m s) .image) ss (step-keeps m s u)
 
-pub run-passes : (m : Image) (ss : List Step) → Passes m → Passes (after m (run m ss))
+pub run-passes : (w : ℕ) (m : Image) (ss : List Step) → Passes w m → Passes w (after m (run m ss))
 unfolding run after
-run-passes m [] p = p
-run-passes m (s ∷ ss) p = run-passes ((step m s) .image) ss (step-passes m s p)
+run-passes w m [] p = p
+run-passes w m (s ∷ ss) p = run-passes w ((step m s) .image) ss (step-passes w m s p)
 
-pub run-width : (m : Image) (ss : List Step) → Undamaged m → (after m (run m ss)) .width ≡ m .width
-unfolding run after
-run-width m [] u = refl
-run-width m (s ∷ ss) u = run-width ((step m s) .image) ss (step-keeps m s u) ∙ step-shape m s u .0
+-- ---- calls
 
--- every event of a run gets and leaves an image that passes
-pub event-passes : (m : Image) (ss : List Step) → Passes m → (e : Event) → List·Memᴰ e (run m ss) → Passes (e .got) × Passes (e .done .image)
-unfolding run
-event-passes m (s ∷ ss) p e (List·Memᴰ·head q) = (subst (λ x. Passes (x .got)) (sym q) p, subst (λ x. Passes (x .done .image)) (sym q) (step-passes m s p))
-event-passes m (s ∷ ss) p e (List·Memᴰ·tail i) = event-passes ((step m s) .image) ss (step-passes m s p) e i
-
--- ---- on words: "A batch hands back an undamaged image undamaged"
-
-pub run-judged : (w : ℕ) (ws : List ℕ) (ss : List Step) → judgeAt w ws ≡ 0 → judgeAt w (words (after (parts w ws) (run (parts w ws) ss))) ≡ 0
-run-judged w ws ss e =
-    let p = judge-use w ws e in
-    subst (λ x. judgeAt x (words (after (parts w ws) (run (parts w ws) ss))) ≡ 0) (run-width (parts w ws) ss (p .is-undamaged) ∙ (unfold parts imageOf image in refl)) (judge-make _ (run-passes (parts w ws) ss p))
+-- "A batch hands back an undamaged image undamaged"
+pub batch-judged : (w : ℕ) (ws bytes answers : List ℕ) → judgeAt w ws ≡ 0 → judgeAt w ((batchAt w ws bytes answers) .image) ≡ 0
+unfolding batchAt batchWith events
+batch-judged w ws bytes answers e = go (callNumber w ws bytes answers)
+  where
+    go : (r : ℕ) → judgeAt w ((batchWith w ws bytes answers r) .image) ≡ 0
+    go zero = judge-make w _ (run-passes w (parts w ws) (records w bytes) (judge-use w ws e))
+    go (suc r) = e

@@ -1,39 +1,44 @@
 -- Judging words gives 0 where their image passes, and the words of an image that passes are judged 0.
-use mathlib.Core.Path.{_≡_, refl, ap, _∙_}
+use mathlib.Core.Path.{_≡_, refl, ap, subst, _∙_}
 use mathlib.Core.Logic.{_⊎_}
 use mathlib.Core.Bool.{Bool, true, not}
 use mathlib.Core.List.{List, [], _∷_}
-use Prim.Native.Nat.{ℕ, _≤_}
+use Prim.Native.Nat.{ℕ}
 use lib.ListN.{length}
 use borrow.Author.Tests.{not-false}
 use Rattle.model.specs.Base.{first}
-use Rattle.model.specs.Image.{Image, mostCards, fits, image, imageOf, parts, words}
+use Rattle.model.specs.Image.{Image, fits, image, imageOf, parts, words}
 use Rattle.model.specs.Undamaged.{sound, undamaged, judgeAt}
 use Rattle.model.proofs.Laws.{first-none}
 use Rattle.theory.specs.Lines.{Sizes, Passes}
 use Rattle.theory.proofs.Judged.{undamaged-use, undamaged-make}
 use Rattle.theory.proofs.Sizes.{fits-range, parts-fits, fits-sizes, parts-of-words, words-fit}
 
-parts-range : (w : ℕ) (ws : List ℕ) → fits w (length ws) ≡ true → (((parts w ws) .width ≡ 16) ⊎ ((parts w ws) .width ≡ 32)) × ((parts w ws) .k ≤ mostCards ((parts w ws) .width))
-unfolding parts imageOf image
-parts-range w ws f = let r = fits-range w (length ws) f in (r .0, r .2)
-
 pub parts-sizes : (w : ℕ) (ws : List ℕ) → fits w (length ws) ≡ true → Sizes (parts w ws)
-parts-sizes w ws f = fits-sizes (parts w ws) (parts-range w ws f .0) (parts-fits w ws f)
+parts-sizes w ws f = fits-sizes (parts w ws) (unfold parts imageOf image in (fits-range w (length ws) f .0)) (parts-fits w ws f)
 
 both-pass : (a b : Bool) → a ≡ true → b ≡ true → first 1 (not a ∷ not b ∷ []) ≡ 0
 unfolding first
 both-pass a b p q = rw (p, q) refl
 
-pub judge-use : (w : ℕ) (ws : List ℕ) → judgeAt w ws ≡ 0 → Passes (parts w ws)
-unfolding judgeAt
-judge-use w ws e =
-    let f : fits w (length ws) ≡ true = not-false _ (first-none 0 _ e 0) in
-    let r = parts-range w ws f in
-    record { is-undamaged = undamaged-use (parts w ws) (parts-sizes w ws f) (not-false _ (first-none 0 _ e 1)); width-is = r .0; cards-most = r .1 }
+pub parts-pass : (w : ℕ) (ws : List ℕ) → fits w (length ws) ≡ true → undamaged (parts w ws) ≡ true → Passes w (parts w ws)
+unfolding parts imageOf image
+parts-pass w ws f e = let r = fits-range w (length ws) f in record { is-undamaged = undamaged-use (parts w ws) (parts-sizes w ws f) e; same-width = refl; width-is = r .0; cards-most = r .2 }
 
-pub judge-make : (m : Image) → Passes m → judgeAt (m .width) (words m) ≡ 0
+pub judge-use : (w : ℕ) (ws : List ℕ) → judgeAt w ws ≡ 0 → Passes w (parts w ws)
 unfolding judgeAt
-judge-make m p =
-    let o = p .is-undamaged .sound .lines in
-    both-pass _ _ (words-fit o (p .width-is) (p .cards-most)) (ap undamaged (parts-of-words o (p .width-is)) ∙ undamaged-make m (p .is-undamaged))
+judge-use w ws e = parts-pass w ws (not-false _ (first-none 0 _ e 0)) (not-false _ (first-none 0 _ e 1))
+
+-- the width as the image has it
+own-width : (w : ℕ) (m : Image) → Passes w m → (m .width ≡ 16) ⊎ (m .width ≡ 32)
+own-width w m p = rw (p .same-width) (p .width-is)
+
+pub words-round : (w : ℕ) (m : Image) → Passes w m → parts w (words m) ≡ m
+words-round w m p = subst (λ x. parts x (words m) ≡ m) (p .same-width) (parts-of-words (p .is-undamaged .sound .lines) (own-width w m p))
+
+pub judge-make : (w : ℕ) (m : Image) → Passes w m → judgeAt w (words m) ≡ 0
+unfolding judgeAt
+judge-make w m p =
+    both-pass _ _
+    (subst (λ x. fits x (length (words m)) ≡ true) (p .same-width) (words-fit (p .is-undamaged .sound .lines) (own-width w m p) (rw (p .same-width) (p .cards-most))))
+    (ap undamaged (words-round w m p) ∙ undamaged-make m (p .is-undamaged))

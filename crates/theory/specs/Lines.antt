@@ -163,9 +163,10 @@ pub record Sizes (m : Image) : Type 0 where
   pub players-size : length (m .players) ≡ 32
   pub general-size : length (m .general) ≡ 8
 
--- ---- an image that judging passes
+-- ---- an image whose words judging passes, at a width
 
-pub record Passes (m : Image) : Type 0 where
+pub record Passes (w : ℕ) (m : Image) : Type 0 where
   pub is-undamaged : Undamaged m
-  pub width-is : (m .width ≡ 16) ⊎ (m .width ≡ 32)
-  pub cards-most : m .k ≤ mostCards (m .width)
+  pub same-width : m .width ≡ w
+  pub width-is : (w ≡ 16) ⊎ (w ≡ 32)
+  pub cards-most : m .k ≤ mostCards w
