@@ -51,6 +51,4 @@ pub mod Claim
 pub mod TakeRun
 pub mod NewHeap
 pub mod NewMade
-pub mod Linked
-pub mod Claim
 pub mod InOrder

@@ -8,4 +8,3 @@ pub mod Events
 pub mod Sweep
 pub mod Finish
 pub mod New
-pub mod Events
