@@ -10,7 +10,6 @@ use lib.ListN.{length, getD}
 use borrow.Author.Tests.{eqb-true, eqb-false, not-true, not-false}
 use Rattle.model.specs.Base.{put, lowest, first}
 use Rattle.model.specs.Image.{Image, marked, state, hand, handCard, nextGranule, withCards, withTracers, setState, setTracer}
-use Rattle.model.specs.Undamaged.{cover}
 use Rattle.model.specs.Collect.{traceHand, putCard, nextMarked, cleanTo, cleanCard, lowestDirty, takeCard, cleanLine, cleanStep}
 use Rattle.model.proofs.Laws.{false≢, nth-put-same, nth-put-other, best-ok}
 use Rattle.theory.specs.Cover.{Cover}

@@ -7,8 +7,7 @@ use native.Mathlib.Omega.{arith}
 use lib.Dec.{ltb, eqb}
 use borrow.Author.Tests.{ltb-false, leb-false, eqb-true, eqb-false, not-false}
 use Rattle.model.specs.Base.{nth}
-use Rattle.model.specs.Image.{Image, sections, image, size, links, levels, reg, owed, running, withHeap, withCards, withRegs, withPlayers, withGeneral, setWord, setState, dirtyCard, setReg, setOwed}
-use Rattle.model.specs.Undamaged.{sound, cover}
+use Rattle.model.specs.Image.{Image, size, links, levels, reg, owed, running, withHeap, withCards, withRegs, withPlayers, withGeneral, setWord, setState, dirtyCard, setReg, setOwed}
 use Rattle.model.specs.Records.{Step, Kind, new, load, store, barrier, handOver, dropReg, read, write, begin, scan, trace, clean, finish, isDue, unknown}
 use Rattle.model.specs.Mutate.{newObject}
 use Rattle.model.specs.Collect.{scanPlayer, beginCycle, traceStep, cleanStep}

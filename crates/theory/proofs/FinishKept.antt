@@ -1,5 +1,5 @@
 -- A finish keeps "undamaged": links and registers of what it leaves are nil or kept.
-use mathlib.Core.Path.{_≡_, refl, sym, _∙_, ap, subst}
+use mathlib.Core.Path.{_≡_, _∙_, ap, subst}
 use mathlib.Core.Logic.{_⊎_, inl, inr}
 use mathlib.Core.Bool.{true, false}
 use Prim.Native.Nat.{ℕ, _*_, _<_, _+_, _/_, _%_, _≤_}
@@ -7,13 +7,12 @@ use native.Mathlib.Decide.{ℕ-discrete, decLt}
 use native.Mathlib.Omega.{arith}
 use lib.ListN.{length, getD, drop}
 use Rattle.model.specs.Base.{nth, put, zeros, bit}
-use Rattle.model.specs.Image.{Image, image, granules, word, isStart, marked, links, link, hand, nextLink, running, size, reg, firstRun}
-use Rattle.model.specs.Undamaged.{sound, cover, fill, filled}
-use Rattle.model.specs.Finish.{keptSet, Kept, finishStep, found-reg, found-link, found-due, kept-marked, kept-found, firstOf, sweep, finishWith}
+use Rattle.model.specs.Image.{Image, granules, word, isStart, marked, links, link, hand, nextLink, running, size, reg, firstRun}
+use Rattle.model.specs.Undamaged.{fill, filled}
+use Rattle.model.specs.Finish.{keptSet, Kept, finishStep, found-reg, kept-found, firstOf, sweep, finishWith}
 use Rattle.model.specs.Claim.{Finishes}
-use Rattle.model.proofs.Laws.{false≢, bool-cases, nth-put-same, length-put}
+use Rattle.model.proofs.Laws.{bool-cases, nth-put-same, length-put}
 use Rattle.model.proofs.Bits.{length-addBits}
-use Rattle.theory.specs.Cover.{Covered, Cover, owes-by, to-nil, to-marked, is-coming, is-owed}
 use Rattle.theory.specs.Cycle.{Facts, SweptTo}
 use Rattle.theory.specs.Heap.{HeapFilled}
 use Rattle.theory.specs.Lines.{Pair, NilOr, Start, InHand, Lines, Sound, Undamaged, none, one, HeapOk}
@@ -23,9 +22,8 @@ use Rattle.theory.proofs.FinishHeap.{kept-start, finish-starts, finish-
 use Rattle.theory.proofs.Finishes.{finishes}
 use Rattle.theory.proofs.Judged.{counted-of, nth-out}
 use Rattle.theory.proofs.Replaced.{cleared-keeps}
-use Rattle.theory.proofs.Safe.{coming-due, start-below}
-use Rattle.theory.proofs.Sections.{hand-ok}
-use Rattle.theory.proofs.Walk.{laid, filled-make}
+use Rattle.theory.proofs.Safe.{start-below, kept-link}
+use Rattle.theory.proofs.Walk.{filled-make}
 
 -- what the list claims need of an image, from its lines
 pub facts-of : {m : Image} → Sound m → Facts m
@@ -45,21 +43,6 @@ facts-of {m} s = record {
     holds : (t : ℕ) → (hand m t ≡ 0 → ⊥) → Pair (InHand m) (hand m t) (nextLink m t) → InHand m (hand m t) (nextLink m t)
     holds t n (none a b) = absurd (n a)
     holds t n (one a h) = h
-
--- what a kept object links to is kept
-kept-link : (m : Image) → Cover m → (g i : ℕ) → g < granules m → Kept m g → i < links m g → (link m g i ≡ 0 → ⊥) → Kept m (link m g i)
-kept-link m c g i hg kg l nz = go kg (bool-cases (marked m g))
-  where
-    by : marked m g ≡ true → Covered m g i → Kept m (link m g i)
-    by k (to-nil q) = absurd (nz q)
-    by k (to-marked q) = kept-marked q
-    by k (is-coming q) = kept-found (found-due g i hg k (coming-due m g i q) l refl nz)
-    by k (is-owed (owes-by p r hp hr u q)) = kept-found (found-reg p r hp hr q nz)
-
-    go : Kept m g → (marked m g ≡ true) ⊎ (marked m g ≡ false) → Kept m (link m g i)
-    go s (inl k) = by k (c g i hg k l)
-    go (kept-marked k) (inr u) = false≢ (sym u ∙ k)
-    go (kept-found f) (inr u) = kept-found (found-link g i f u l refl nz)
 
 module _ (m : Image) (u : Undamaged m) where
   o : Lines m

@@ -3,8 +3,7 @@ use mathlib.Core.Path.{_≡_}
 use mathlib.Core.List.{List}
 use Prim.Native.Nat.{ℕ}
 use Rattle.model.specs.Image.{parts}
-use Rattle.model.specs.Undamaged.{sound, cover, judgeAt}
-use Rattle.model.specs.Finish.{swept}
+use Rattle.model.specs.Undamaged.{judgeAt}
 use Rattle.model.specs.Claim.{Lent, history, Claim}
 use Rattle.model.specs.Plain.{SameAnswers}
 use Rattle.theory.specs.Events.{Steady, Stored}

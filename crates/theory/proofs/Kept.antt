@@ -2,7 +2,7 @@
 use mathlib.Core.Path.{_≡_, refl, _∙_}
 use mathlib.Core.List.{List, [], _∷_}
 use Prim.Native.Nat.{ℕ, zero, suc}
-use Rattle.model.specs.Image.{Image, image, parts}
+use Rattle.model.specs.Image.{Image, parts}
 use Rattle.model.specs.Undamaged.{judgeAt}
 use Rattle.model.specs.Records.{Step, Kind, kindOf, records}
 use Rattle.model.specs.Steps.{refusal, act, outcome, step, run, after}

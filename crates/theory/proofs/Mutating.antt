@@ -9,7 +9,6 @@ use native.Mathlib.Omega.{arith}
 use lib.ListN.{length}
 use Rattle.model.specs.Base.{nth, put}
 use Rattle.model.specs.Image.{Image, granules, word, isStart, marked, size, links, link, reg, owed, withHeap, withCards, withRegs, withPlayers, setWord, setState, dirtyCard, setReg, setOwed, fields-open}
-use Rattle.model.specs.Undamaged.{sound, cover}
 use Rattle.model.proofs.Laws.{nth-put-same, nth-put-other}
 use Rattle.theory.specs.Cover.{Covered, Cover, on-dirty, owes-by, to-nil, to-marked, is-coming, is-owed}
 use Rattle.theory.specs.Lines.{NilOr, Start, Lines, Idle, Sound, Undamaged}

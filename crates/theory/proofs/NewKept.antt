@@ -7,11 +7,11 @@ use native.Mathlib.Decide.{ℕ-discrete}
 use native.Mathlib.Omega.{arith}
 use borrow.Author.Tests.{ltb-false, eqb-false, eqb-true, not-false}
 use Rattle.model.specs.Base.{nth, bit}
-use Rattle.model.specs.Image.{Image, sections, granules, word, isStart, links, link, owed, firstRun, withRegs, setReg, image, size}
-use Rattle.model.specs.Undamaged.{filled, sound}
+use Rattle.model.specs.Image.{Image, granules, word, isStart, links, link, owed, firstRun, withRegs, setReg, size}
+use Rattle.model.specs.Undamaged.{filled}
 use Rattle.model.specs.Records.{Step, new}
-use Rattle.model.specs.Mutate.{fit, roomFor, newObject}
-use Rattle.model.specs.Steps.{isNew, badSize, noRoom, refusal, run, offDesk, owes, owing, accept, act}
+use Rattle.model.specs.Mutate.{roomFor, newObject}
+use Rattle.model.specs.Steps.{isNew, badSize, noRoom, refusal, offDesk, owes, owing, accept, act}
 use Rattle.model.proofs.Laws.{bool-cases, some-false, false≢}
 use Rattle.theory.specs.Cycle.{Placed}
 use Rattle.theory.specs.Heap.{HeapFilled}

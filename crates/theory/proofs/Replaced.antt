@@ -8,8 +8,6 @@ use native.Mathlib.Omega.{arith}
 use lib.ListN.{length}
 use Rattle.model.specs.Base.{nth, put, zeros, bit}
 use Rattle.model.specs.Image.{Image, granules, word, marked, links, link, state, dirty, reg, count, entry, hand, nextLink, handCard, nextGranule, owed}
-use Rattle.model.specs.Undamaged.{sound, cover}
-use Rattle.model.specs.Collect.{held}
 use Rattle.model.specs.Finish.{scannedOff}
 use Rattle.model.specs.Steps.{run}
 use Rattle.model.proofs.Laws.{false≢, nth-put-same, nth-put-other, length-put}

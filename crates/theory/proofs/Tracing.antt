@@ -11,7 +11,6 @@ use lib.ListN.{getD}
 use borrow.Author.Tests.{ltb-true, ltb-false, eqb-true, eqb-false, not-true, not-false}
 use Rattle.model.specs.Base.{nth, put, first, bit}
 use Rattle.model.specs.Image.{Image, granules, word, marked, links, link, state, dirty, count, entry, input, output, hand, nextLink, withPackets, withTracers, setTracer}
-use Rattle.model.specs.Undamaged.{cover}
 use Rattle.model.specs.Collect.{held, fullest, pop, putHand, takeObject, traceHand, traceInput, tracePool, traceOutput, hasEntries, traceLine, traceStep}
 use Rattle.model.proofs.Laws.{false≢, bool-cases, every-use, best-ok}
 use Rattle.theory.specs.Cover.{Cover, on-dirty, is-coming}
