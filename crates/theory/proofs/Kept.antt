@@ -43,7 +43,7 @@ step-shape m s u = step-cases (SameShape m) m s (refl, refl) (kind-shape m s u)
 pub step-passes : (w : ℕ) (m : Image) (s : Step) → Passes w m → Passes w ((step m s) .image)
 step-passes w m s p =
     let e = step-shape m s (p .is-undamaged) in
-    record { is-undamaged = step-keeps m s (p .is-undamaged); same-width = e .0 ∙ p .same-width; width-is = p .width-is; cards-most = rw (e .1) (p .cards-most) }
+    record { is-undamaged = step-keeps m s (p .is-undamaged); same-width = e .0 ∙ p .same-width; cards-most = rw (e .1) (p .cards-most) }
 
 -- ---- lists of steps
 

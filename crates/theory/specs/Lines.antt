@@ -1,9 +1,9 @@
 -- The lines of "undamaged" as records over section lists, grouped by the section that they read.
 use mathlib.Core.Path.{_≡_}
 use mathlib.Core.Logic.{_⊎_}
-use mathlib.Core.Bool.{Bool, true, false}
+use mathlib.Core.Bool.{true, false}
 use mathlib.Core.List.{List}
-use Prim.Native.Nat.{ℕ, zero, suc, _+_, _*_, _-_, _/_, _≤_, _<_}
+use Prim.Native.Nat.{ℕ, suc, _+_, _*_, _-_, _/_, _≤_, _<_}
 use lib.ListN.{length, drop}
 use Rattle.model.specs.Base.{nth, bit}
 use Rattle.model.specs.Image.{Image, mostCards}
@@ -168,5 +168,4 @@ pub record Sizes (m : Image) : Type 0 where
 pub record Passes (w : ℕ) (m : Image) : Type 0 where
   pub is-undamaged : Undamaged m
   pub same-width : m .width ≡ w
-  pub width-is : (w ≡ 16) ⊎ (w ≡ 32)
   pub cards-most : m .k ≤ mostCards w
