@@ -52,3 +52,4 @@ pub mod TakeRun
 pub mod NewHeap
 pub mod NewMade
 pub mod InOrder
+pub mod Demand
