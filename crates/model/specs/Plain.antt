@@ -1,13 +1,13 @@
 -- The plain store, which never frees: its state, its step, and how the real answers are read against its own.
 use mathlib.Core.Path.{_≡_}
-use mathlib.Core.Bool.{Bool, true, false, not, cond, _&&_, _||_}
+use mathlib.Core.Bool.{Bool, true, false, not, cond, _||_}
 use mathlib.Core.List.{List, [], _∷_}
-use Prim.Native.Nat.{ℕ, zero, suc, _+_, _*_, _-_}
+use Prim.Native.Nat.{ℕ, zero, suc, _*_, _-_}
 use lib.Dec.{leb, eqb}
 use Rattle.model.specs.Base.{first}
 use Rattle.model.specs.Image.{Image, size, links, link, level, reg, owed}
 use Rattle.model.specs.Records.{Step, Kind, new, load, store, barrier, handOver, dropReg, read, write, begin, scan, trace, clean, finish, isDue, unknown, kindOf}
-use Rattle.model.specs.Steps.{Done, Event, unnamed, offDesk, badSize}
+use Rattle.model.specs.Steps.{Event, unnamed, offDesk, badSize}
 
 -- ---- the state
 

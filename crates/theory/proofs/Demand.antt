@@ -3,10 +3,10 @@ use mathlib.Core.Path.{_≡_, refl, ap, _∙_}
 use mathlib.Core.List.{List}
 use Prim.Native.Nat.{ℕ}
 use native.Mathlib.Omega.{arith}
-use Rattle.model.specs.Image.{Image, reg, owed, setReg, withRegs, parts, sections, image}
-use Rattle.model.specs.Undamaged.{judgeAt, filled, sound}
+use Rattle.model.specs.Image.{Image, reg, owed, setReg, withRegs, parts}
+use Rattle.model.specs.Undamaged.{judgeAt}
 use Rattle.model.specs.Records.{Step, finish}
-use Rattle.model.specs.Steps.{act, accept, finishDone, run}
+use Rattle.model.specs.Steps.{act, accept, finishDone}
 use Rattle.model.specs.Mutate.{roomFor, newObject}
 use Rattle.model.specs.Batch.{misfit, callNumber}
 use Rattle.model.proofs.Laws.{some-false, first-none}
@@ -22,8 +22,6 @@ use Rattle.theory.proofs.Kept.{step-passes}
 use Rattle.theory.proofs.Passing.{parts-pass, judge-use, words-round}
 use Rattle.theory.proofs.PlainHistory.{plain-history}
 use Rattle.theory.proofs.InOrder.{claim-but-plain}
-use Rattle.theory.specs.Cycle.{no-start}
-use Rattle.theory.proofs.Walk.{laid}
 use Rattle.model.specs.Cases.{bytes}
 use Rattle.theory.specs.New
 

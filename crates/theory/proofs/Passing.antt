@@ -7,7 +7,7 @@ use lib.ListN.{length}
 use borrow.Author.Tests.{not-false}
 use Rattle.model.specs.Base.{first}
 use Rattle.model.specs.Image.{Image, fits, image, imageOf, parts, words}
-use Rattle.model.specs.Undamaged.{undamaged, judgeAt, sound}
+use Rattle.model.specs.Undamaged.{undamaged, judgeAt}
 use Rattle.model.proofs.Laws.{first-none}
 use Rattle.model.proofs.Words.{Fits, parts-fit, parts-words, words-fit}
 use Rattle.theory.specs.Lines.{Sizes, Passes}

@@ -5,13 +5,12 @@ use mathlib.Core.List.{List, [], _++_}
 use Prim.Native.Nat.{ℕ, suc, _+_, _*_, _<_}
 use lib.Dec.{eqb}
 use lib.ListN.{length}
-use Rattle.model.specs.Image.{Image, word, isStart, size, links, link, levels, level, reg, owed, setReg, image}
+use Rattle.model.specs.Image.{Image, word, isStart, size, links, link, levels, level, reg, owed, setReg}
 use Rattle.model.specs.Records.{Step, Kind, new}
-use Rattle.model.specs.Steps.{Done, Event, offDesk, badSize, noObject, pastEnd, refusal, act, run, after, owing}
+use Rattle.model.specs.Steps.{Done, Event, offDesk, badSize, noObject, pastEnd, refusal, act, run, after}
 use Rattle.model.specs.Plain.{Object, old, made, PlainStore, PlainDone, named, reading}
 use Rattle.model.specs.Claim.{Chain}
 use Rattle.theory.specs.Heap.{Laid, Proper}
-use Rattle.theory.proofs.Covering.{off}
 
 -- ---- the relation
 
