@@ -1,17 +1,14 @@
 -- A finish leaves a filled heap whose starts are the kept objects, with their words.
 use mathlib.Core.Path.{_≡_, refl, sym, ap, subst, fun-ext, _∙_}
-use mathlib.Core.Logic.{_⊎_, inl, inr}
 use mathlib.Core.Bool.{Bool, true, false, cond, _&&_, _||_}
 use mathlib.Core.List.{List, _++_}
-use Prim.Native.Nat.{ℕ, zero, suc, _+_, _*_, _-_, _/_, _≤_, _<_}
+use Prim.Native.Nat.{ℕ, zero, suc, _+_, _*_, _-_, _≤_, _<_}
 use native.Mathlib.Decide.{ℕ-discrete, decLt}
 use native.Mathlib.Omega.{arith}
-use lib.Dec.{eqb}
 use lib.ListN.{length, getD, take, drop, replicate, length-append, length-drop, length-replicate}
 use lib.Seq.{length-take-le, drop-at}
-use borrow.Author.Tests.{eqb-true}
 use Rattle.model.specs.Base.{nth, put, zeros, bit, setBit, table, addBits}
-use Rattle.model.specs.Image.{Image, mostCards, granules, word, isStart, marked, size, firstRun}
+use Rattle.model.specs.Image.{Image, granules, word, isStart, marked, size, firstRun}
 use Rattle.model.specs.Finish.{Swept, sweptWords, firstOf, sweep, foundSet, keptSet, finishWith}
 use Rattle.model.proofs.Laws.{false≢, and-split, nth-put-same, length-put}
 use Rattle.model.proofs.Bits.{length-addBits, addBits-bit, setBit-other, bit-zeros}
@@ -19,7 +16,8 @@ use Rattle.model.proofs.Entries.{nth-take}
 use Rattle.theory.specs.Heap.{Filled, HeapFilled, HeapSized}
 use Rattle.theory.proofs.Lists.{nth-left, nth-right}
 use Rattle.theory.proofs.Walk.{word-behind}
-use Rattle.theory.proofs.Sweep.{Stays, nth-swept, SweptOk, swept-filled, sweep-ok, length-swept, sweep-stays}
+use Rattle.theory.specs.Sweep.{Stays, SweptOk}
+use Rattle.theory.proofs.Sweep.{nth-swept, swept-filled, sweep-ok, length-swept, sweep-stays}
 
 -- ---- the set that is kept
 
@@ -69,7 +67,7 @@ module _ (m : Image) (keep : List Bool) (o : HeapFilled m) (z : HeapSized m) (ke
   len : length ws + 4 ≡ 4 * granules m
   len = omega (arith, length-drop 4 (m .heap), o .heap-words, z .some-granules)
 
-  ok : SweptOk (isStart m) keeps kept 1 (length ws) swept-heap
+  ok : SweptOk keeps 1 (length ws) swept-heap
   ok = sweep-ok (isStart m) keeps kept (granules m) (o .heap-filled) (omega (arith, len))
 
   four : length (take 4 (m .heap)) ≡ 4

@@ -12,12 +12,12 @@ use Rattle.model.specs.Mutate.{freeFrom, freeGranules}
 use Rattle.model.specs.Finish.{runTail, Swept, swept, sweep, finishWith}
 use Rattle.model.proofs.Laws.{bool-cases}
 use Rattle.theory.specs.Heap.{runWords, Bare, Filled, f-end, f-object, f-run, HeapFilled, HeapSized}
-use Rattle.theory.specs.Pieces.{Pieces, at-end, at-object, at-run, total, sizes, usedGranules}
+use Rattle.theory.specs.Pieces.{Reads, Pieces, at-end, at-object, at-run, total, sizes, usedGranules}
 use Rattle.theory.proofs.Lists.{nth-head, length-run}
 use Rattle.theory.proofs.Walk.{word-behind, object-at}
 use Rattle.theory.proofs.Sweep.{sweep-piece, not-kept}
 use Rattle.theory.proofs.FinishHeap.{finish-starts, finish-filled, finish-words, finish-sized}
-use Rattle.theory.proofs.Pieces.{Reads, reads-behind, front, image-pieces}
+use Rattle.theory.proofs.Pieces.{reads-behind, front, image-pieces}
 
 -- ---- sums
 
@@ -48,7 +48,7 @@ module _ (st : ℕ → Bool) (rd : ℕ → ℕ → ℕ) where
 
 -- ---- the chain has every granule that no object has
 
-chain-end : (m : Image) (n : ℕ) → freeFrom m n 0 ≡ 0
+pub chain-end : (m : Image) (n : ℕ) → freeFrom m n 0 ≡ 0
 unfolding freeFrom
 chain-end m zero = refl
 chain-end m (suc n) = refl

@@ -1,32 +1,22 @@
 -- What the lines of "undamaged" on the heap say, for an image whose sections have their lengths.
-use mathlib.Core.Path.{_≡_, refl, sym, ap, _∙_}
+use mathlib.Core.Path.{_≡_, refl, sym, _∙_}
 use mathlib.Core.Logic.{_⊎_, inl, inr}
-use mathlib.Core.Bool.{Bool, true, false, not, cond}
+use mathlib.Core.Bool.{true, false}
 use mathlib.Core.List.{List}
-use Prim.Native.Nat.{ℕ, zero, suc, _+_, _*_, _/_, _%_, _^_, _≤_, _<_}
+use Prim.Native.Nat.{ℕ, zero, suc, _*_, _/_, _%_, _^_, _≤_, _<_}
 use native.Mathlib.Nat.{zero-div}
-use native.Mathlib.Decide.{ℕ-discrete, decLt}
+use native.Mathlib.Decide.{decLt}
 use native.Mathlib.Omega.{arith}
-use lib.Dec.{eqb}
 use lib.ListN.{length, List·getD-eq-default}
-use borrow.Author.Tests.{eqb-true, not-true}
-use Rattle.model.specs.Base.{nth, every, testBit, bit}
-use Rattle.model.specs.Image.{Image, mostCards, granules, isStart}
+use borrow.Author.Tests.{not-true}
+use Rattle.model.specs.Base.{nth, testBit, bit}
+use Rattle.model.specs.Image.{Image, granules, isStart}
 use Rattle.model.specs.Undamaged.{zeroGranule, filled}
 use Rattle.model.proofs.Laws.{false≢, every-use}
 use Rattle.theory.specs.Heap.{HeapFilled, HeapSized}
 use Rattle.theory.proofs.Walk.{filled-use}
 
 -- ---- bit words of the two widths
-
-pub width-of : (w : ℕ) → 1 ≤ mostCards w → (w ≡ 16) ⊎ (w ≡ 32)
-unfolding mostCards
-width-of w h = go (eqb w 16) refl (eqb w 32) refl h
-  where
-    go : (a : Bool) → eqb w 16 ≡ a → (b : Bool) → eqb w 32 ≡ b → 1 ≤ cond a 512 (cond b 65536 0) → (w ≡ 16) ⊎ (w ≡ 32)
-    go true e b e₁ l = inl (eqb-true _ _ e)
-    go false e true e₁ l = inr (eqb-true _ _ e₁)
-    go false e false e₁ l = absurd (omega arith)
 
 -- every granule has its bit
 pub bit-word : (w k g : ℕ) → (w ≡ 16) ⊎ (w ≡ 32) → g < 64 * k → g / w < 64 * k / w

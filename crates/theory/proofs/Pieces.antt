@@ -11,13 +11,9 @@ use Rattle.model.specs.Image.{Image, granules, word, isStart, firstRun}
 use Rattle.model.specs.Finish.{runTail}
 use Rattle.model.proofs.Entries.{nth-drop}
 use Rattle.theory.specs.Heap.{runWords, Filled, f-end, f-object, f-run, HeapFilled, HeapSized}
-use Rattle.theory.specs.Pieces.{ObjectHere, RunHere, Pieces, at-end, at-object, at-run}
+use Rattle.theory.specs.Pieces.{Reads, ObjectHere, RunHere, Pieces, at-end, at-object, at-run}
 use Rattle.theory.proofs.Lists.{nth-head, nth-left, length-run, run-next, run-zero, nth-behind}
 use Rattle.theory.proofs.Walk.{object-filled, run-filled, word-behind}
-
--- the words from granule g on are those that rd reads
-abbrev pub Reads : (ℕ → ℕ → ℕ) → ℕ → List ℕ → Type 0
-Reads rd g ws = (h i : ℕ) → g ≤ h → nth ws (4 * (h - g) + i) ≡ rd h i
 
 module _ (st : ℕ → Bool) (rd : ℕ → ℕ → ℕ) (e : ℕ) where
   pub reads-behind : (g s : ℕ) (l r : List ℕ) → length l ≡ 4 * s → Reads rd g (l ++ r) → Reads rd (g + s) r

@@ -9,7 +9,7 @@ use borrow.Author.Tests.{eqb-false, ne-eqb, ltb-false, leb-false}
 use Rattle.model.specs.Image.{Image, word, links, link, reg, owed, withHeap, withCards, setWord, setState, dirtyCard}
 use Rattle.model.specs.Records.{Step, Kind, new, load, store, barrier, handOver, dropReg, read, write, begin, scan, trace, clean, finish, isDue, unknown, kindOf}
 use Rattle.model.specs.Steps.{isNew, offDesk, badSize, object, noObject, pastEnd, refusal, accept, act, outcome}
-use Rattle.model.specs.Plain.{Object, made, PlainStore, putLink, Value, as-is, PlainDone, byPlayerKind, holding, plainRefusal, plainAccept, plainAct, plainOutcome, feeds, named, reading}
+use Rattle.model.specs.Plain.{Object, made, PlainStore, putLink, Value, as-is, PlainDone, byPlayerKind, holding, plainRefusal, plainAccept, plainAct, plainOutcome, feeds, objectAt, upd, named, reading}
 use Rattle.model.specs.Claim.{Chain, chain-link}
 use Rattle.model.proofs.Laws.{false≢, some-false}
 use Rattle.theory.specs.Same.{Names, SameStore, Related, Facts, KeptWords, ObjectMade, NewMade, event, Admitted}
@@ -47,6 +47,12 @@ as-number : (name : ℕ → Object) (i : ℕ) → Names name i → (m m′ : Ima
 unfolding named reading
 as-number name i ns m m′ s r v q w e no-new no-object a = record { names-after = rw no-new (names-more ns); same-after = rw no-new a; same-reply = rw (no-object, e) }
 
+-- a granule number read: nil is nil, whatever it is called
+object-at : (name : ℕ → Object) (i g : ℕ) → Names name i → objectAt name g ≡ name g
+unfolding objectAt
+object-at name i zero ns = sym (ns .name-nil)
+object-at name i (suc g) ns = refl
+
 -- 8 does not apply
 size-fits : (s : Step) → badSize s new ≡ false → s .c + 2 ≤ 4 * s .b
 unfolding badSize isNew
@@ -80,7 +86,7 @@ module _ (m : Image) (f : Facts m) (s : Step) (q : PlainStore) (name : ℕ → O
   new-alike made-by z k a = record {
     names-after = rw k (names-new ns g (o .not-nil));
     same-after = rw k (same-new m _ f (s .who) (s .a) (s .b) (s .c) g (low (s .who) (some-false _ (a .on-desk) 0)) (low (s .a) (some-false _ (a .on-desk) 1)) (size-fits s (a .good-size)) o name i ns q S);
-    same-reply = rw (k, upd-same name g (made i));
+    same-reply = rw (k, object-at (upd name g (made i)) (suc i) g (names-new ns g (o .not-nil)), upd-same name g (made i));
   }
     where
       g : ℕ
@@ -94,7 +100,7 @@ module _ (m : Image) (f : Facts m) (s : Step) (q : PlainStore) (name : ℕ → O
   load-alike k a = record {
     names-after = rw k (names-more ns);
     same-after = rw (k, e) (same-setReg m f (s .who) (s .a) l hp (low (s .a) (some-false _ (a .on-desk) 1)) name q S (λ nz. chain-link g (s .c) cg lc refl nz));
-    same-reply = rw (k, e);
+    same-reply = rw (k, object-at name i l ns, e);
   }
     where
       g : ℕ

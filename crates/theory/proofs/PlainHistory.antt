@@ -1,10 +1,10 @@
 -- The history of a list of batches is a row of runs, so that the plain store answers over it as the real one.
-use mathlib.Core.Path.{_≡_, refl, sym, ap, subst, _∙_}
+use mathlib.Core.Path.{_≡_, refl, subst}
 use mathlib.Core.List.{List, [], _∷_, _++_}
 use Prim.Native.Nat.{ℕ, zero, suc}
 use Rattle.model.specs.Image.{Image, parts, words}
 use Rattle.model.specs.Records.{Step, finish, records}
-use Rattle.model.specs.Steps.{Event, refusal, act, step, run, after}
+use Rattle.model.specs.Steps.{refusal, act, step, run, after}
 use Rattle.model.specs.Batch.{Batch, callNumber, events, batchWith, batchAt}
 use Rattle.model.specs.Plain.{SameAnswers}
 use Rattle.model.specs.Claim.{Lent, eventsOf, history}

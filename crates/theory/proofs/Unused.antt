@@ -8,16 +8,12 @@ use native.Mathlib.Omega.{arith}
 use Rattle.model.specs.Base.{nth}
 use Rattle.model.specs.Image.{Image, granules, word, isStart, size}
 use Rattle.theory.specs.Heap.{HeapFilled, HeapSized}
-use Rattle.theory.specs.Pieces.{at-end, at-object, at-run, ObjectIn, RunIn, PiecesIn, RunApart, Unused, InRun}
+use Rattle.theory.specs.Pieces.{at-end, at-object, at-run, ObjectIn, RunIn, PiecesIn, RunApart, Clear, Unused, InRun}
 use Rattle.theory.proofs.Pieces.{behind-run, image-pieces}
 use Rattle.model.proofs.Laws.{false≢}
 
 module _ (m : Image) where
-  -- objects that start below x end there
-  abbrev pub Clear : ℕ → Type 0
-  Clear x = (h : ℕ) → isStart m h ≡ true → h < x → h + size m h ≤ x
-
-  pub clear-object : (x : ℕ) → ObjectIn m x → Clear x → Clear (x + word m x 0)
+  pub clear-object : (x : ℕ) → ObjectIn m x → Clear m x → Clear m (x + word m x 0)
   unfolding size
   clear-object x o c h e l = cs (decLt h x) (ℕ-discrete h x)
     where
@@ -26,7 +22,7 @@ module _ (m : Image) where
       cs (no y) (yes q) = rw q (omega arith)
       cs (no y) (no q) = false≢ (sym (o .alone h (omega arith) l) ∙ e)
 
-  pub clear-run : (x : ℕ) → RunIn m x → Clear x → Clear (x + word m x 0)
+  pub clear-run : (x : ℕ) → RunIn m x → Clear m x → Clear m (x + word m x 0)
   clear-run x o c h e l = cs (decLt h x) (ℕ-discrete h x)
     where
       cs : Dec (h < x) → Dec (h ≡ x) → h + size m h ≤ x + word m x 0
@@ -34,7 +30,7 @@ module _ (m : Image) where
       cs (no y) (yes q) = false≢ (sym (o .no-start) ∙ (rw q at e))
       cs (no y) (no q) = false≢ (sym (o .alone h (omega arith) l) ∙ e)
 
-  pub run-apart : (x : ℕ) → 1 ≤ x → RunIn m x → Clear x → RunApart m x
+  pub run-apart : (x : ℕ) → 1 ≤ x → RunIn m x → Clear m x → RunApart m x
   run-apart x hx o c = record { not-nil = hx; is-run = o; apart = λ h e. cs h e (decLt h x) (ℕ-discrete h x) (decLt h (x + word m x 0)) }
     where
       cs : (h : ℕ) → isStart m h ≡ true → Dec (h < x) → Dec (h ≡ x) → Dec (h < x + word m x 0) → (h + size m h ≤ x) ⊎ (x + word m x 0 ≤ h)
@@ -43,12 +39,20 @@ module _ (m : Image) where
       cs h e (no y) (no q) (yes k) = false≢ (sym (o .alone h (omega arith) k) ∙ e)
       cs h e (no y) (no q) (no k) = inr (omega arith)
 
-  pub clear-one : HeapFilled m → Clear 1
+  -- the granules of a run are unused
+  pub run-unused : (r y : ℕ) → RunApart m r → r ≤ y → y < r + word m r 0 → Unused m y
+  run-unused r y a l q = record { in-range = (omega (arith, a .not-nil), omega (arith, a .is-run .ends)); in-no-object = λ h e u v. cs h u v (a .apart h e) }
+    where
+      cs : (h : ℕ) → h ≤ y → y < h + size m h → (h + size m h ≤ r) ⊎ (r + word m r 0 ≤ h) → ⊥
+      cs h u v (inl k) = omega arith
+      cs h u v (inr k) = omega arith
+
+  pub clear-one : HeapFilled m → Clear m 1
   clear-one o h e l = absurd (omega (arith, (o .start-range h e) .0))
 
   -- ---- unused granules
 
-  in-run : {x next : ℕ} {f : Bool} (y : ℕ) → Unused m y → 1 ≤ x → PiecesIn m x next f → Clear x → x ≤ y → InRun m y
+  in-run : {x next : ℕ} {f : Bool} (y : ℕ) → Unused m y → 1 ≤ x → PiecesIn m x next f → Clear m x → x ≤ y → InRun m y
   in-run y u h at-end c l = absurd (omega (arith, u .in-range))
   in-run {x} y u h (at-object o p) c l = cs (λ k. in-run y u (omega arith) p (clear-object x o c) k) (decLt y (x + word m x 0))
     where

@@ -5,4 +5,6 @@ pub mod Pieces
 pub mod Same
 pub mod Cycle
 pub mod Events
+pub mod Sweep
+pub mod Finish
 pub mod New

@@ -2,7 +2,7 @@
 use mathlib.Core.Path.{_≡_}
 use mathlib.Core.Bool.{Bool, false, not}
 use mathlib.Core.List.{List, [], _++_}
-use Prim.Native.Nat.{ℕ, suc, _+_, _*_, _≤_, _<_}
+use Prim.Native.Nat.{ℕ, suc, _+_, _*_, _<_}
 use lib.Dec.{eqb}
 use lib.ListN.{length}
 use Rattle.model.specs.Image.{Image, word, isStart, size, links, link, levels, level, reg, owed, setReg}
@@ -10,7 +10,7 @@ use Rattle.model.specs.Records.{Step, Kind, new}
 use Rattle.model.specs.Steps.{Done, Event, offDesk, badSize, noObject, pastEnd, refusal, act, run, after}
 use Rattle.model.specs.Plain.{Object, old, made, PlainStore, PlainDone, named, reading}
 use Rattle.model.specs.Claim.{Chain}
-use Rattle.theory.specs.Heap.{HeapFilled, Laid, Proper}
+use Rattle.theory.specs.Heap.{Laid, Proper}
 
 -- ---- the relation
 
@@ -63,8 +63,6 @@ pub record Admitted (m : Image) (s : Step) (n : Kind) : Type 0 where
 -- ---- what an undamaged image has
 
 pub record Facts (m : Image) : Type 0 where
-  pub some-card : 1 ≤ m .k
-  pub heap-filled : HeapFilled m
   pub proper : Proper m
   pub laid : Laid m
   pub regs-length : length (m .regs) ≡ 256
