@@ -10,11 +10,10 @@ use Rattle.model.specs.Base.{table}
 use Rattle.model.specs.Image.{Image}
 use Rattle.model.specs.Records.{Step, recordBytes, records}
 use Rattle.model.specs.Steps.{Done, Event, step, run, after, answersOf}
-use Rattle.model.proofs.Words.{Fits}
 use Rattle.theory.specs.Lines.{Undamaged}
+use Rattle.theory.proofs.Kept.{step-keeps}
 use Rattle.theory.proofs.PlainList.{run-append}
 use Rattle.image.specs.Sized.{Sized, narrow}
-use Rattle.image.proofs.Sections.{narrow-fits}
 use Rattle.show_store.specs.Run.{recordAt, ran, answered}
 
 -- ---- tables, runs and answers with one more at the end
@@ -88,8 +87,7 @@ pub ran-none : (k : ℕ) (im bytes answers : List ℕ) (n : ℕ) → Sized k im 
 unfolding ran table run after answersOf
 ran-none k im bytes answers n z u = record { low = zero-le; image = refl; written = refl; answers-long = refl; sized = z; same = refl; long = refl; undamaged = u }
 
-module _ (keeps : (m : Image) (s : Step) → Fits m → Undamaged m → Undamaged ((step m s) .image))
-    (k : ℕ) (im₀ bytes answers₀ : List ℕ) (n : ℕ) (im answers : List ℕ) (i : ℕ) (im₁ answers₁ : List ℕ) where
+module _ (k : ℕ) (im₀ bytes answers₀ : List ℕ) (n : ℕ) (im answers : List ℕ) (i : ℕ) (im₁ answers₁ : List ℕ) where
   pub ran-more : Ran k im₀ bytes answers₀ n im answers i → i < n → length answers₀ ≡ 2 * n
       → narrow k im₁ ≡ (step (narrow k im) (recordAt bytes i)) .image → answers₁ ≡ answered answers i (step (narrow k im) (recordAt bytes i))
       → length im₁ ≡ length im → length answers₁ ≡ length answers → Ran k im₀ bytes answers₀ n im₁ answers₁ (i + 1)
@@ -104,7 +102,7 @@ module _ (keeps : (m : Image) (s : Step) → Fits m → Undamaged m → Undamage
         sized = record { low = r .sized .low; high = r .sized .high; long = d ∙ r .sized .long };
         same = d ∙ r .same;
         long = c ∙ r .long;
-        undamaged = rw e (keeps (narrow k im) (recordAt bytes i) (narrow-fits k im (r .sized)) (r .undamaged));
+        undamaged = rw e (step-keeps (narrow k im) (recordAt bytes i) (r .undamaged));
       }
 
 -- ---- the end
