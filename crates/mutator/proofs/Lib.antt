@@ -1,0 +1,4 @@
+pub mod Held
+pub mod Numbers
+pub mod Asking
+pub mod Loading

@@ -1,0 +1,1 @@
+// The steps on registers and owed cards: barrier, hand, drop.
