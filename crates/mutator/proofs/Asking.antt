@@ -21,7 +21,6 @@ use Rattle.mutator.specs.Asks.{Asks, AsksObject, Inside}
 use Rattle.mutator.proofs.Held.{off-says, owes-says, ready, under}
 use Rattle.mutator.proofs.Numbers.{off-desk, still-owing, no-object, past-end, accepted}
 use Rattle.model.specs.Base.{some}
-use Rattle.model.specs.Plain.{named}
 use mathlib.Core.List.{List}
 
 -- ---- the player and the register

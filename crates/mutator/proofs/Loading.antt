@@ -14,7 +14,6 @@ use Rattle.mutator.specs.Asks.{AsksObject}
 use Rattle.mutator.proofs.Held.{over, under, ready}
 use Rattle.mutator.proofs.Numbers.{off-desk}
 use Rattle.mutator.proofs.Asking.{held-past, held-acts, count-past, count-inside}
-use Rattle.model.specs.Plain.{named}
 
 module _ (m : Image) (p a b c : ℕ) where
   pub load-off : 16 ≤ a → doneOf OffDesk m ≡ step m (asked 2 p a b c)

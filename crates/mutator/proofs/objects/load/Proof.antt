@@ -1,11 +1,11 @@
 use borrow.Author.Needs.{needs}
-use Rattle.mutator.proofs.Loading.{load-off, load-asks}
 use Rattle.mutator.proofs.Asking.{held-off, held-owing}
+use Rattle.mutator.proofs.Loading.{load-off, load-asks}
 use Rattle.model.specs.Collect.{held}
 use Rattle.model.specs.Examples.{left}
+use Rattle.image.specs.Answer.{asked}
 use mathlib.Core.Path.{sym, _∙_}
 use native.Mathlib.Omega.{arith}
-use Rattle.image.specs.Answer.{asked}
 use Rattle.mutator.proofs.objects.load.Statement.{statement}
 use Rattle.mutator.proofs.objects.load.Tie as tie
 use Rattle.mutator.proofs.objects.load.Reads as reads
@@ -27,6 +27,9 @@ enum-told-2 c = search needs
 
 enum-known-h : tie.Need-enum-known-h
 enum-known-h c = search needs
+
+cast-load-link : tie.Need-cast-load-link
+cast-load-link c = search needs
 
 load-link-requires : tie.Need-load-link-requires
 load-link-requires c κs = (search needs, (c .before .before .before .before .before .before .before .before .pre .1, (omega arith, sym (c .before .before .before .before .held .ensures) ∙ c .before .before .h .given .1)))
@@ -60,6 +63,7 @@ load-spec =
     enum-told
     enum-told-2
     enum-known-h
+    cast-load-link
     load-link-requires
     same-length
     returns-2

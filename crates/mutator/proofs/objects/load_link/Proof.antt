@@ -1,3 +1,4 @@
+-- past the test of g
 use borrow.Author.Needs.{needs}
 use Rattle.mutator.specs.Asks.{Inside}
 use Rattle.mutator.proofs.Asking.{held-nil, held-inside}
@@ -17,7 +18,6 @@ use Rattle.image.proofs.set_reg.Reads as set-reg-reads
 use Rattle.mutator.proofs.words.links.Reads as links-reads
 use Rattle.mutator.proofs.words.word.Reads as word-reads
 
--- past the test of g
 inside : (c : tie.Else1) → Inside (c .before .before .args .k) (narrow (c .before .before .args .k) (c .before .before .args .im .now)) (c .before .before .args .g)
 inside c = let q = c .before .before .pre in held-inside _ _ (q .1 .0) _ _ _ (q .1 .1 .1) (c .if1 .left)
 

@@ -22,12 +22,9 @@ returns-3 c = search held-owes
 reg-requires : tie.Need-reg-requires
 reg-requires c κs = search needs
 
-cast-t6 : tie.Need-cast-t6
-cast-t6 c = search needs
-
 returns-4 : tie.Need-returns-4
 returns-4 c = search held-holds
 
 pub held-spec : {M : Type 1} → statement M
 held-spec =
-    tie.close (tie.spec returns returns-2 owed-requires returns-3 reg-requires cast-t6 returns-4)
+    tie.close (tie.spec returns returns-2 owed-requires returns-3 reg-requires returns-4)
