@@ -27,6 +27,12 @@ uint16_t fresh(uint16_t *image, size_t words);
 /* Gives 0 if the image is undamaged, 1 if its length fits no store, 2 if it is damaged; writes nothing. */
 uint16_t judge(const uint16_t *image, size_t words);
 
+/* Runs step records of 8 bytes (kind, player or tracer, then a, b, c of 16 bits each, low byte first) and fills two words a step
+ * into the answer space: the step's number, 0 if accepted, and its value. Gives 0; or 1 if a length does not fit (the image's,
+ * step bytes not a multiple of 8, answers not two words a step), or 2 if the image is damaged: then nothing is written. An
+ * undamaged image is handed back undamaged. A refused step gets its number and the value 0 and alters nothing else. */
+uint16_t batch(uint16_t *image, size_t words, const uint8_t *steps, size_t bytes, uint16_t *answers, size_t answer_words);
+
 #ifdef __cplusplus
 }
 #endif

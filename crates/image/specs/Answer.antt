@@ -7,7 +7,7 @@ use Rattle.image.specs.declared.answer.Answer.{Answer}
 use Rattle.image.specs.declared.answer.Answer.the-variants.{Done, Unknown, OffDesk, Owing, NoObject, PastEnd, BadSize, NoRoom, WrongPhase, NothingToDo}
 
 -- "number (0 if accepted)"
-abbrev pub numberOf : Answer → ℕ
+unfoldable pub numberOf : Answer → ℕ
 numberOf (Done v) = 0
 numberOf Unknown = 3
 numberOf OffDesk = 4
@@ -20,7 +20,7 @@ numberOf WrongPhase = 10
 numberOf NothingToDo = 11
 
 -- "the value is 0 unless named"
-abbrev pub valueOf : Answer → ℕ
+unfoldable pub valueOf : Answer → ℕ
 valueOf (Done v) = v
 valueOf Unknown = 0
 valueOf OffDesk = 0

@@ -1,19 +1,17 @@
 -- Bits of bit words, for any width.
-use mathlib.Core.Path.{_≡_, refl, sym, ap, subst, _∙_}
-use mathlib.Core.Logic.{_⊎_, inl, inr}
-use mathlib.Core.Bool.{Bool, true, false, not, cond, _&&_, _||_}
-use mathlib.Core.List.{List, [], _∷_}
-use Prim.Native.Nat.{ℕ, zero, suc, _+_, _*_, _-_, _/_, _%_, _^_, _≤_, _<_}
-use native.Mathlib.Nat.{add-div-right, add-mul-div-right, pow-suc, div-add-mod', mod-lt, add-comm, zero-div}
+use mathlib.Core.Path.{_≡_, refl, sym, ap, _∙_}
+use mathlib.Core.Bool.{Bool, true, false, cond}
+use mathlib.Core.List.{List}
+use Prim.Native.Nat.{ℕ, zero, suc, _+_, _-_, _/_, _%_, _^_, _≤_, _<_}
+use native.Mathlib.Nat.{add-div-right, add-mul-div-right, pow-suc, div-add-mod', zero-div}
 use native.Mathlib.Decide.{ℕ-discrete, decLt}
 use native.Mathlib.Omega.{arith}
-use lib.Dec.{T, leb, ltb, eqb}
-use lib.ListN.{length, getD, set, replicate}
-use lib.Seq.{getD-set-same, getD-set-other, set-out}
+use lib.Dec.{eqb}
+use lib.ListN.{length, getD, replicate}
 use lib.Pow.{pow-pos, pow-add, shr-shr}
-use borrow.Author.Tests.{eqb-true, eqb-false, eq-eqb, ne-eqb}
+use borrow.Author.Tests.{eqb-false, eq-eqb}
 use Rattle.model.specs.Base.{nth, put, testBit, withBit, bit, setBit, addBits}
-use Rattle.model.proofs.Laws.{bool-cases, nth-put-same, nth-put-other, put-out, length-put, false≢}
+use Rattle.model.proofs.Laws.{nth-put-same, nth-put-other, put-out, length-put}
 
 below-bit : (x i d : ℕ) → (x + 2 ^ (suc d + i)) / 2 ^ i % 2 ≡ x / 2 ^ i % 2
 below-bit x i d = rw (pow-add 2 (suc d) i, add-mul-div-right x (2 ^ suc d) (pow-pos i), pow-suc 2 d) (omega arith)

@@ -12,10 +12,11 @@ use Rattle.model.specs.Image.{Image, marked, withCards, withPlayers, withGenera
 use Rattle.model.specs.Collect.{scanPlayer, beginCycle}
 use Rattle.model.proofs.Laws.{false≢, nth-put-same, nth-put-other, length-put}
 use Rattle.model.proofs.Entries.{nth-drop}
-use Rattle.theory.specs.Cover.{Covered, Cover, on-dirty, on-entry, on-hand, on-card, owes-by, to-nil, to-marked, is-coming, is-owed}
+use Rattle.theory.specs.Cover.{Covered, Cover, owes-by, to-nil, to-marked, is-coming, is-owed}
 use Rattle.theory.specs.Lines.{NilOr, GeneralOk, Start, Lines, Idle, none}
+use Rattle.theory.proofs.Covering.{same-coming}
 use Rattle.theory.proofs.Lines.{put-players, put-general}
-use Rattle.theory.proofs.Reaching.{each-take, Stays, reachAll-does}
+use Rattle.theory.proofs.Reaching.{each-take, Stays, reachAll-does, frame}
 use Rattle.theory.proofs.Sections.{scanned-set}
 
 -- ---- scan
@@ -27,25 +28,22 @@ scanned-cover m p cov g i hg k l = go (cov g i hg k l)
     go : Covered m g i → Covered (setScanned m p) g i
     go (to-nil q) = to-nil q
     go (to-marked q) = to-marked q
-    go (is-coming (on-dirty q)) = is-coming (on-dirty q)
-    go (is-coming (on-entry a e ha he q)) = is-coming (on-entry a e ha he q)
-    go (is-coming (on-hand u hu q r)) = is-coming (on-hand u hu q r)
-    go (is-coming (on-card u hu q r)) = is-coming (on-card u hu q r)
+    go (is-coming d) = is-coming (same-coming m (setScanned m p) refl refl refl g i d)
     go (is-owed (owes-by q r hq hr ow e)) = is-owed (owes-by q r hq hr (nth-put-other (m .players) (2 * p + 1) (2 * q) 1 (omega arith) ∙ ow) e)
 
 scanned-lines : (m : Image) → Lines m → (p : ℕ) → p < 16 → Lines (setScanned m p)
 unfolding setScanned
 scanned-lines m o p hp = put-players o _ (scanned-set (o .players-ok) p hp)
 
-scanned-general : (m : Image) (p : ℕ) → (setScanned m p) .general ≡ m .general
+scanned-frame : (m : Image) (p : ℕ) → frame (setScanned m p) ≡ frame m
 unfolding setScanned withPlayers
-scanned-general m p = refl
+scanned-frame m p = refl
 
 pub scan-does : (m : Image) → Lines m → Cover m → (t p : ℕ) → t < 8 → p < 16 → Stays m (scanPlayer m t p)
 unfolding scanPlayer
 scan-does m o cov t p ht hp =
     let r = reachAll-does m o cov t ht (take 16 (drop (16 * p) (m .regs))) (each-take (NilOr (Start m)) (inl refl) 16 (drop (16 * p) (m .regs)) (λ i. rw (nth-drop (16 * p) (m .regs) i) (o .regs-ok .values (16 * p + i)))) in
-    record { lines = scanned-lines _ (r .lines) p hp; cover = scanned-cover _ p (r .cover); general-same = scanned-general _ p ∙ r .general-same }
+    record { lines = scanned-lines _ (r .lines) p hp; cover = scanned-cover _ p (r .cover); frame-same = scanned-frame _ p ∙ r .frame-same }
 
 -- ---- begin: nothing runs, so nothing is marked, held or entered
 

@@ -1,9 +1,9 @@
 -- What each write carries: start bits stay, and what comes into registers, links and marks was there before.
 use mathlib.Core.Path.{_≡_, refl, sym, ap, subst, _∙_}
 use mathlib.Core.Logic.{_⊎_, inl, inr}
-use mathlib.Core.Bool.{Bool, true, false}
-use mathlib.Core.List.{List, [], _∷_}
-use Prim.Native.Nat.{ℕ, zero, suc, _+_, _*_, _-_, _/_, _<_, _≤_}
+use mathlib.Core.Bool.{true}
+use mathlib.Core.List.{List}
+use Prim.Native.Nat.{ℕ, zero, suc, _+_, _*_, _-_, _<_}
 use native.Mathlib.Decide.{ℕ-discrete, decLt}
 use native.Mathlib.Omega.{arith}
 use lib.ListN.{length}
@@ -12,7 +12,7 @@ use Rattle.model.specs.Image.{Image, word, isStart, marked, size, links, link, 
 use Rattle.model.specs.Mutate.{Room, roomFor, setNext, takeRun, newObject}
 use Rattle.model.proofs.Laws.{nth-put-same, nth-put-other, put-out}
 use Rattle.theory.specs.Heap.{Laid}
-use Rattle.theory.specs.Cycle.{Source, in-reg, in-link, is-marked, no-start, LinkFrom, had-link, to-source, Carries, Quiet, Placed}
+use Rattle.theory.specs.Cycle.{Source, in-reg, is-marked, no-start, LinkFrom, had-link, to-source, Carries, Quiet, Placed}
 use Rattle.theory.proofs.Quiet.{silent}
 
 -- ---- steps without a write, and silent writes

@@ -10,16 +10,15 @@ use lib.ListN.{length, getD}
 use borrow.Author.Tests.{eqb-true, eqb-false, not-true, not-false}
 use Rattle.model.specs.Base.{put, lowest, first}
 use Rattle.model.specs.Image.{Image, marked, state, hand, handCard, nextGranule, withCards, withTracers, setState, setTracer}
-use Rattle.model.specs.Undamaged.{cover}
 use Rattle.model.specs.Collect.{traceHand, putCard, nextMarked, cleanTo, cleanCard, lowestDirty, takeCard, cleanLine, cleanStep}
 use Rattle.model.proofs.Laws.{false≢, nth-put-same, nth-put-other, best-ok}
 use Rattle.theory.specs.Cover.{Cover}
 use Rattle.theory.specs.Lines.{Pair, CardInHand, Lines, none, one}
 use Rattle.theory.proofs.Covering.{Any, But, on, off, takeObject-cover, card-cover, takeCard-cover}
 use Rattle.theory.proofs.Lines.{put-tracers, put-cards}
-use Rattle.theory.proofs.Reaching.{Stays}
+use Rattle.theory.proofs.Reaching.{Stays, frame}
 use Rattle.theory.proofs.Sections.{card-ok, state-ok, taken-on}
-use Rattle.theory.proofs.Tracing.{zero-unmarked, takeObject-lines, traceHand-does, takeObject-general}
+use Rattle.theory.proofs.Tracing.{zero-unmarked, takeObject-lines, traceHand-does, takeObject-frame}
 
 -- ---- the card in hand
 
@@ -27,9 +26,9 @@ card-lines : {m : Image} → Lines m → (t c n : ℕ) → t < 8 → Pair (CardI
 unfolding putCard setTracer withTracers
 card-lines o t c n ht ok = put-tracers o _ (card-ok (o .tracers-ok) t ht c n ok)
 
-putCard-general : (m : Image) (t c n : ℕ) → (putCard m t c n) .general ≡ m .general
+putCard-frame : (m : Image) (t c n : ℕ) → frame (putCard m t c n) ≡ frame m
 unfolding putCard setTracer withTracers
-putCard-general m t c n = refl
+putCard-frame m t c n = refl
 
 putCard-marked : (m : Image) (t c n g : ℕ) → marked m g ≡ true → marked (putCard m t c n) g ≡ true
 unfolding putCard setTracer withTracers marked
@@ -89,7 +88,7 @@ cleanCard-does m o cov t ht e nz = go (card-in-hand m o t ht nz) (nextMarked m (
     go d zero q = record {
       lines = card-lines o t 0 0 ht (none refl refl);
       cover = off _ (card-cover Any m t 0 0 hl ht (on Any m cov) (λ g x k a b. false≢ (sym (next-none m _ _ q g b (omega arith)) ∙ k)));
-      general-same = putCard-general m t 0 0;
+      frame-same = putCard-frame m t 0 0;
     }
     go d (suc g) q =
         let r : Next m (64 * handCard m t - nextGranule m t) (nextGranule m t) g = next-some m _ _ g q in
@@ -98,7 +97,7 @@ cleanCard-does m o cov t ht e nz = go (card-in-hand m o t ht nz) (nextMarked m (
           lines = takeObject-lines o′ t g ht (putCard-marked m t (handCard m t) (suc g) g (r .is-marked));
           cover = takeObject-cover (putCard m t (handCard m t) (suc g)) t g (o′ .tracers-ok .sized) ht (putCard-hand m t (handCard m t) (suc g) e) (zero-unmarked o′)
               (card-cover (But g) m t (handCard m t) (suc g) hl ht (on (But g) m cov) (λ h x k a b. (a, past r h x k b (decLt h g))));
-          general-same = takeObject-general _ t g ∙ putCard-general m t (handCard m t) (suc g);
+          frame-same = takeObject-frame _ t g ∙ putCard-frame m t (handCard m t) (suc g);
         }
       where
         past : Next m (64 * handCard m t - nextGranule m t) (nextGranule m t) g → (h : ℕ) → (h ≡ g → ⊥) → marked m h ≡ true → nextGranule m t ≤ h → Dec (h < g) → suc g ≤ h
@@ -111,7 +110,7 @@ lowestDirty-ok m c e = let u = best-ok _ _ (m .k) c e in (u .0, eqb-true _ _ (u 
 
 takeCard-does : (m : Image) → Lines m → Cover m → (t c : ℕ) → t < 8 → handCard m t ≡ 0 → c < m .k → state m c ≡ 1 → Stays m (takeCard m t c)
 unfolding takeCard putCard setState setTracer withTracers withCards state
-takeCard-does m o cov t c ht e hc s = record { lines = card-lines o′ t (suc c) (64 * c) ht (one (omega arith) ok); cover = takeCard-cover m t c (o .tracers-ok .sized) ht e cov; general-same = refl }
+takeCard-does m o cov t c ht e hc s = record { lines = card-lines o′ t (suc c) (64 * c) ht (one (omega arith) ok); cover = takeCard-cover m t c (o .tracers-ok .sized) ht e cov; frame-same = refl }
   where
     o′ : Lines (setState m c 2)
     o′ = put-cards o _ (state-ok (o .cards-ok) c 2 hc (omega arith)) (λ d. taken-on (o .cards-ok) c 2 d hc (λ x. omega arith))
@@ -132,4 +131,4 @@ clean-does m o cov t ht = go (not (eqb (hand m t) 0)) refl (not (eqb (handCard m
         from : (n : ℕ) → lowestDirty m ≡ n → (lowestDirty m ≡ 0 → ⊥) → Stays m (takeCard m t (lowestDirty m - 1))
         from zero e nz = absurd (nz e)
         from (suc c) e nz = let f = lowestDirty-ok m c e in let q : lowestDirty m - 1 ≡ c = omega arith in rw q (takeCard-does m o cov t c ht (eqb-true _ _ (not-false _ y)) (f .0) (f .1))
-    go false x false y false z = record { lines = o; cover = cov; general-same = refl }
+    go false x false y false z = record { lines = o; cover = cov; frame-same = refl }

@@ -9,8 +9,7 @@ use native.Mathlib.Omega.{arith}
 use lib.ListN.{drop}
 use Rattle.model.specs.Base.{nth, bit}
 use Rattle.model.specs.Image.{Image, granules, word, isStart, marked, links, link, reg, firstRun}
-use Rattle.model.specs.Undamaged.{fill, filled}
-use Rattle.model.specs.Steps.{run}
+use Rattle.model.specs.Undamaged.{fill}
 use Rattle.model.proofs.Laws.{false≢}
 use Rattle.theory.specs.Heap.{HeapFilled, HeapSized, Laid, Proper}
 use Rattle.theory.specs.Lines.{NilOr, Start, Lines}

@@ -1,25 +1,23 @@
 -- A finish leaves a filled heap whose starts are the kept objects, with their words.
 use mathlib.Core.Path.{_≡_, refl, sym, ap, subst, fun-ext, _∙_}
-use mathlib.Core.Logic.{_⊎_, inl, inr}
 use mathlib.Core.Bool.{Bool, true, false, cond, _&&_, _||_}
-use mathlib.Core.List.{List, [], _∷_, _++_}
-use Prim.Native.Nat.{ℕ, zero, suc, _+_, _*_, _-_, _/_, _≤_, _<_}
+use mathlib.Core.List.{List, _++_}
+use Prim.Native.Nat.{ℕ, zero, suc, _+_, _*_, _-_, _≤_, _<_}
 use native.Mathlib.Decide.{ℕ-discrete, decLt}
 use native.Mathlib.Omega.{arith}
-use lib.Dec.{eqb}
 use lib.ListN.{length, getD, take, drop, replicate, length-append, length-drop, length-replicate}
 use lib.Seq.{length-take-le, drop-at}
-use borrow.Author.Tests.{eqb-true}
 use Rattle.model.specs.Base.{nth, put, zeros, bit, setBit, table, addBits}
-use Rattle.model.specs.Image.{Image, mostCards, granules, word, isStart, marked, size, firstRun}
-use Rattle.model.specs.Finish.{Swept, sweptWords, firstOf, sweep, foundSet, keptSet, Finish, finishWith, finishStep}
-use Rattle.model.proofs.Laws.{false≢, bool-cases, and-split, nth-put-same, length-put}
+use Rattle.model.specs.Image.{Image, granules, word, isStart, marked, size, firstRun}
+use Rattle.model.specs.Finish.{Swept, sweptWords, firstOf, sweep, foundSet, keptSet, finishWith}
+use Rattle.model.proofs.Laws.{false≢, and-split, nth-put-same, length-put}
 use Rattle.model.proofs.Bits.{length-addBits, addBits-bit, setBit-other, bit-zeros}
 use Rattle.model.proofs.Entries.{nth-take}
 use Rattle.theory.specs.Heap.{Filled, HeapFilled, HeapSized}
 use Rattle.theory.proofs.Lists.{nth-left, nth-right}
 use Rattle.theory.proofs.Walk.{word-behind}
-use Rattle.theory.proofs.Sweep.{Stays, nth-swept, SweptOk, swept-filled, sweep-ok, length-swept, sweep-stays}
+use Rattle.theory.specs.Sweep.{Stays, SweptOk}
+use Rattle.theory.proofs.Sweep.{nth-swept, swept-filled, sweep-ok, length-swept, sweep-stays}
 
 -- ---- the set that is kept
 
@@ -35,21 +33,7 @@ unfolding keptSet
 kept-start m g e =
     (and-split (isStart m g) (marked m g || getD (foundSet m) g false) (table-true (granules m) (λ h. isStart m h && (marked m h || getD (foundSet m) h false)) g e)) .0
 
--- ---- bit words of the two widths
-
-pub width-of : (w : ℕ) → 1 ≤ mostCards w → (w ≡ 16) ⊎ (w ≡ 32)
-unfolding mostCards
-width-of w h = go (eqb w 16) refl (eqb w 32) refl h
-  where
-    go : (a : Bool) → eqb w 16 ≡ a → (b : Bool) → eqb w 32 ≡ b → 1 ≤ cond a 512 (cond b 65536 0) → (w ≡ 16) ⊎ (w ≡ 32)
-    go true e b e₁ l = inl (eqb-true _ _ e)
-    go false e true e₁ l = inr (eqb-true _ _ e₁)
-    go false e false e₁ l = absurd (omega arith)
-
--- every granule has its bit
-pub bit-word : (w k g : ℕ) → (w ≡ 16) ⊎ (w ≡ 32) → g < 64 * k → g / w < 64 * k / w
-bit-word w k g (inl e) h = rw e (omega arith)
-bit-word w k g (inr e) h = rw e (omega arith)
+-- ---- the start bits
 
 -- bits that are added lie below n
 added-below : (w : ℕ) (p : ℕ → Bool) (n : ℕ) (l : List ℕ) (g : ℕ) → bit w l g ≡ false → bit w (addBits w p n l) g ≡ true → g < n
@@ -83,7 +67,7 @@ module _ (m : Image) (keep : List Bool) (o : HeapFilled m) (z : HeapSized m) (ke
   len : length ws + 4 ≡ 4 * granules m
   len = omega (arith, length-drop 4 (m .heap), o .heap-words, z .some-granules)
 
-  ok : SweptOk (isStart m) keeps kept 1 (length ws) swept-heap
+  ok : SweptOk keeps 1 (length ws) swept-heap
   ok = sweep-ok (isStart m) keeps kept (granules m) (o .heap-filled) (omega (arith, len))
 
   four : length (take 4 (m .heap)) ≡ 4

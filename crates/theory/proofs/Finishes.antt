@@ -1,21 +1,19 @@
 -- Begin and finish as steps: their numbers, what is live after a begin, and what an accepted finish keeps.
 use mathlib.Core.Path.{_≡_, refl, sym, ap, subst, _∙_}
-use mathlib.Core.Logic.{_⊎_, inl, inr}
 use mathlib.Core.Bool.{Bool, true, false, cond}
-use mathlib.Core.List.{List, [], _∷_}
-use Prim.Native.Nat.{ℕ, zero, suc, _+_, _*_, _/_, _%_, _<_}
+use mathlib.Core.List.{[], _∷_}
+use Prim.Native.Nat.{ℕ, zero, suc, _+_, _*_, _/_, _%_}
 use native.Mathlib.Omega.{arith}
-use lib.Dec.{eqb, ltb}
-use lib.ListN.{length, getD}
+use lib.Dec.{eqb}
 use borrow.Author.Tests.{eqb-false, lt-ltb}
 use Rattle.model.specs.Base.{nth, first}
-use Rattle.model.specs.Image.{Image, granules, isStart, size, word, links, link, reg, running}
+use Rattle.model.specs.Image.{Image, isStart, reg, running}
 use Rattle.model.specs.Undamaged.{nilOrStart}
 use Rattle.model.specs.Records.{Step, Kind, begin, finish, kindOf}
-use Rattle.model.specs.Finish.{Kept, keptSet, finishStep}
-use Rattle.model.specs.Steps.{isNew, someSet, unnamed, offDesk, owing, noObject, pastEnd, badSize, noRoom, wrongPhase, nothingToDo, refusal, accept, finishDone, act, outcome, step}
-use Rattle.model.specs.Claim.{Chain, anyField, Same, Finishes}
-use Rattle.model.proofs.Laws.{false≢, every-cons, every-nil, either-make}
+use Rattle.model.specs.Finish.{Kept}
+use Rattle.model.specs.Steps.{isNew, unnamed, offDesk, owing, noObject, pastEnd, badSize, noRoom, wrongPhase, nothingToDo, refusal, accept, act, outcome, step}
+use Rattle.model.specs.Claim.{anyField, Same, Finishes}
+use Rattle.model.proofs.Laws.{every-cons, every-nil, either-make}
 use Rattle.model.proofs.Sited.{Sited}
 use Rattle.model.proofs.Found.{set-kept, kept-set}
 use Rattle.theory.specs.Cover.{Cover}

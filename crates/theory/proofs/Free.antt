@@ -1,24 +1,23 @@
 -- Free granules: those of the run chain are all that no object has, and a finish adds what it says.
-use mathlib.Core.Path.{_≡_, refl, sym, ap, _∙_}
+use mathlib.Core.Path.{_≡_, refl, _∙_}
 use mathlib.Core.Logic.{_⊎_, inl, inr}
 use mathlib.Core.Bool.{Bool, true, false, cond}
 use mathlib.Core.List.{List, [], _∷_, _++_}
-use Prim.Native.Nat.{ℕ, zero, suc, _+_, _*_, _-_, _≤_, _<_}
+use Prim.Native.Nat.{ℕ, zero, suc, _+_, _*_, _≤_, _<_}
 use native.Mathlib.Decide.{ℕ-discrete}
 use native.Mathlib.Omega.{arith}
-use lib.ListN.{length, getD, drop, length-append, length-drop}
-use Rattle.model.specs.Base.{nth}
-use Rattle.model.specs.Image.{Image, granules, word, isStart, size, firstRun}
+use lib.ListN.{length, getD, length-append, length-drop}
+use Rattle.model.specs.Image.{Image, granules, word, isStart}
 use Rattle.model.specs.Mutate.{freeFrom, freeGranules}
 use Rattle.model.specs.Finish.{runTail, Swept, swept, sweep, finishWith}
-use Rattle.model.proofs.Laws.{false≢, bool-cases}
-use Rattle.theory.specs.Heap.{Object, runWords, Bare, Filled, f-end, f-object, f-run, HeapFilled, HeapSized, ObjectAt}
-use Rattle.theory.specs.Pieces.{ObjectHere, RunHere, Pieces, at-end, at-object, at-run, total, sizes, usedGranules}
+use Rattle.model.proofs.Laws.{bool-cases}
+use Rattle.theory.specs.Heap.{runWords, Bare, Filled, f-end, f-object, f-run, HeapFilled, HeapSized}
+use Rattle.theory.specs.Pieces.{Reads, Pieces, at-end, at-object, at-run, total, sizes, usedGranules}
 use Rattle.theory.proofs.Lists.{nth-head, length-run}
 use Rattle.theory.proofs.Walk.{word-behind, object-at}
 use Rattle.theory.proofs.Sweep.{sweep-piece, not-kept}
 use Rattle.theory.proofs.FinishHeap.{finish-starts, finish-filled, finish-words, finish-sized}
-use Rattle.theory.proofs.Pieces.{Reads, reads-behind, front, image-pieces}
+use Rattle.theory.proofs.Pieces.{reads-behind, front, image-pieces}
 
 -- ---- sums
 
@@ -49,7 +48,7 @@ module _ (st : ℕ → Bool) (rd : ℕ → ℕ → ℕ) where
 
 -- ---- the chain has every granule that no object has
 
-chain-end : (m : Image) (n : ℕ) → freeFrom m n 0 ≡ 0
+pub chain-end : (m : Image) (n : ℕ) → freeFrom m n 0 ≡ 0
 unfolding freeFrom
 chain-end m zero = refl
 chain-end m (suc n) = refl

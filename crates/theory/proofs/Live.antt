@@ -1,11 +1,11 @@
 -- What is live from a begin on: it holds at the begin, is carried by every step but an accepted finish, and holds all that a finish keeps.
-use mathlib.Core.Path.{_≡_, refl, sym, ap, subst, _∙_}
+use mathlib.Core.Path.{_≡_, refl, sym, subst, _∙_}
 use mathlib.Core.Logic.{_⊎_, inl, inr}
-use mathlib.Core.Bool.{Bool, true, false}
-use Prim.Native.Nat.{ℕ, _+_, _*_, _<_}
-use Rattle.model.specs.Image.{Image, word, isStart, marked, links, link, reg}
+use mathlib.Core.Bool.{true, false}
+use Prim.Native.Nat.{ℕ, _<_}
+use Rattle.model.specs.Image.{Image, isStart, marked, links, link, reg}
 use Rattle.model.specs.Finish.{Found, found-reg, found-link, found-due, Kept, kept-marked, kept-found}
-use Rattle.model.specs.Claim.{Chain, chain-reg, chain-link}
+use Rattle.model.specs.Claim.{chain-reg, chain-link}
 use Rattle.model.proofs.Laws.{false≢, bool-cases}
 use Rattle.theory.specs.Heap.{Proper}
 use Rattle.theory.specs.Cycle.{Source, in-reg, in-link, is-marked, no-start, LinkFrom, had-link, to-source, Carries, Live, Since}

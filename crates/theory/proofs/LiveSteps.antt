@@ -1,23 +1,20 @@
 -- Every step but an accepted finish keeps start bits and what is live.
-use mathlib.Core.Path.{_≡_, refl, sym, ap, subst, _∙_}
-use mathlib.Core.Logic.{_⊎_, inl, inr}
-use mathlib.Core.Bool.{Bool, true, false}
-use mathlib.Core.List.{List, [], _∷_, List·Memᴰ}
-use Prim.Native.Nat.{ℕ, zero, suc, _+_, _*_, _-_, _/_, _<_, _≤_}
+use mathlib.Core.Path.{_≡_, refl, sym, subst, _∙_}
+use mathlib.Core.Bool.{true, false}
+use mathlib.Core.List.{[], _∷_, List·Memᴰ}
+use Prim.Native.Nat.{ℕ, zero, suc, _+_, _*_, _-_, _<_}
 use native.Mathlib.Omega.{arith}
-use lib.Dec.{ltb, leb, eqb}
-use lib.ListN.{length, getD, take, drop, length-take}
+use lib.Dec.{ltb}
+use lib.ListN.{getD, take, drop, length-take}
 use borrow.Author.Tests.{eqb-false, leb-false, ltb-false}
-use Rattle.model.specs.Base.{some, first, nth}
-use Rattle.model.specs.Image.{Image, isStart, marked, size, links, link, levels, reg, owed, hand, nextLink, setReg, setWord, setOwed, withPlayers, dirtyCard, setState, withCards}
+use Rattle.model.specs.Image.{Image, isStart, size, links, levels, reg, hand, nextLink, setWord, setOwed, withPlayers, dirtyCard, setState, withCards}
 use Rattle.model.specs.Records.{Step, Kind, new, load, store, barrier, handOver, dropReg, read, write, begin, scan, trace, clean, finish, isDue, unknown, kindOf}
-use Rattle.model.specs.Mutate.{roomFor, newObject}
-use Rattle.model.specs.Steps.{Done, unnamed, offDesk, object, owing, noObject, pastEnd, badSize, noRoom, wrongPhase, nothingToDo, refusal, accept, finishDone, act, outcome, step}
+use Rattle.model.specs.Steps.{unnamed, offDesk, object, owing, noObject, pastEnd, badSize, noRoom, wrongPhase, nothingToDo, refusal, accept, finishDone, act, outcome, step}
 use Rattle.model.proofs.Laws.{first-none, some-false}
 use Rattle.model.proofs.Entries.{nth-take, nth-drop}
 use Rattle.model.proofs.Found.{place}
-use Rattle.theory.specs.Cycle.{Facts, Source, in-reg, in-link, is-marked, no-start, Carries, Quiet, NewPlaced, NoFinish, Live}
-use Rattle.theory.proofs.Quiet.{Next, silent, quiet-refl, quiet-silent, quiet-begin, quiet-scan, quiet-trace, quiet-clean}
+use Rattle.theory.specs.Cycle.{Facts, Source, in-reg, in-link, is-marked, Carries, NewPlaced, NoFinish, Live}
+use Rattle.theory.proofs.Quiet.{Next, quiet-refl, quiet-silent, quiet-begin, quiet-scan, quiet-trace, quiet-clean}
 use Rattle.theory.proofs.Carries.{quiet-carries, carries-silent, setReg-carries, setWord-carries, new-carries}
 use Rattle.theory.proofs.Live.{live-carried}
 

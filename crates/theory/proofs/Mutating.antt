@@ -1,5 +1,5 @@
 -- Load, hand, drop, barrier, store and write keep "undamaged".
-use mathlib.Core.Path.{_≡_, sym, subst, _∙_}
+use mathlib.Core.Path.{_≡_, sym, subst, _∙_, refl}
 use mathlib.Core.Logic.{inl, inr}
 use mathlib.Core.Bool.{true}
 use mathlib.Core.List.{List}
@@ -8,29 +8,17 @@ use native.Mathlib.Decide.{ℕ-discrete}
 use native.Mathlib.Omega.{arith}
 use lib.ListN.{length}
 use Rattle.model.specs.Base.{nth, put}
-use Rattle.model.specs.Image.{Image, granules, word, isStart, marked, size, links, link, state, dirty, reg, count, entry, hand, nextLink, handCard, nextGranule, owed, withHeap, withCards, withRegs, withPlayers, setWord, setState, dirtyCard, setReg, setOwed, fields-open}
-use Rattle.model.specs.Undamaged.{sound, cover}
+use Rattle.model.specs.Image.{Image, granules, word, isStart, marked, size, links, link, reg, owed, withHeap, withCards, withRegs, withPlayers, setWord, setState, dirtyCard, setReg, setOwed, fields-open}
 use Rattle.model.proofs.Laws.{nth-put-same, nth-put-other}
-use Rattle.theory.specs.Cover.{Coming, Covered, Cover, on-dirty, on-entry, on-hand, on-card, owes-by, to-nil, to-marked, is-coming, is-owed}
+use Rattle.theory.specs.Cover.{Covered, Cover, on-dirty, owes-by, to-nil, to-marked, is-coming, is-owed}
 use Rattle.theory.specs.Lines.{NilOr, Start, Lines, Idle, Sound, Undamaged}
-use Rattle.theory.proofs.Covering.{dirty-same}
+use Rattle.theory.proofs.Covering.{dirty-same, same-coming}
 use Rattle.theory.proofs.Facts.{laid-of, reg-value}
 use Rattle.theory.proofs.Lines.{put-regs, put-players}
 use Rattle.theory.proofs.Packets.{Wrote}
 use Rattle.theory.proofs.Reaching.{dirty-coming, dirty-lines}
 use Rattle.theory.proofs.Sections.{owed-set, reg-ok}
 use Rattle.theory.proofs.Written.{links-written, link-written, word-lines}
-
--- what comes still comes where only heap, registers or players are written
-abbrev rewritten : Image → List ℕ → List ℕ → List ℕ → Image
-rewritten m hs rs us = record { width = m .width; k = m .k; heap = hs; starts = m .starts; marks = m .marks; cards = m .cards; regs = rs; packets = m .packets; tracers = m .tracers; players = us; general = m .general }
-
-still-coming : (m : Image) (hs rs us : List ℕ) (g i : ℕ) → Coming m g i → Coming (rewritten m hs rs us) g i
-unfolding dirty state count entry hand nextLink handCard nextGranule
-still-coming m hs rs us g i (on-dirty q) = on-dirty q
-still-coming m hs rs us g i (on-entry p e hp he q) = on-entry p e hp he q
-still-coming m hs rs us g i (on-hand t ht q h) = on-hand t ht q h
-still-coming m hs rs us g i (on-card t ht q h) = on-card t ht q h
 
 -- ---- a register of a player who owes nothing
 
@@ -41,10 +29,10 @@ reg-keeps m u p r v hp hr ow ok = record {
   cover = λ g i hg k l. go g i (u .cover g i hg k l);
 }
   where
-    go : (g i : ℕ) → Covered m g i → Covered (rewritten m (m .heap) (put (m .regs) (16 * p + r) v) (m .players)) g i
+    go : (g i : ℕ) → Covered m g i → Covered (setReg m p r v) g i
     go g i (to-nil q) = to-nil q
     go g i (to-marked q) = to-marked q
-    go g i (is-coming c) = is-coming (still-coming m _ _ _ g i c)
+    go g i (is-coming c) = is-coming (same-coming m (setReg m p r v) refl refl refl g i c)
     go g i (is-owed (owes-by q s hq hs o e)) =
         let ne : q ≡ p → ⊥ = λ x. omega (arith, rw x at o, ow) in
         is-owed (owes-by q s hq hs o (nth-put-other (m .regs) (16 * p + r) (16 * q + s) v (omega arith) ∙ e))
@@ -73,7 +61,7 @@ barrier-cover m p c o h cov g i hg k l = go (cov g i hg k l)
     go : Covered m g i → Covered (barred m p c) g i
     go (to-nil q) = to-nil q
     go (to-marked q) = to-marked q
-    go (is-coming d) = is-coming (still-coming (dirtyCard m c) (m .heap) (m .regs) (put (m .players) (2 * p) 0) g i (dirty-coming m c g i h d))
+    go (is-coming d) = is-coming (same-coming (dirtyCard m c) (barred m p c) refl refl refl g i (dirty-coming m c g i h d))
     go (is-owed (owes-by q r hq hr ow e)) = by q r hq hr ow e (ℕ-discrete q p)
 
 pub barrier-keeps : (m : Image) → Undamaged m → (p c : ℕ) → p < 16 → owed m p ≡ suc c → Undamaged (setOwed (dirtyCard m c) p 0)
@@ -105,7 +93,7 @@ store-cover m o p g b c hp hc ow sg hb hx cov h i hh k l = go (link-written o g 
     go (inl ((e, e′), w)) q = is-owed (owes-by p c hp hc (rw e (nth-put-same (m .players) (2 * p) (suc (g / 64)) (omega (arith, o .players-ok .sized)))) (sym w))
     go (inr (n, w)) (to-nil q) = to-nil (w ∙ q)
     go (inr (n, w)) (to-marked q) = to-marked (subst (λ x. marked m x ≡ true) (sym w) q)
-    go (inr (n, w)) (is-coming d) = is-coming (still-coming m _ _ _ h i d)
+    go (inr (n, w)) (is-coming d) = is-coming (same-coming m (stored m p g b c) refl refl refl h i d)
     go (inr (n, w)) (is-owed (owes-by q r hq hr x e)) =
         let ne : q ≡ p → ⊥ = λ s. omega (arith, rw s at x, ow) in
         is-owed (owes-by q r hq hr (nth-put-other (m .players) (2 * p) (2 * q) (suc (g / 64)) (omega arith) ∙ x) (e ∙ sym w))
@@ -118,7 +106,7 @@ store-idle : (m : Image) → Sound m → (p g b c : ℕ) → let m′ = stored m
 unfolding setOwed withPlayers setWord withHeap
 store-idle m s p g b c z = still-idle (s .idle z) p (suc (g / 64))
 
-is-start : (m : Image) (g : ℕ) → Start m g → isStart m g ≡ true
+pub is-start : (m : Image) (g : ℕ) → Start m g → isStart m g ≡ true
 unfolding isStart
 is-start m g s = s .1
 
@@ -153,7 +141,7 @@ write-cover m o g x v sg hx hx′ cov h i hh k l = go (link-written o g x v sg (
     go (inl ((e, e′), w)) q = absurd (omega (arith, subst (λ z. i < links m z) e li))
     go (inr (n, w)) (to-nil q) = to-nil (w ∙ q)
     go (inr (n, w)) (to-marked q) = to-marked (subst (λ y. marked m y ≡ true) (sym w) q)
-    go (inr (n, w)) (is-coming d) = is-coming (still-coming m _ _ _ h i d)
+    go (inr (n, w)) (is-coming d) = is-coming (same-coming m (setWord m g x v) refl refl refl h i d)
     go (inr (n, w)) (is-owed (owes-by q r hq hr y e)) = is-owed (owes-by q r hq hr y (e ∙ sym w))
 
 write-idle : (m : Image) → Sound m → (g x v : ℕ) → let m′ = setWord m g x v in nth (m′ .general) 0 ≡ 0 → Idle (m′ .marks) (m′ .packets) (m′ .tracers) (m′ .players)

@@ -3,22 +3,17 @@ use mathlib.Core.Path.{_≡_, refl, sym, ap, subst, _∙_}
 use mathlib.Core.Logic.{_⊎_, inl, inr}
 use mathlib.Core.Bool.{Bool, true, false}
 use mathlib.Core.List.{List, [], _∷_, _++_}
-use Prim.Native.Nat.{ℕ, zero, suc, _+_, _*_, _-_, _≤_, _<_}
+use Prim.Native.Nat.{ℕ, suc, _+_, _*_, _-_, _≤_, _<_}
 use native.Mathlib.Omega.{arith}
 use lib.ListN.{length, drop, length-append, length-drop}
 use Rattle.model.specs.Base.{nth}
 use Rattle.model.specs.Image.{Image, granules, word, isStart, firstRun}
 use Rattle.model.specs.Finish.{runTail}
-use Rattle.model.proofs.Laws.{false≢}
 use Rattle.model.proofs.Entries.{nth-drop}
-use Rattle.theory.specs.Heap.{Object, runWords, Bare, Filled, f-end, f-object, f-run, HeapFilled, HeapSized}
-use Rattle.theory.specs.Pieces.{ObjectHere, RunHere, Pieces, at-end, at-object, at-run}
+use Rattle.theory.specs.Heap.{runWords, Filled, f-end, f-object, f-run, HeapFilled, HeapSized}
+use Rattle.theory.specs.Pieces.{Reads, ObjectHere, RunHere, Pieces, at-end, at-object, at-run}
 use Rattle.theory.proofs.Lists.{nth-head, nth-left, length-run, run-next, run-zero, nth-behind}
 use Rattle.theory.proofs.Walk.{object-filled, run-filled, word-behind}
-
--- the words from granule g on are those that rd reads
-abbrev pub Reads : (ℕ → ℕ → ℕ) → ℕ → List ℕ → Type 0
-Reads rd g ws = (h i : ℕ) → g ≤ h → nth ws (4 * (h - g) + i) ≡ rd h i
 
 module _ (st : ℕ → Bool) (rd : ℕ → ℕ → ℕ) (e : ℕ) where
   pub reads-behind : (g s : ℕ) (l r : List ℕ) → length l ≡ 4 * s → Reads rd g (l ++ r) → Reads rd (g + s) r

@@ -1,22 +1,22 @@
 -- An image and a plain store that agree give a player's step the same number, but for 9.
-use mathlib.Core.Path.{_≡_, refl, sym, ap, subst, _∙_}
+use mathlib.Core.Path.{_≡_, refl, sym, ap, _∙_}
 use mathlib.Core.Logic.{_⊎_, inl, inr}
-use mathlib.Core.Bool.{Bool, true, false, not, cond, _&&_, _||_}
+use mathlib.Core.Bool.{Bool, true, false, not, _&&_, _||_}
 use mathlib.Core.List.{List, [], _∷_}
-use Prim.Native.Nat.{ℕ, zero, suc, _+_, _*_, _-_, _≤_, _<_}
+use Prim.Native.Nat.{ℕ, zero, suc, _+_, _≤_, _<_}
 use native.Mathlib.Omega.{arith}
 use lib.Dec.{eqb, ltb, leb}
 use lib.ListN.{getD, set}
-use borrow.Author.Tests.{eqb-false, ltb-false, not-true}
-use Rattle.model.specs.Base.{first, some}
-use Rattle.model.specs.Image.{Image, size, links, levels, reg, owed}
+use borrow.Author.Tests.{eqb-false, ltb-false}
+use Rattle.model.specs.Base.{first}
+use Rattle.model.specs.Image.{Image, links, levels, owed}
 use Rattle.model.specs.Records.{Step, Kind, new, load, store, barrier, handOver, dropReg, read, write, begin, scan, trace, clean, finish, isDue, unknown}
 use Rattle.model.specs.Mutate.{roomFor}
 use Rattle.model.specs.Steps.{isNew, unnamed, offDesk, badSize, object, owes, owing, noObject, pastEnd, noRoom, wrongPhase, nothingToDo, refusal}
 use Rattle.model.specs.Plain.{Object, isNil, PlainStore, holding, plainOwing, plainNoObject, plainLevels, plainPastEnd, plainNothing, plainRefusal, feeds}
 use Rattle.model.specs.Claim.{Chain, chain-reg}
 use Rattle.model.proofs.Laws.{false≢, some-false, first-none}
-use Rattle.theory.specs.Same.{Names, Agrees, Same}
+use Rattle.theory.specs.Same.{Names, SameStore, SameLines, Admitted}
 use Rattle.theory.proofs.PlainLaws.{nil-name}
 
 -- ---- tables of lines
@@ -59,15 +59,6 @@ first-passes n (false ∷ l) zero e = absurd (past (first-low (suc (suc n)) l))
     past (inr z) = omega arith
 first-passes n (false ∷ l) (suc i) e = first-passes (suc n) l i (omega arith)
 
--- the lines of 10, 4, 5, 6, 7 and 11 on an image, and those of 5, 6, 7 and 11 on a plain store: they agree where 4 does not apply, that of 7
--- where 6 does not apply either
-record SameLines (phase off w x y z w′ x′ y′ z′ : Bool) : Type 0 where
-  pub in-phase : phase ≡ false
-  pub owing-line : off ≡ false → w ≡ w′
-  pub object-line : off ≡ false → x ≡ x′
-  pub end-line : off ≡ false → x ≡ false → y ≡ y′
-  pub nothing-line : off ≡ false → z ≡ z′
-
 lines-number : (u b phase off w x y z w′ x′ y′ z′ : Bool) → SameLines phase off w x y z w′ x′ y′ z′
     → first 3 (u ∷ off ∷ w ∷ x ∷ y ∷ b ∷ false ∷ phase ∷ z ∷ []) ≡ first 3 (u ∷ off ∷ w′ ∷ x′ ∷ y′ ∷ b ∷ false ∷ false ∷ z′ ∷ [])
 lines-number u b phase off w x y z w′ x′ y′ z′ l =
@@ -87,13 +78,6 @@ lines-number u b phase off w x y z w′ x′ y′ z′ l =
 pub low : (x : ℕ) → ltb 15 x ≡ false → x < 16
 low x e = omega (arith, ltb-false 15 x e)
 
--- no line applies
-pub record Admitted (m : Image) (s : Step) (n : Kind) : Type 0 where
-  pub on-desk : offDesk s n ≡ false
-  pub has-object : noObject m s n ≡ false
-  pub not-past : pastEnd m s n ≡ false
-  pub good-size : badSize s n ≡ false
-
 pub admitted : (m : Image) (s : Step) (n : Kind) → refusal m s n ≡ 0 → Admitted m s n
 unfolding refusal
 admitted m s n e = record { on-desk = first-none 2 _ e 1; has-object = first-none 2 _ e 3; not-past = first-none 2 _ e 4; good-size = first-none 2 _ e 5 }
@@ -105,7 +89,7 @@ not-nine m s n e x = false≢ (sym (ap (λ z. z && eqb ((roomFor m (s .b)) .run)
 
 -- ---- the lines of an image and of a plain store
 
-module _ (m : Image) (s : Step) (q : PlainStore) (name : ℕ → Object) (i : ℕ) (ns : Names name i) (S : Same name m q) where
+module _ (m : Image) (s : Step) (q : PlainStore) (name : ℕ → Object) (i : ℕ) (ns : Names name i) (S : SameStore name m q) where
   -- a register of a player on the desk
   pub in-register : (r : ℕ) → s .who < 16 → r < 16 → holding q s r ≡ name (object m s r)
   unfolding holding object

@@ -1,8 +1,8 @@
 -- Functions with one value replaced, names of granules, chains, and when an image and a plain store agree.
 use mathlib.Core.Path.{_≡_, refl, sym, ap, subst, _∙_}
 use mathlib.Core.Logic.{_⊎_, inl, inr}
-use mathlib.Core.Bool.{Bool, true, false, not, cond}
-use Prim.Native.Nat.{ℕ, zero, suc, _+_, _*_, _-_, _≤_, _<_}
+use mathlib.Core.Bool.{true, false, not}
+use Prim.Native.Nat.{ℕ, suc, _+_, _*_, _≤_, _<_}
 use native.Mathlib.Decide.{ℕ-discrete}
 use native.Mathlib.Omega.{arith}
 use lib.Dec.{eqb}
@@ -10,8 +10,8 @@ use borrow.Author.Tests.{eq-eqb, ne-eqb}
 use Rattle.model.specs.Image.{Image, word, isStart, size, links, link, levels, level, reg, owed}
 use Rattle.model.specs.Plain.{Object, old, made, sameObject, isNil, PlainStore, upd, updObject, ofImage, plainOf}
 use Rattle.model.specs.Claim.{Chain, chain-reg, chain-link}
-use Rattle.theory.specs.Heap.{Laid, Proper}
-use Rattle.theory.specs.Same.{Names, Agrees, Same, Facts, WordsStay, KeptWords}
+use Rattle.theory.specs.Heap.{Proper}
+use Rattle.theory.specs.Same.{Names, Agrees, SameStore, Facts, WordsStay, KeptWords}
 
 -- ---- one value of a function replaced
 
@@ -154,18 +154,18 @@ moved P e h nz = subst P (sym e) (h (λ z. nz (e ∙ z)))
 pub chain-start : (m : Image) → Proper m → {a : ℕ} → Chain m a → isStart m a ≡ true
 chain-start m o c = chain-least m (λ a. isStart m a ≡ true) (o .reg-start) (o .link-start) c
 
--- the link i of an object in reach, and level word i, lie in it
-module _ (m : Image) (f : Facts m) where
-  pub in-object : (g : ℕ) → Chain m g → links m g + 2 ≤ 4 * size m g
-  in-object g c = (f .laid .inside g (chain-start m (f .proper) c)) .0
+-- an object in reach has its size, number of links and links inside
+pub in-object : (m : Image) → Facts m → (g : ℕ) → Chain m g → links m g + 2 ≤ 4 * size m g
+in-object m f g c = (f .laid .inside g (chain-start m (f .proper) c)) .0
 
+-- and its level words
 pub level-inside : (m : Image) (g i : ℕ) → i < levels m g → 2 + links m g + i < 4 * size m g
 unfolding levels
 level-inside m g i l = omega arith
 
 -- ---- agreement
 
-pub agrees-first : (m : Image) → Same old m (plainOf m)
+pub agrees-first : (m : Image) → SameStore old m (plainOf m)
 unfolding plainOf ofImage
 agrees-first m = record { same-reg = λ p r hp hr. refl; same-owing = λ p hp. refl; same-size = λ g c. refl; same-count = λ g c. refl; same-link = λ g i c l. refl; same-level = λ g i c l. refl }
 
@@ -221,31 +221,30 @@ module _ (m m′ : Image) (head : (g i : ℕ) → Chain m g → i < 2 → word m
 
 -- ---- steps that change nothing that the plain store has
 
-module _ (m : Image) (f : Facts m) (m′ : Image) (k : KeptWords m m′) where
-  kept-link : (g i : ℕ) → Chain m g → i < links m g → link m′ g i ≡ link m g i
+module _ (m : Image) (f : Facts m) (m′ : Image) (k : WordsStay m m′) where
+  pub head-stays : (g i : ℕ) → Chain m g → i < 2 → word m′ g i ≡ word m g i
+  head-stays g i c l = k g i c (omega (arith, in-object m f g c))
+
+  pub link-stays : (g i : ℕ) → Chain m g → i < links m g → link m′ g i ≡ link m g i
   unfolding link
-  kept-link g i c l = k .kept-word g (2 + i) c (omega (arith, in-object m f g c))
+  link-stays g i c l = k g (2 + i) c (omega (arith, in-object m f g c))
 
-  kept-level : (g i : ℕ) → Chain m g → i < levels m g → word m′ g (2 + links m g + i) ≡ level m g i
+  pub level-stays : (g i : ℕ) → Chain m g → i < levels m g → word m′ g (2 + links m g + i) ≡ level m g i
   unfolding level
-  kept-level g i c l = k .kept-word g (2 + links m g + i) c (level-inside m g i l)
+  level-stays g i c l = k g (2 + links m g + i) c (level-inside m g i l)
 
-  kept-head : (g i : ℕ) → Chain m g → i < 2 → word m′ g i ≡ word m g i
-  kept-head g i c l = k .kept-word g i c (omega (arith, in-object m f g c))
+  -- the links of what was in reach lead to what was in reach
+  pub links-in-reach : (g i : ℕ) → Chain m g → i < links m′ g → (link m′ g i ≡ 0 → ⊥) → Chain m (link m′ g i)
+  links-in-reach g i c l = let li : i < links m g = subst (λ z. i < z) (count-stays m m′ head-stays g c) l in moved (Chain m) (link-stays g i c li) (λ nz. chain-link g i c li refl nz)
 
-  chain-kept : {a : ℕ} → Chain m′ a → Chain m a
-  chain-kept c =
-      chain-least m′ (Chain m) (λ p r hp hr. moved (Chain m) (k .kept-reg p r) (λ nz. chain-reg p r hp hr refl nz))
-      (λ g i h l. let li : i < links m g = subst (λ z. i < z) (count-stays m m′ kept-head g h) l in moved (Chain m) (kept-link g i h li) (λ nz. chain-link g i h li refl nz))
-      c
-
-  pub same-kept : (name : ℕ → Object) (q : PlainStore) → Same name m q → Same name m′ q
-  same-kept name q s =
-      agrees-narrow (λ a c. chain-kept c)
-      (agrees-renew m m′ kept-head name q
-      (λ p r hp hr. s .same-reg p r hp hr ∙ ap name (sym (k .kept-reg p r)))
-      (λ p hp. s .same-owing p hp ∙ ap (λ z. not (eqb z 0)) (sym (k .kept-owed p)))
-      (s .same-size)
-      (s .same-count)
-      (λ g i c l. s .same-link g i c l ∙ ap name (sym (kept-link g i c l)))
-      (λ g i c l. s .same-level g i c l ∙ sym (kept-level g i c l)))
+pub same-kept : (m : Image) → Facts m → (m′ : Image) → KeptWords m m′ → (name : ℕ → Object) (q : PlainStore) → SameStore name m q → SameStore name m′ q
+same-kept m f m′ k name q s =
+    agrees-narrow
+    (λ a c. chain-least m′ (Chain m) (λ p r hp hr. moved (Chain m) (k .kept-reg p r) (λ nz. chain-reg p r hp hr refl nz)) (links-in-reach m f m′ (k .kept-word)) c)
+    (agrees-renew m m′ (head-stays m f m′ (k .kept-word)) name q
+    (λ p r hp hr. s .same-reg p r hp hr ∙ ap name (sym (k .kept-reg p r)))
+    (λ p hp. s .same-owing p hp ∙ ap (λ z. not (eqb z 0)) (sym (k .kept-owed p)))
+    (s .same-size)
+    (s .same-count)
+    (λ g i c l. s .same-link g i c l ∙ ap name (sym (link-stays m f m′ (k .kept-word) g i c l)))
+    (λ g i c l. s .same-level g i c l ∙ sym (level-stays m f m′ (k .kept-word) g i c l)))

@@ -1,32 +1,21 @@
 -- An image and a plain store agree again after a new: its object has a new name, all else in reach has the name that it had.
 use mathlib.Core.Path.{_≡_, refl, sym, ap, subst, _∙_}
 use mathlib.Core.Logic.{_⊎_, inl, inr}
-use mathlib.Core.Bool.{Bool, true, false, not}
-use Prim.Native.Nat.{ℕ, zero, suc, _+_, _*_, _-_, _≤_, _<_}
+use mathlib.Core.Bool.{not}
+use Prim.Native.Nat.{ℕ, _+_, _*_, _≤_, _<_}
 use native.Mathlib.Omega.{arith}
 use lib.Dec.{eqb}
 use Rattle.model.specs.Image.{Image, word, size, links, link, levels, level, reg, owed, setReg}
 use Rattle.model.specs.Plain.{Object, old, made, PlainStore, upd, updObject, putReg, putObject}
 use Rattle.model.specs.Claim.{Chain, chain-reg, chain-link}
 use Rattle.model.proofs.Laws.{false≢}
-use Rattle.theory.specs.Same.{Names, Agrees, Same, Facts, ObjectMade}
-use Rattle.theory.proofs.PlainLaws.{upd-same, upd-other, updObject-same, updObject-other, name-fresh, chain-least, moved, chain-start, in-object, level-inside, agrees-narrow, agrees-either, size-stays, count-stays, agrees-renew}
+use Rattle.theory.specs.Same.{Names, Agrees, SameStore, Facts, ObjectMade}
+use Rattle.theory.proofs.PlainLaws.{upd-same, upd-other, updObject-same, updObject-other, name-fresh, chain-least, chain-start, level-inside, agrees-narrow, agrees-either, agrees-renew, head-stays, link-stays, level-stays, links-in-reach}
 use Rattle.theory.proofs.PlainWrites.{held-after, regs-agree}
 
 module _ (m m′ : Image) (f : Facts m) (p r b c g : ℕ) (hp : p < 16) (hr : r < 16) (hc : c + 2 ≤ 4 * b) (o : ObjectMade m m′ p r b c g) where
   not-reached : Chain m g → ⊥
   not-reached k = false≢ (sym (o .no-start) ∙ chain-start m (f .proper) k)
-
-  head-stays : (h i : ℕ) → Chain m h → i < 2 → word m′ h i ≡ word m h i
-  head-stays h i k l = o .made-kept h i k (omega (arith, in-object m f h k))
-
-  links-stay : (h i : ℕ) → Chain m h → i < links m h → link m′ h i ≡ link m h i
-  unfolding link
-  links-stay h i k l = o .made-kept h (2 + i) k (omega (arith, in-object m f h k))
-
-  levels-stay : (h i : ℕ) → Chain m h → i < levels m h → word m′ h (2 + links m h + i) ≡ level m h i
-  unfolding level
-  levels-stay h i k l = o .made-kept h (2 + links m h + i) k (level-inside m h i l)
 
   new-links : (i : ℕ) → i < links m′ g → link m′ g i ≡ 0
   unfolding link
@@ -52,9 +41,9 @@ module _ (m m′ : Image) (f : Facts m) (p r b c g : ℕ) (hp : p < 16) (hr : r 
 
       linked : (h i : ℕ) → Reached h → i < links m′ h → (link m′ h i ≡ 0 → ⊥) → Reached (link m′ h i)
       linked h i (inl e) l nz = absurd (nz (ap (λ z. link m′ z i) e ∙ new-links i (subst (λ z. i < links m′ z) e l)))
-      linked h i (inr k) l nz = let li : i < links m h = subst (λ z. i < z) (count-stays m m′ head-stays h k) l in moved Reached (links-stay h i k li) (λ z. inr (chain-link h i k li refl z)) nz
+      linked h i (inr k) l nz = inr (links-in-reach m f m′ (o .made-kept) h i k l nz)
 
-  module _ (name : ℕ → Object) (j : ℕ) (ns : Names name j) (q : PlainStore) (s : Same name m q) where
+  module _ (name : ℕ → Object) (j : ℕ) (ns : Names name j) (q : PlainStore) (s : SameStore name m q) where
     abbrev renamed : ℕ → Object
     renamed = upd name g (made j)
 
@@ -88,13 +77,13 @@ module _ (m m′ : Image) (f : Facts m) (p r b c g : ℕ) (hp : p < 16) (hr : r 
     agrees-old : Agrees (Chain m) renamed m′ q′
     unfolding putReg putObject level
     agrees-old =
-        agrees-renew m m′ head-stays renamed q′ regs-after owing-after
+        agrees-renew m m′ (head-stays m f m′ (o .made-kept)) renamed q′ regs-after owing-after
         (λ h k. at-old (q .sizeOf) b h k ∙ s .same-size h k)
         (λ h k. at-old (q .linkCount) c h k ∙ s .same-count h k)
         (λ h i k l.
         ap (λ z. z i) (at-old (q .linkOf) (λ x. old 0) h k)
-        ∙ (s .same-link h i k l ∙ (sym (name-stays (link m h i) (λ nz. chain-link h i k l refl nz)) ∙ ap renamed (sym (links-stay h i k l)))))
-        (λ h i k l. ap (λ z. z i) (at-old (q .levelOf) (λ x. 0) h k) ∙ (s .same-level h i k l ∙ sym (levels-stay h i k l)))
+        ∙ (s .same-link h i k l ∙ (sym (name-stays (link m h i) (λ nz. chain-link h i k l refl nz)) ∙ ap renamed (sym (link-stays m f m′ (o .made-kept) h i k l)))))
+        (λ h i k l. ap (λ z. z i) (at-old (q .levelOf) (λ x. 0) h k) ∙ (s .same-level h i k l ∙ sym (level-stays m f m′ (o .made-kept) h i k l)))
 
     -- the new object
     agrees-new : Agrees (λ h. h ≡ g) renamed m′ q′
@@ -111,5 +100,5 @@ module _ (m m′ : Image) (f : Facts m) (p r b c g : ℕ) (hp : p < 16) (hr : r 
         nil : renamed 0 ≡ old 0
         nil = upd-other name g (made j) 0 (λ e. o .not-nil (sym e)) ∙ ns .name-nil
 
-    pub same-new : Same renamed m′ q′
+    pub same-new : SameStore renamed m′ q′
     same-new = agrees-narrow (λ a k. chain-new k) (agrees-either agrees-new agrees-old)

@@ -1,20 +1,18 @@
 -- An image and a plain store agree again after the same write to both: a register, a link, a level word, what a player owes.
 use mathlib.Core.Path.{_≡_, refl, sym, ap, subst, _∙_}
 use mathlib.Core.Logic.{_⊎_, inl, inr}
-use mathlib.Core.Bool.{Bool, true, false, not}
-use mathlib.Core.List.{List}
-use Prim.Native.Nat.{ℕ, zero, suc, _+_, _*_, _-_, _≤_, _<_}
+use mathlib.Core.Bool.{true, not}
+use Prim.Native.Nat.{ℕ, _+_, _*_, _≤_, _<_}
 use native.Mathlib.Decide.{ℕ-discrete, decLt}
 use native.Mathlib.Omega.{arith}
 use lib.Dec.{eqb}
 use lib.ListN.{length}
 use Rattle.model.specs.Base.{nth, put}
-use Rattle.model.specs.Image.{Image, granules, word, isStart, size, links, link, levels, level, reg, owed, withHeap, withRegs, withPlayers, setWord, setReg, setOwed}
-use Rattle.model.specs.Plain.{Object, PlainStore, upd, updObject, putReg, putLink, putLevel, putOwing}
+use Rattle.model.specs.Image.{Image, word, isStart, size, links, link, levels, level, reg, owed, withHeap, withRegs, withPlayers, setWord, setReg, setOwed}
+use Rattle.model.specs.Plain.{Object, PlainStore, upd, putReg, putLink, putLevel, putOwing}
 use Rattle.model.specs.Claim.{Chain, chain-reg, chain-link}
 use Rattle.model.proofs.Laws.{nth-put-same, nth-put-other}
-use Rattle.theory.specs.Heap.{Laid}
-use Rattle.theory.specs.Same.{Agrees, Same, Facts}
+use Rattle.theory.specs.Same.{SameStore, Facts}
 use Rattle.theory.proofs.PlainLaws.{both, upd-same, upd-other, upd-at, updObject-at, chain-least, moved, chain-start, in-object, level-inside, agrees-narrow, count-stays, agrees-renew}
 
 -- ---- a register: load, hand, drop
@@ -45,7 +43,7 @@ module _ (m : Image) (f : Facts m) (p r v : ℕ) (hp : p < 16) (hr : r < 16) whe
       (λ e. ap name (sym (reg-here u t e)))
       (λ ne. s u t hu ht ∙ ap name (sym (reg-there u t ht ne)))
 
-  pub same-setReg : (name : ℕ → Object) (q : PlainStore) → Same name m q → ((v ≡ 0 → ⊥) → Chain m v) → Same name (setReg m p r v) (putReg q p r (name v))
+  pub same-setReg : (name : ℕ → Object) (q : PlainStore) → SameStore name m q → ((v ≡ 0 → ⊥) → Chain m v) → SameStore name (setReg m p r v) (putReg q p r (name v))
   unfolding putReg setReg withRegs size links link levels level word owed
   same-setReg name q s in-reach =
       agrees-narrow
@@ -100,7 +98,7 @@ module _ (m : Image) (f : Facts m) where
     owed-stay u = refl
 
     -- the links and level words are compared, the rest stays
-    written : (name : ℕ → Object) (q q′ : PlainStore) → Same name m q
+    written : (name : ℕ → Object) (q q′ : PlainStore) → SameStore name m q
         → ((u t : ℕ) → q′ .register u t ≡ q .register u t)
         → ((u : ℕ) → q′ .owing u ≡ q .owing u)
         → ((o : Object) → q′ .sizeOf o ≡ q .sizeOf o)
@@ -108,7 +106,7 @@ module _ (m : Image) (f : Facts m) where
         → ((h i : ℕ) → Chain m h → i < links m h → q′ .linkOf (name h) i ≡ name (link (setWord m g x v) h i))
         → ((h i : ℕ) → Chain m h → i < levels m h → q′ .levelOf (name h) i ≡ word (setWord m g x v) h (2 + links m h + i))
         → ((h i : ℕ) → Chain m h → i < links m h → (link (setWord m g x v) h i ≡ 0 → ⊥) → Chain m (link (setWord m g x v) h i))
-        → Same name (setWord m g x v) q′
+        → SameStore name (setWord m g x v) q′
     written name q q′ s er eo es ec ls vs linked =
         agrees-narrow
         (λ a c. chain-least (setWord m g x v) (Chain m)
@@ -149,7 +147,7 @@ module _ (m : Image) (f : Facts m) where
         go (inl e) = moved (Chain m) (link-here h i e) in-reach
         go (inr ne) = moved (Chain m) (link-there h i c l ne) (λ nz. chain-link h i c l refl nz)
 
-    pub same-stored : (name : ℕ → Object) → ((h k : ℕ) → name h ≡ name k → h ≡ k) → (q : PlainStore) → Same name m q → Same name (setWord m g (2 + b) v) (putLink q (name g) b (name v))
+    pub same-stored : (name : ℕ → Object) → ((h k : ℕ) → name h ≡ name k → h ≡ k) → (q : PlainStore) → SameStore name m q → SameStore name (setWord m g (2 + b) v) (putLink q (name g) b (name v))
     unfolding putLink
     same-stored name one q s =
         written g (2 + b) v cg behind-head in-links name q (putLink q (name g) b (name v)) s (λ u t. refl) (λ u. refl) (λ o. refl) (λ o. refl)
@@ -183,7 +181,7 @@ module _ (m : Image) (f : Facts m) where
         word-there g place v cg behind-links in-levels h (2 + links m h + i) c (level-inside m h i l)
         (λ k. let e : links m h ≡ links m g = ap (links m) (k .0) in ne (k .0, omega (arith, k .1)))
 
-    pub same-written : (name : ℕ → Object) → ((h k : ℕ) → name h ≡ name k → h ≡ k) → (q : PlainStore) → Same name m q → Same name (setWord m g (2 + links m g + b) v) (putLevel q (name g) b v)
+    pub same-written : (name : ℕ → Object) → ((h k : ℕ) → name h ≡ name k → h ≡ k) → (q : PlainStore) → SameStore name m q → SameStore name (setWord m g (2 + links m g + b) v) (putLevel q (name g) b v)
     unfolding putLevel
     same-written name one q s =
         written g place v cg behind-links in-levels name q (putLevel q (name g) b v) s (λ u t. refl) (λ u. refl) (λ o. refl) (λ o. refl)
@@ -195,7 +193,7 @@ module _ (m : Image) (f : Facts m) where
 
 -- ---- what a player owes: store, barrier
 
-pub same-setOwed : (m : Image) → length (m .players) ≡ 32 → (p x : ℕ) → p < 16 → (name : ℕ → Object) (q : PlainStore) → Same name m q → Same name (setOwed m p x) (putOwing q p (not (eqb x 0)))
+pub same-setOwed : (m : Image) → length (m .players) ≡ 32 → (p x : ℕ) → p < 16 → (name : ℕ → Object) (q : PlainStore) → SameStore name m q → SameStore name (setOwed m p x) (putOwing q p (not (eqb x 0)))
 unfolding putOwing setOwed withPlayers reg size links link levels level word
 same-setOwed m len p x hp name q s =
     agrees-narrow

@@ -1,9 +1,9 @@
 -- The collector's steps leave heap, start bits and registers as they are, and mark only what they reach.
-use mathlib.Core.Path.{_≡_, refl, sym, ap, subst, _∙_}
+use mathlib.Core.Path.{_≡_, refl, sym, subst, _∙_}
 use mathlib.Core.Logic.{_⊎_, inl, inr}
 use mathlib.Core.Bool.{Bool, true, false, cond}
 use mathlib.Core.List.{List, [], _∷_, List·Memᴰ, List·Memᴰ·head, List·Memᴰ·tail}
-use Prim.Native.Nat.{ℕ, zero, suc, _+_, _*_, _-_, _/_, _<_, _≤_}
+use Prim.Native.Nat.{ℕ, zero, suc, _*_, _-_, _/_, _≤_}
 use native.Mathlib.Decide.{ℕ-discrete}
 use native.Mathlib.Omega.{arith}
 use lib.Dec.{eqb, ltb}
@@ -11,8 +11,8 @@ use lib.ListN.{getD, take, drop}
 use borrow.Author.Tests.{eqb-false, not-true}
 use Rattle.model.specs.Base.{some, first, bit, setBit}
 use Rattle.model.specs.Image.{Image, word, isStart, marked, links, link, reg, output, hand, nextLink, handCard, nextGranule, input, entry, count, dirty, setMark, setState, setTracer, setScanned, dirtyCard, withMarks, withCards, withPackets, withTracers, withPlayers, withGeneral, fields-open}
-use Rattle.model.specs.Collect.{append, pop, takeOutput, enter, reach, reachAll, scanPlayer, beginCycle, putHand, takeObject, traceHand, traceInput, tracePool, traceOutput, traceLine, traceStep, putCard, nextMarked, cleanTo, cleanCard, lowestDirty, takeCard, cleanLine, cleanStep, collect-open}
-use Rattle.model.proofs.Laws.{false≢, some-false}
+use Rattle.model.specs.Collect.{append, pop, takeOutput, enter, reach, reachAll, scanPlayer, beginCycle, putHand, takeObject, traceHand, traceInput, tracePool, traceOutput, traceLine, traceStep, putCard, nextMarked, cleanTo, cleanCard, lowestDirty, takeCard, cleanLine, cleanStep}
+use Rattle.model.proofs.Laws.{some-false}
 use Rattle.model.proofs.Bits.{setBit-other}
 use Rattle.theory.specs.Cycle.{Quiet}
 

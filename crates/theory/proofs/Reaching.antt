@@ -16,7 +16,7 @@ use Rattle.model.proofs.Laws.{false≢, bool-cases, any-make, every-use, some-u
 use Rattle.model.proofs.Bits.{setBit-same, setBit-other, setBit-keeps}
 use Rattle.theory.specs.Cover.{Coming, Covered, Cover, on-dirty, on-entry, on-hand, on-card, owes-by, to-nil, to-marked, is-coming, is-owed}
 use Rattle.theory.specs.Lines.{Enters, PacketsOk, TracersOk, NilOr, Start, Marked, InHand, CardInHand, Lines}
-use Rattle.theory.proofs.Covering.{dirty-same, dirty-keeps, hold-coming}
+use Rattle.theory.proofs.Covering.{dirty-same, dirty-keeps, hold-coming, same-coming}
 use Rattle.theory.proofs.Lines.{put-packets, put-tracers, put-marks, put-cards}
 use Rattle.theory.proofs.Packets.{append-new, append-on, append-ok}
 use Rattle.theory.proofs.Sections.{hold-ok, dirtied-ok, dirtied-on, mark-ok}
@@ -24,11 +24,8 @@ use Rattle.theory.proofs.Sections.{hold-ok, dirtied-ok, dirtied-on, mar
 -- ---- what is marked, and where it is entered
 
 mark-coming : (m : Image) (a g i : ℕ) → Coming m g i → Coming (setMark m a) g i
-unfolding setMark withMarks dirty state count entry hand nextLink handCard nextGranule
-mark-coming m a g i (on-dirty q) = on-dirty q
-mark-coming m a g i (on-entry q e hq he r) = on-entry q e hq he r
-mark-coming m a g i (on-hand t ht q r) = on-hand t ht q r
-mark-coming m a g i (on-card t ht q r) = on-card t ht q r
+unfolding setMark withMarks
+mark-coming m a g i c = same-coming m (setMark m a) refl refl refl g i c
 
 take-coming : (m : Image) (t g i : ℕ) → Coming m g i → Coming (takeOutput m t) g i
 unfolding takeOutput
@@ -274,16 +271,23 @@ each-take P z (suc n) [] f i = z
 each-take P z (suc n) (x ∷ l) f zero = f zero
 each-take P z (suc n) (x ∷ l) f (suc i) = each-take P z n l (λ j. f (suc j)) i
 
--- the lines, Cover, and general words as they were
+-- what no step of the collector but begin and finish writes
+abbrev pub frame : Image → ℕ × ℕ × List ℕ
+frame m = (m .width, m .k, m .general)
+
+pub reached-frame : {m : Image} {a : ℕ} {m′ : Image} → Reached m a m′ → frame m′ ≡ frame m
+reached-frame r = λ i. (r .width-same i, r .k-same i, r .general-same i)
+
+-- the lines and Cover hold
 pub record Stays (m m′ : Image) : Type 0 where
   pub lines : Lines m′
   pub cover : Cover m′
-  pub general-same : m′ .general ≡ m .general
+  pub frame-same : frame m′ ≡ frame m
 
 pub reachAll-does : (m : Image) → Lines m → Cover m → (t : ℕ) → t < 8 → (l : List ℕ) → ((i : ℕ) → NilOr (Start m) (nth l i)) → Stays m (reachAll m t l)
 unfolding reachAll nth
-reachAll-does m o cov t ht [] f = record { lines = o; cover = cov; general-same = refl }
+reachAll-does m o cov t ht [] f = record { lines = o; cover = cov; frame-same = refl }
 reachAll-does m o cov t ht (a ∷ l) f =
     let r = reach-does m o t a ht (f zero) in
     let s = reachAll-does (reach m t a) (r .lines) (reached-cover r cov) t ht l (λ i. rw (r .k-same, r .width-same, r .starts-same) (f (suc i))) in
-    record { lines = s .lines; cover = s .cover; general-same = s .general-same ∙ r .general-same }
+    record { lines = s .lines; cover = s .cover; frame-same = s .frame-same ∙ reached-frame r }

@@ -1,18 +1,18 @@
 -- The room for a new object: the lowest stretch of unused granules that is long enough, and none where there is no such stretch.
-use mathlib.Core.Path.{_≡_, refl, sym, ap, subst, _∙_}
+use mathlib.Core.Path.{_≡_, refl, subst}
 use mathlib.Core.Logic.{_⊎_, inl, inr, _↔_}
 use mathlib.Core.Bool.{Bool, true, false}
-use Prim.Native.Nat.{ℕ, zero, suc, _+_, _*_, _-_, _≤_, _<_}
-use native.Mathlib.Decide.{ℕ-discrete, decLt}
+use Prim.Native.Nat.{ℕ, zero, suc, _+_, _≤_, _<_}
+use native.Mathlib.Decide.{decLt}
 use native.Mathlib.Omega.{arith}
 use lib.Dec.{leb}
 use borrow.Author.Tests.{leb-true, leb-false}
 use Rattle.model.specs.Image.{Image, granules, word, isStart, size, firstRun}
 use Rattle.model.specs.Mutate.{Room, fit, roomFor}
-use Rattle.model.proofs.Laws.{false≢}
 use Rattle.theory.specs.Heap.{HeapFilled, HeapSized}
-use Rattle.theory.specs.Pieces.{at-end, at-object, at-run, past-object, past-run, place-here, ObjectIn, RunIn, PiecesIn, PlaceIn, RunApart, Unused, Stretch}
+use Rattle.theory.specs.Pieces.{at-end, at-object, at-run, past-object, past-run, place-here, ObjectIn, PiecesIn, PlaceIn, RunApart, Clear, Unused, Stretch, Blocked}
 use Rattle.theory.proofs.Pieces.{behind-run, image-pieces}
+use Rattle.theory.proofs.Unused.{clear-object, clear-run, run-apart, run-unused, clear-one}
 
 module _ (m : Image) (b : ℕ) where
   -- ---- what the walk of the run chain finds
@@ -41,10 +41,7 @@ module _ (m : Image) (b : ℕ) where
 
   -- ---- no stretch starts at a granule from x on, below r
 
-  abbrev pub Blocked : ℕ → ℕ → Type 0
-  Blocked x r = (u : ℕ) → x ≤ u → u < r → Stretch m b u → ⊥
-
-  blocked-object : (x r : ℕ) → 1 ≤ b → ObjectIn m x → Blocked (x + word m x 0) r → Blocked x r
+  blocked-object : (x r : ℕ) → 1 ≤ b → ObjectIn m x → Blocked m b (x + word m x 0) r → Blocked m b x r
   unfolding size
   blocked-object x r hb o rest u l q s = cs (decLt u (x + word m x 0))
     where
@@ -52,7 +49,7 @@ module _ (m : Image) (b : ℕ) where
       cs (yes y) = (s u (omega arith) (omega arith)) .in-no-object x (o .starts) l y
       cs (no y) = rest u (omega arith) q s
 
-  blocked-run : (x r : ℕ) → word m x 0 < b → (x + word m x 0 ≡ granules m) ⊎ ObjectIn m (x + word m x 0) → Blocked (x + word m x 0) r → Blocked x r
+  blocked-run : (x r : ℕ) → word m x 0 < b → (x + word m x 0 ≡ granules m) ⊎ ObjectIn m (x + word m x 0) → Blocked m b (x + word m x 0) r → Blocked m b x r
   unfolding size
   blocked-run x r hb k rest u l q s = cs (decLt u (x + word m x 0))
     where
@@ -64,7 +61,7 @@ module _ (m : Image) (b : ℕ) where
       cs (yes y) = behind (s (x + word m x 0) (omega arith) (omega arith)) k
       cs (no y) = rest u (omega arith) q s
 
-  none-blocked : {x next : ℕ} {f : Bool} (n last : ℕ) → 1 ≤ b → PiecesIn m x next f → 1 ≤ x → granules m ≤ x + n → (fit m b n last next) .run ≡ 0 → Blocked x (granules m)
+  none-blocked : {x next : ℕ} {f : Bool} (n last : ℕ) → 1 ≤ b → PiecesIn m x next f → 1 ≤ x → granules m ≤ x + n → (fit m b n last next) .run ≡ 0 → Blocked m b x (granules m)
   unfolding fit
   none-blocked n last hb at-end h l e = λ u p q s. omega arith
   none-blocked {x} n last hb (at-object o p) h l e = blocked-object x (granules m) hb o (none-blocked n last hb p (omega arith) (omega arith) e)
@@ -72,77 +69,42 @@ module _ (m : Image) (b : ℕ) where
   none-blocked {x = zero} (suc n) last hb (at-run o p) h l e = absurd (omega arith)
   none-blocked {x = suc x} (suc n) last hb (at-run o p) h l e = go (λ y. none-blocked n (suc x) hb p (omega arith) (omega (arith, o .long)) y) (leb b (word m (suc x) 0)) refl e
     where
-      go : ((fit m b n (suc x) (word m (suc x) 1)) .run ≡ 0 → Blocked (suc x + word m (suc x) 0) (granules m)) → (t : Bool) → leb b (word m (suc x) 0) ≡ t
-          → let r : Room = elim t [ true ↦ record { run = suc x; before = last } | false ↦ fit m b n (suc x) (word m (suc x) 1) ] in r .run ≡ 0 → Blocked (suc x) (granules m)
+      go : ((fit m b n (suc x) (word m (suc x) 1)) .run ≡ 0 → Blocked m b (suc x + word m (suc x) 0) (granules m)) → (t : Bool) → leb b (word m (suc x) 0) ≡ t
+          → let r : Room = elim t [ true ↦ record { run = suc x; before = last } | false ↦ fit m b n (suc x) (word m (suc x) 1) ] in r .run ≡ 0 → Blocked m b (suc x) (granules m)
       go ih true q y = absurd (omega arith)
       go ih false q y = blocked-run (suc x) (granules m) (leb-false _ _ q) (behind-run (isStart m) (word m) (granules m) p) (ih y)
 
   place-object : {x next last r before : ℕ} → PlaceIn m b x next true last r before → ObjectIn m x
   place-object (past-object o p) = o
 
-  pub place-blocked : {x next last r before : ℕ} {f : Bool} → 1 ≤ b → PlaceIn m b x next f last r before → Blocked x r
+  pub place-blocked : {x next last r before : ℕ} {f : Bool} → 1 ≤ b → PlaceIn m b x next f last r before → Blocked m b x r
   place-blocked {x} {r = r} hb (past-object o p) = blocked-object x r hb o (place-blocked hb p)
   place-blocked {x} {r = r} hb (past-run o l p) = blocked-run x r l (inr (place-object p)) (place-blocked hb p)
   place-blocked hb (place-here o l p) = λ u q y s. omega arith
 
   -- ---- the run that is found is a stretch
 
-  -- objects that start below x end there
-  abbrev pub Clear : ℕ → Type 0
-  Clear x = (h : ℕ) → isStart m h ≡ true → h < x → h + size m h ≤ x
+  pub place-apart : {x next last r before : ℕ} {f : Bool} → 1 ≤ x → PlaceIn m b x next f last r before → Clear m x → RunApart m r × (b ≤ word m r 0)
+  place-apart {x} hx (past-object o p) c = place-apart (omega arith) p (clear-object m x o c)
+  place-apart {x} hx (past-run o l p) c = place-apart (omega arith) p (clear-run m x o c)
+  place-apart {x} hx (place-here o l p) c = (run-apart m x hx o c, l)
 
-  clear-object : (x : ℕ) → ObjectIn m x → Clear x → Clear (x + word m x 0)
-  unfolding size
-  clear-object x o c h e l = cs (decLt h x) (ℕ-discrete h x)
-    where
-      cs : Dec (h < x) → Dec (h ≡ x) → h + word m h 0 ≤ x + word m x 0
-      cs (yes y) d = omega (arith, c h e y)
-      cs (no y) (yes q) = rw q (omega arith)
-      cs (no y) (no q) = false≢ (sym (o .alone h (omega arith) l) ∙ e)
-
-  clear-run : (x : ℕ) → RunIn m x → Clear x → Clear (x + word m x 0)
-  clear-run x o c h e l = cs (decLt h x) (ℕ-discrete h x)
-    where
-      cs : Dec (h < x) → Dec (h ≡ x) → h + size m h ≤ x + word m x 0
-      cs (yes y) d = omega (arith, c h e y)
-      cs (no y) (yes q) = false≢ (sym (o .no-start) ∙ (rw q at e))
-      cs (no y) (no q) = false≢ (sym (o .alone h (omega arith) l) ∙ e)
-
-  run-apart : (x : ℕ) → 1 ≤ x → RunIn m x → Clear x → RunApart m x
-  run-apart x hx o c = record { not-nil = hx; is-run = o; apart = λ h e. cs h e (decLt h x) (ℕ-discrete h x) (decLt h (x + word m x 0)) }
-    where
-      cs : (h : ℕ) → isStart m h ≡ true → Dec (h < x) → Dec (h ≡ x) → Dec (h < x + word m x 0) → (h + size m h ≤ x) ⊎ (x + word m x 0 ≤ h)
-      cs h e (yes y) d k = inl (c h e y)
-      cs h e (no y) (yes q) k = false≢ (sym (o .no-start) ∙ (rw q at e))
-      cs h e (no y) (no q) (yes k) = false≢ (sym (o .alone h (omega arith) k) ∙ e)
-      cs h e (no y) (no q) (no k) = inr (omega arith)
-
-  pub place-apart : {x next last r before : ℕ} {f : Bool} → 1 ≤ x → PlaceIn m b x next f last r before → Clear x → RunApart m r × (b ≤ word m r 0)
-  place-apart {x} hx (past-object o p) c = place-apart (omega arith) p (clear-object x o c)
-  place-apart {x} hx (past-run o l p) c = place-apart (omega arith) p (clear-run x o c)
-  place-apart {x} hx (place-here o l p) c = (run-apart x hx o c, l)
-
-  apart-stretch : (r : ℕ) → RunApart m r → b ≤ word m r 0 → Stretch m b r
-  unfolding size
-  apart-stretch r a l y p q = record { in-range = (omega (arith, a .not-nil), omega (arith, a .is-run .ends)); in-no-object = λ h e u v. cs h u v (a .apart h e) }
-    where
-      cs : (h : ℕ) → h ≤ y → y < h + word m h 0 → (h + word m h 0 ≤ r) ⊎ (r + word m r 0 ≤ h) → ⊥
-      cs h u v (inl k) = omega arith
-      cs h u v (inr k) = omega arith
+  -- so is the run before it, if there is one
+  pub before-apart : {x next last r before : ℕ} {f : Bool} → 1 ≤ x → PlaceIn m b x next f last r before → Clear m x → (last ≡ 0) ⊎ RunApart m last → (before ≡ 0) ⊎ RunApart m before
+  before-apart {x} hx (past-object o p) c k = before-apart (omega arith) p (clear-object m x o c) k
+  before-apart {x} hx (past-run o l p) c k = before-apart (omega arith) p (clear-run m x o c) (inr (run-apart m x hx o c))
+  before-apart hx (place-here o l p) c k = k
 
   -- ---- demand 2 on number 9: "no b neighbouring granules free"
 
   module _ (o : HeapFilled m) (z : HeapSized m) where
-    pub clear-one : Clear 1
-    clear-one h e l = absurd (omega (arith, (o .start-range h e) .0))
-
     pub room-place : (g : ℕ) → (roomFor m b) .run ≡ suc g → PlaceIn m b 1 (firstRun m) false 0 (suc g) ((roomFor m b) .before)
     unfolding roomFor
     room-place g e = fit-place (granules m) 0 g (image-pieces m o z) (omega arith) e
 
     -- the run that is found is a stretch, and no stretch starts lower
     pub room-stretch : (g : ℕ) → (roomFor m b) .run ≡ suc g → Stretch m b (suc g)
-    room-stretch g e = let a = place-apart (omega arith) (room-place g e) clear-one in apart-stretch (suc g) (a .0) (a .1)
+    room-stretch g e = let a = place-apart (omega arith) (room-place g e) (clear-one m o) in λ y p q. run-unused m (suc g) y (a .0) p (omega (arith, a .1))
 
     pub room-lowest : 1 ≤ b → (g : ℕ) → (roomFor m b) .run ≡ suc g → (u : ℕ) → Stretch m b u → suc g ≤ u
     room-lowest hb g e u s = cs (decLt u (suc g))

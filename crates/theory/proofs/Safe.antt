@@ -1,15 +1,15 @@
 -- Safety: with Cover, a finish keeps what a chain from a register reaches.
-use mathlib.Core.Path.{_≡_, sym, ap, subst, _∙_}
+use mathlib.Core.Path.{_≡_, refl, sym, ap, subst, _∙_}
 use mathlib.Core.Logic.{_⊎_, inl, inr}
-use mathlib.Core.Bool.{Bool, true, false}
-use Prim.Native.Nat.{ℕ, zero, suc, _+_, _*_, _≤_, _<_}
+use mathlib.Core.Bool.{true, false}
+use Prim.Native.Nat.{ℕ, _<_}
 use native.Mathlib.Omega.{arith}
-use Rattle.model.specs.Image.{Image, granules, isStart, marked, links, link, size}
-use Rattle.model.specs.Finish.{Due, due-entered, due-in-hand, due-dirty, due-card-in-hand, Found, found-reg, found-link, found-due, Kept, kept-marked, kept-found}
+use Rattle.model.specs.Image.{Image, granules, isStart, marked, links, link}
+use Rattle.model.specs.Finish.{Due, due-entered, due-in-hand, due-dirty, due-card-in-hand, found-reg, found-link, found-due, Kept, kept-marked, kept-found}
 use Rattle.model.specs.Claim.{Chain, chain-reg, chain-link}
 use Rattle.model.proofs.Laws.{false≢, bool-cases}
 use Rattle.theory.specs.Heap.{Proper, Laid}
-use Rattle.theory.specs.Cover.{Coming, on-dirty, on-entry, on-hand, on-card, Owes, owes-by, Covered, to-nil, to-marked, is-coming, is-owed, Cover}
+use Rattle.theory.specs.Cover.{Coming, on-dirty, on-entry, on-hand, on-card, owes-by, Covered, to-nil, to-marked, is-coming, is-owed, Cover}
 
 -- a chain reaches objects
 pub chain-start : (m : Image) → Proper m → {a : ℕ} → Chain m a → isStart m a ≡ true
@@ -27,20 +27,21 @@ coming-due m g i (on-entry p e hp he q) = due-entered p e hp he q
 coming-due m g i (on-hand t h q l) = due-in-hand t h q
 coming-due m g i (on-card t h q l) = due-card-in-hand t h q
 
-pub safe : (m : Image) → Cover m → Proper m → Laid m → (a : ℕ) → Chain m a → Kept m a
-safe m c o d a (chain-reg p r hp hr e nz) = kept-found (found-reg p r hp hr e nz)
-safe m c o d a (chain-link g i ch l e nz) = go (safe m c o d g ch) (bool-cases (marked m g))
+-- what a kept object links to is kept
+pub kept-link : (m : Image) → Cover m → (g i : ℕ) → g < granules m → Kept m g → i < links m g → (link m g i ≡ 0 → ⊥) → Kept m (link m g i)
+kept-link m c g i hg s l nz = go s (bool-cases (marked m g))
   where
-    hg : g < granules m
-    hg = start-below m d g (chain-start m o ch)
+    by : marked m g ≡ true → Covered m g i → Kept m (link m g i)
+    by k (to-nil q) = absurd (nz q)
+    by k (to-marked q) = kept-marked q
+    by k (is-coming q) = kept-found (found-due g i hg k (coming-due m g i q) l refl nz)
+    by k (is-owed (owes-by p r hp hr u q)) = kept-found (found-reg p r hp hr q nz)
 
-    by : marked m g ≡ true → Covered m g i → Kept m a
-    by k (to-nil q) = absurd (nz (sym e ∙ q))
-    by k (to-marked q) = kept-marked (subst (λ x. marked m x ≡ true) e q)
-    by k (is-coming q) = kept-found (found-due g i hg k (coming-due m g i q) l e nz)
-    by k (is-owed (owes-by p r hp hr u q)) = kept-found (found-reg p r hp hr (q ∙ e) nz)
-
-    go : Kept m g → (marked m g ≡ true) ⊎ (marked m g ≡ false) → Kept m a
+    go : Kept m g → (marked m g ≡ true) ⊎ (marked m g ≡ false) → Kept m (link m g i)
     go s (inl k) = by k (c g i hg k l)
     go (kept-marked k) (inr u) = false≢ (sym u ∙ k)
-    go (kept-found f) (inr u) = kept-found (found-link g i f u l e nz)
+    go (kept-found f) (inr u) = kept-found (found-link g i f u l refl nz)
+
+pub safe : (m : Image) → Cover m → Proper m → Laid m → (a : ℕ) → Chain m a → Kept m a
+safe m c o d a (chain-reg p r hp hr e nz) = kept-found (found-reg p r hp hr e nz)
+safe m c o d a (chain-link g i ch l e nz) = subst (Kept m) e (kept-link m c g i (start-below m d g (chain-start m o ch)) (safe m c o d g ch) l (λ z. nz (sym e ∙ z)))

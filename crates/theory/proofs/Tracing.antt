@@ -11,7 +11,6 @@ use lib.ListN.{getD}
 use borrow.Author.Tests.{ltb-true, ltb-false, eqb-true, eqb-false, not-true, not-false}
 use Rattle.model.specs.Base.{nth, put, first, bit}
 use Rattle.model.specs.Image.{Image, granules, word, marked, links, link, state, dirty, count, entry, input, output, hand, nextLink, withPackets, withTracers, setTracer}
-use Rattle.model.specs.Undamaged.{cover}
 use Rattle.model.specs.Collect.{held, fullest, pop, putHand, takeObject, traceHand, traceInput, tracePool, traceOutput, hasEntries, traceLine, traceStep}
 use Rattle.model.proofs.Laws.{false≢, bool-cases, every-use, best-ok}
 use Rattle.theory.specs.Cover.{Cover, on-dirty, is-coming}
@@ -19,7 +18,7 @@ use Rattle.theory.specs.Lines.{Pair, TracersOk, NilOr, Start, Marked, In
 use Rattle.theory.proofs.Covering.{CoverOn, Any, But, on, off, but-cover, hold-cover, Seen, hand-cover, takeObject-cover, pop-cover}
 use Rattle.theory.proofs.Lines.{put-packets, put-tracers}
 use Rattle.theory.proofs.Packets.{pop-ok}
-use Rattle.theory.proofs.Reaching.{unheld, Reached, reached-cover, reach-does, Stays}
+use Rattle.theory.proofs.Reaching.{unheld, Reached, reached-cover, reach-does, Stays, frame, reached-frame}
 use Rattle.theory.proofs.Sections.{hold-ok, hand-ok, swap-ok}
 
 -- granule 0 is not marked
@@ -65,11 +64,11 @@ in-hand-ok m o t ht nz = go (o .tracers-ok .hands .pair t ht)
 traced : (m r : Image) (t : ℕ) → t < 8 → Cover r → (hand m t ≡ 0 → ⊥) → marked m (hand m t) ≡ true → Reached m (link m (hand m t) (nextLink m t)) r
     → (b : Bool) → ltb (suc (nextLink m t)) (links m (hand m t)) ≡ b → Stays m (cond b (putHand r t (hand m t) (suc (nextLink m t))) (putHand r t 0 0))
 unfolding putHand setTracer withTracers links link word hand nextLink granules
-traced m r t ht cov nz k d b e = record { lines = ls b e; cover = off _ (cv b e); general-same = gs b }
+traced m r t ht cov nz k d b e = record { lines = ls b e; cover = off _ (cv b e); frame-same = gs b }
   where
-    gs : (b : Bool) → (cond b (putHand r t (hand m t) (suc (nextLink m t))) (putHand r t 0 0)) .general ≡ m .general
-    gs true = d .general-same
-    gs false = d .general-same
+    gs : (b : Bool) → frame (cond b (putHand r t (hand m t) (suc (nextLink m t))) (putHand r t 0 0)) ≡ frame m
+    gs true = reached-frame d
+    gs false = reached-frame d
 
     ls : (b : Bool) → ltb (suc (nextLink m t)) (links m (hand m t)) ≡ b → Lines (cond b (putHand r t (hand m t) (suc (nextLink m t))) (putHand r t 0 0))
     ls true e = hand-lines (d .lines) t (hand m t) (suc (nextLink m t)) ht (one nz (mk, rw (d .heap-same) (ltb-true _ _ e)))
@@ -117,9 +116,9 @@ pop-dirty : (m : Image) (p c : ℕ) → dirty m c ≡ true → dirty (pop m p) c
 unfolding pop withPackets dirty state
 pop-dirty m p c e = e
 
-pop-general : (m : Image) (p : ℕ) → (pop m p) .general ≡ m .general
+pop-frame : (m : Image) (p : ℕ) → frame (pop m p) ≡ frame m
 unfolding pop withPackets
-pop-general m p = refl
+pop-frame m p = refl
 
 pop-marked : (m : Image) (p g : ℕ) → Marked m g → marked (pop m p) g ≡ true
 unfolding pop withPackets marked
@@ -129,11 +128,11 @@ pop-hand : (m : Image) (p t : ℕ) → hand m t ≡ 0 → hand (pop m p) t ≡ 0
 unfolding pop withPackets hand
 pop-hand m p t e = e
 
-pub takeObject-general : (m : Image) (t g : ℕ) → (takeObject m t g) .general ≡ m .general
+pub takeObject-frame : (m : Image) (t g : ℕ) → frame (takeObject m t g) ≡ frame m
 unfolding takeObject putHand setTracer withTracers
-takeObject-general m t g = go (eqb (links m g) 0)
+takeObject-frame m t g = go (eqb (links m g) 0)
   where
-    go : (b : Bool) → (cond b m (putHand m t g 0)) .general ≡ m .general
+    go : (b : Bool) → frame (cond b m (putHand m t g 0)) ≡ frame m
     go true = refl
     go false = refl
 
@@ -170,11 +169,11 @@ popped-does m o cov t p c ht e hp hc b d = go b d
     but = pop-cover m (o .packets-ok) p c hp hc cov
 
     go : (b : Bool) → dirty m (g / 64) ≡ b → Stays m (cond b (pop m p) (takeObject (pop m p) t g))
-    go true q = record { lines = o′; cover = but-cover (pop m p) g but (λ i l. is-coming (on-dirty (pop-dirty m p (g / 64) q))); general-same = pop-general m p }
+    go true q = record { lines = o′; cover = but-cover (pop m p) g but (λ i l. is-coming (on-dirty (pop-dirty m p (g / 64) q))); frame-same = pop-frame m p }
     go false q = record {
       lines = takeObject-lines o′ t g ht (pop-marked m p g k);
       cover = takeObject-cover (pop m p) t g (o′ .tracers-ok .sized) ht (pop-hand m p t e) (zero-unmarked o′) but;
-      general-same = takeObject-general (pop m p) t g ∙ pop-general m p;
+      frame-same = takeObject-frame (pop m p) t g ∙ pop-frame m p;
     }
 
 pub traceInput-does : (m : Image) → Lines m → Cover m → (t : ℕ) → t < 8 → hand m t ≡ 0 → hasEntries m (input m t) ≡ true → Stays m (traceInput m t)
@@ -197,7 +196,7 @@ traceInput-does m o cov t ht e h = go (input m t) refl (count m (input m t - 1))
 
 pool-does : (m : Image) → Lines m → Cover m → (t : ℕ) → t < 8 → (x : ℕ) → fullest m ≡ x → Stays m (setTracer m t 0 (fullest m))
 unfolding setTracer withTracers
-pool-does m o cov t ht x e = record { lines = put-tracers o _ (rw e (go x e)); cover = hold-cover m t 0 (fullest m) (omega arith) cov; general-same = refl }
+pool-does m o cov t ht x e = record { lines = put-tracers o _ (rw e (go x e)); cover = hold-cover m t 0 (fullest m) (omega arith) cov; frame-same = refl }
   where
     go : (x : ℕ) → fullest m ≡ x → TracersOk (InHand m) (CardInHand m) (put (m .tracers) (8 * t + 0) x)
     go zero e = hold-ok (o .tracers-ok) t ht 0 0 (omega arith) (omega arith) (λ u j p hu hj x y. absurd (omega arith))
@@ -208,7 +207,7 @@ unfolding setTracer withTracers output
 swap-does m o cov t ht = record {
   lines = put-tracers o _ (swap-ok (o .tracers-ok) t ht (nth (m .tracers) (8 * t + 1)) refl);
   cover = hold-cover (setTracer m t 0 (output m t)) t 1 0 (omega arith) (hold-cover m t 0 (output m t) (omega arith) cov);
-  general-same = refl;
+  frame-same = refl;
 }
 
 -- ---- trace
@@ -223,4 +222,4 @@ trace-does m o cov t ht = go (not (eqb (hand m t) 0)) refl (hasEntries m (input 
     go false x true y c d = traceInput-does m o cov t ht (eqb-true _ _ (not-false _ x)) y
     go false x false y true d = pool-does m o cov t ht (fullest m) refl
     go false x false y false true = swap-does m o cov t ht
-    go false x false y false false = record { lines = o; cover = cov; general-same = refl }
+    go false x false y false false = record { lines = o; cover = cov; frame-same = refl }

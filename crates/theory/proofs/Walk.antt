@@ -5,11 +5,10 @@ use mathlib.Core.List.{List, [], _∷_, _++_}
 use Prim.Native.Nat.{ℕ, zero, suc, _+_, _*_, _-_, _≤_, _<_}
 use native.Mathlib.Decide.{ℕ-discrete, decLt}
 use native.Mathlib.Omega.{arith}
-use lib.Dec.{leb, eqb}
 use lib.ListN.{length, take, drop, replicate, take-append-drop, length-append, length-drop}
 use lib.Seq.{drop-at, length-take-le}
 use borrow.Author.Tests.{leb-true, eqb-true, le-leb, eq-eqb, not-true}
-use Rattle.model.specs.Base.{nth, every, all}
+use Rattle.model.specs.Base.{nth}
 use Rattle.model.specs.Image.{Image, granules, word, isStart, marked, size, links, firstRun}
 use Rattle.model.specs.Undamaged.{bare, piece, fill, filled}
 use Rattle.model.specs.Finish.{runTail}

@@ -10,7 +10,7 @@ use lib.ListN.{length, set, drop, length-drop}
 use lib.Seq.{set-append-left, drop-set-add}
 use Rattle.model.specs.Base.{nth, put, bit}
 use Rattle.model.specs.Image.{Image, granules, word, isStart, size, links, link, withHeap, setWord, firstRun}
-use Rattle.model.specs.Undamaged.{fill, filled}
+use Rattle.model.specs.Undamaged.{fill}
 use Rattle.model.proofs.Laws.{false≢, nth-put-other, length-put}
 use Rattle.model.proofs.Entries.{nth-drop}
 use Rattle.theory.specs.Heap.{Filled, f-end, f-object, f-run, runWords, Laid}

@@ -1,15 +1,14 @@
 -- From a begin to the next finish: where what a step puts into registers, links and marks comes from, and what stays true of it.
 use mathlib.Core.Path.{_≡_}
 use mathlib.Core.Logic.{_⊎_}
-use mathlib.Core.Bool.{Bool, true, false}
-use mathlib.Core.List.{List, [], _∷_}
+use mathlib.Core.Bool.{true, false}
 use Prim.Native.Nat.{ℕ, _*_, _<_}
 use lib.ListN.{length, getD}
 use Rattle.model.specs.Image.{Image, word, isStart, marked, size, links, link, reg, hand, nextLink, running}
 use Rattle.model.specs.Finish.{keptSet}
 use Rattle.model.specs.Records.{Step, new, finish, kindOf}
 use Rattle.model.specs.Mutate.{roomFor, newObject}
-use Rattle.model.specs.Steps.{Event, refusal, step}
+use Rattle.model.specs.Steps.{refusal, step}
 use Rattle.model.specs.Claim.{Chain}
 use Rattle.theory.specs.Heap.{Proper, Laid}
 use Rattle.theory.specs.Cover.{Counted}
@@ -87,11 +86,3 @@ Since m₀ g = isStart m₀ g ≡ true → Chain m₀ g
 pub record SweptTo (m n : Image) : Type 0 where
   pub starts-kept : (g : ℕ) → isStart n g ≡ getD (keptSet m) g false
   pub words-kept : (g i : ℕ) → isStart m g ≡ true → getD (keptSet m) g false ≡ true → i < 4 * size m g → word n g i ≡ word m g i
-
--- ---- lists of events
-
--- events from image m to image n: each got the image that the one before left
-pub data Linked : Image → List Event → Image → Type 0 where
-  l-nil : {m : Image} → Linked m [] m
-  l-cons : {m n : Image} {es : List Event} (e : Event) → e .got ≡ m → e .done ≡ step (e .got) (e .request)
-      → Linked (e .done .image) es n → Linked m (e ∷ es) n

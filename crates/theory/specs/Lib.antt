@@ -4,3 +4,7 @@ pub mod Lines
 pub mod Pieces
 pub mod Same
 pub mod Cycle
+pub mod Events
+pub mod Sweep
+pub mod Finish
+pub mod New

@@ -1,10 +1,17 @@
 -- The heap read by granule: objects and runs from a granule on, the run that new takes, unused granules and stretches of them.
 use mathlib.Core.Path.{_≡_}
 use mathlib.Core.Logic.{_⊎_}
-use mathlib.Core.Bool.{Bool, true, false, cond}
-use Prim.Native.Nat.{ℕ, zero, suc, _+_, _*_, _≤_, _<_}
+use mathlib.Core.List.{List}
+use mathlib.Core.Bool.{Bool, true, false, cond, _&&_}
+use Prim.Native.Nat.{ℕ, zero, suc, _+_, _*_, _-_, _≤_, _<_}
+use lib.Dec.{ltb}
+use Rattle.model.specs.Base.{nth, any}
 use Rattle.model.specs.Image.{Image, granules, word, isStart, size}
 use Rattle.theory.specs.Heap.{Bare}
+
+-- the words from granule g on are those that rd reads
+abbrev pub Reads : (ℕ → ℕ → ℕ) → ℕ → List ℕ → Type 0
+Reads rd g ws = (h i : ℕ) → g ≤ h → nth ws (4 * (h - g) + i) ≡ rd h i
 
 -- `st` says where objects start, `rd g i` is word i of granule g, `e` is the number of granules
 module _ (st : ℕ → Bool) (rd : ℕ → ℕ → ℕ) (e : ℕ) where
@@ -56,6 +63,10 @@ pub record RunApart (m : Image) (r : ℕ) : Type 0 where
   pub is-run : RunIn m r
   pub apart : (h : ℕ) → isStart m h ≡ true → (h + size m h ≤ r) ⊎ (r + word m r 0 ≤ h)
 
+-- objects that start below x end there
+abbrev pub Clear : Image → ℕ → Type 0
+Clear m x = (h : ℕ) → isStart m h ≡ true → h < x → h + size m h ≤ x
+
 -- ---- "no b neighbouring granules free"
 
 -- granule y is in no object
@@ -66,6 +77,17 @@ pub record Unused (m : Image) (y : ℕ) : Type 0 where
 -- b neighbouring unused granules, the first of them g
 abbrev pub Stretch : Image → ℕ → ℕ → Type 0
 Stretch m b g = (y : ℕ) → g ≤ y → y < g + b → Unused m y
+
+-- none starts from x on, below r
+abbrev pub Blocked : Image → ℕ → ℕ → ℕ → Type 0
+Blocked m b x r = (u : ℕ) → x ≤ u → u < r → Stretch m b u → ⊥
+
+-- granule y lies in a run, behind whose end stands an object or nothing: runs are joined
+pub record InRun (m : Image) (y : ℕ) : Type 0 where
+  pub run : ℕ
+  pub run-apart : RunApart m run
+  pub inside : (run ≤ y) × (y < run + word m run 0)
+  pub joined : (run + word m run 0 ≡ granules m) ⊎ (isStart m (run + word m run 0) ≡ true)
 
 -- ---- granules counted
 
@@ -80,3 +102,11 @@ sizes st rd g = cond (st g) (rd g 0) 0
 
 unfoldable pub usedGranules : Image → ℕ
 usedGranules m = total (sizes (isStart m) (word m)) (granules m)
+
+-- granule y is in an object
+unfoldable pub inObject : Image → ℕ → Bool
+inObject m y = any (suc y) (λ h. isStart m h && ltb y (h + size m h))
+
+-- the number of granules that are in no object, granule 0 among them
+unfoldable pub granulesOutside : Image → ℕ
+granulesOutside m = total (λ y. cond (inObject m y) 0 1) (granules m)

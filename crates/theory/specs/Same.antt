@@ -1,16 +1,16 @@
 -- An image and a plain store agree; what a step leaves of that; what an undamaged image gives for it.
 use mathlib.Core.Path.{_≡_}
-use mathlib.Core.Bool.{Bool, true, false, not}
-use mathlib.Core.List.{List}
-use Prim.Native.Nat.{ℕ, suc, _+_, _*_, _≤_, _<_}
+use mathlib.Core.Bool.{Bool, false, not}
+use mathlib.Core.List.{List, [], _++_}
+use Prim.Native.Nat.{ℕ, suc, _+_, _*_, _<_}
 use lib.Dec.{eqb}
 use lib.ListN.{length}
 use Rattle.model.specs.Image.{Image, word, isStart, size, links, link, levels, level, reg, owed, setReg}
-use Rattle.model.specs.Records.{Step}
-use Rattle.model.specs.Steps.{Event}
+use Rattle.model.specs.Records.{Step, Kind, new}
+use Rattle.model.specs.Steps.{Done, Event, offDesk, badSize, noObject, pastEnd, refusal, act, run, after}
 use Rattle.model.specs.Plain.{Object, old, made, PlainStore, PlainDone, named, reading}
 use Rattle.model.specs.Claim.{Chain}
-use Rattle.theory.specs.Heap.{HeapFilled, Laid, Proper}
+use Rattle.theory.specs.Heap.{Laid, Proper}
 
 -- ---- the relation
 
@@ -30,20 +30,39 @@ pub record Agrees (P : ℕ → Type 0) (name : ℕ → Object) (m : Image) (q : 
   pub same-level : (g i : ℕ) → P g → i < levels m g → q .levelOf (name g) i ≡ level m g i
 
 -- they agree on what a chain from a register reaches; the plain store has all else too
-abbrev pub Same : (ℕ → Object) → Image → PlainStore → Type 0
-Same name m q = Agrees (Chain m) name m q
+abbrev pub SameStore : (ℕ → Object) → Image → PlainStore → Type 0
+SameStore name m q = Agrees (Chain m) name m q
 
 -- the event at place i and the plain store's step answer alike and leave an image and a plain store that agree
 pub record Related (name : ℕ → Object) (i : ℕ) (e : Event) (d : PlainDone) : Type 0 where
   pub names-after : Names (named name i e) (suc i)
-  pub same-after : Same (named name i e) (e .done .image) (d .plain)
+  pub same-after : SameStore (named name i e) (e .done .image) (d .plain)
   pub same-reply : reading (named name i e) e ≡ d .reply
+
+abbrev pub event : Image → Step → Done → Event
+event m s d = record { got = m; request = s; done = d }
+
+-- ---- numbers
+
+-- the lines of 10, 4, 5, 6, 7 and 11 on an image, and those of 5, 6, 7 and 11 on a plain store: they agree where 4 does not apply, that of 7
+-- where 6 does not apply either
+pub record SameLines (phase off w x y z w′ x′ y′ z′ : Bool) : Type 0 where
+  pub in-phase : phase ≡ false
+  pub owing-line : off ≡ false → w ≡ w′
+  pub object-line : off ≡ false → x ≡ x′
+  pub end-line : off ≡ false → x ≡ false → y ≡ y′
+  pub nothing-line : off ≡ false → z ≡ z′
+
+-- an accepted step: none of these lines applies
+pub record Admitted (m : Image) (s : Step) (n : Kind) : Type 0 where
+  pub on-desk : offDesk s n ≡ false
+  pub has-object : noObject m s n ≡ false
+  pub not-past : pastEnd m s n ≡ false
+  pub good-size : badSize s n ≡ false
 
 -- ---- what an undamaged image has
 
 pub record Facts (m : Image) : Type 0 where
-  pub some-card : 1 ≤ m .k
-  pub heap-filled : HeapFilled m
   pub proper : Proper m
   pub laid : Laid m
   pub regs-length : length (m .regs) ≡ 256
@@ -71,3 +90,23 @@ pub record ObjectMade (m m′ : Image) (p r b c g : ℕ) : Type 0 where
   pub made-count : links m′ g ≡ c
   pub made-zero : (i : ℕ) → 2 + i < 4 * b → word m′ g (2 + i) ≡ 0
   pub made-kept : WordsStay m m′
+
+-- what an accepted new leaves
+abbrev pub NewMade : Image → Step → Type 0
+NewMade m s = refusal m s new ≡ 0 → ObjectMade m ((act m s new) .image) (s .who) (s .a) (s .b) (s .c) ((act m s new) .value)
+
+-- heap, starts, registers and owed cards are as they were
+pub record Quiet (m m′ : Image) : Type 0 where
+  pub quiet-width : m′ .width ≡ m .width
+  pub quiet-k : m′ .k ≡ m .k
+  pub quiet-heap : m′ .heap ≡ m .heap
+  pub quiet-starts : m′ .starts ≡ m .starts
+  pub quiet-regs : m′ .regs ≡ m .regs
+  pub quiet-owed : (p : ℕ) → owed m′ p ≡ owed m p
+
+-- ---- lists of steps
+
+-- the events of lists of steps that are run one after the other, each on the image that the last left
+pub data Runs : Image → List Event → Type 0 where
+  runs-none : {m : Image} → Runs m []
+  runs-more : {m : Image} {es : List Event} (ss : List Step) → Runs (after m (run m ss)) es → Runs m (run m ss ++ es)

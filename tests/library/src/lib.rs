@@ -4,8 +4,16 @@ pub mod guarded;
 
 mod exported {
     extern "C" {
-        pub fn fresh(image: *mut u16, length: usize) -> u16;
-        pub fn judge(image: *const u16, length: usize) -> u16;
+        pub fn fresh(image: *mut u16, words: usize) -> u16;
+        pub fn judge(image: *const u16, words: usize) -> u16;
+        pub fn batch(
+            image: *mut u16,
+            words: usize,
+            steps: *const u8,
+            bytes: usize,
+            answers: *mut u16,
+            answer_words: usize,
+        ) -> u16;
     }
 }
 
@@ -17,4 +25,18 @@ pub fn fresh(image: &mut [u16]) -> u16 {
 pub fn judge(image: &[u16]) -> u16 {
     // Safe: as above, and it writes nothing.
     unsafe { exported::judge(image.as_ptr(), image.len()) }
+}
+
+pub fn batch(image: &mut [u16], steps: &[u8], answers: &mut [u16]) -> u16 {
+    // Safe: as above, and the three slices are apart.
+    unsafe {
+        exported::batch(
+            image.as_mut_ptr(),
+            image.len(),
+            steps.as_ptr(),
+            steps.len(),
+            answers.as_mut_ptr(),
+            answers.len(),
+        )
+    }
 }
