@@ -23,7 +23,7 @@ fn read_level(im: &mut [u16], k: usize, p: usize, a: usize, b: usize, g: usize) 
         return Answer::PastEnd;
     }
     let n = crate::words::links(im, k, g);
-    Answer::Done(crate::words::word(im, k, g, 2 + n + b))
+    Answer::Done(image::word(im, k, g, 2 + n + b))
 }
 
 pub fn read(im: &mut [u16], k: usize, p: usize, a: usize, b: usize, c: usize) -> Answer
@@ -56,7 +56,7 @@ fn write_level(im: &mut [u16], k: usize, p: usize, a: usize, b: usize, c: usize,
         return Answer::PastEnd;
     }
     let n = crate::words::links(im, k, g);
-    crate::words::set_word(im, k, g, 2 + n + b, c as u16);
+    image::set_word(im, k, g, 2 + n + b, c as u16);
     Answer::Done(0)
 }
 

@@ -23,7 +23,7 @@ fn load_link(im: &mut [u16], k: usize, p: usize, a: usize, b: usize, c: usize, g
     if crate::words::links(im, k, g) <= c {
         return Answer::PastEnd;
     }
-    let v = crate::words::word(im, k, g, 2 + c);
+    let v = image::word(im, k, g, 2 + c);
     image::set_reg(im, k, p, a, v);
     Answer::Done(v)
 }
@@ -58,7 +58,7 @@ fn store_link(im: &mut [u16], k: usize, p: usize, a: usize, b: usize, c: usize, 
         return Answer::PastEnd;
     }
     let v = image::reg(im, k, p, c);
-    crate::words::set_word(im, k, g, 2 + b, v);
+    image::set_word(im, k, g, 2 + b, v);
     image::set_owed(im, k, p, (g / 64 + 1) as u16);
     Answer::Done(0)
 }

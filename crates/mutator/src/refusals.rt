@@ -34,7 +34,7 @@ pub fn held(im: &[u16], k: usize, p: usize, r: usize) -> Holding
     if 16 <= r {
         return Holding::Off;
     }
-    if crate::words::owed(im, k, p) != 0 {
+    if image::owed(im, k, p) != 0 {
         return Holding::Owes;
     }
     Holding::Holds(image::reg(im, k, p, r))

@@ -29,7 +29,7 @@ pub fn barrier(im: &mut [u16], k: usize, p: usize, a: usize, b: usize, c: usize)
     if 16 <= p {
         return Answer::OffDesk;
     }
-    let o = crate::words::owed(im, k, p);
+    let o = image::owed(im, k, p) as usize;
     if o == 0 {
         return Answer::NothingToDo;
     }
@@ -55,7 +55,7 @@ pub fn hand(im: &mut [u16], k: usize, p: usize, a: usize, b: usize, c: usize) ->
         Holding::Off => Answer::OffDesk,
         Holding::Owes => Answer::Owing,
         Holding::Holds(v) => {
-            if crate::words::owed(im, k, b) != 0 {
+            if image::owed(im, k, b) != 0 {
                 return Answer::Owing;
             }
             image::set_reg(im, k, b, c, v);

@@ -1,16 +1,10 @@
 use borrow.Author.Needs.{needs}
 use Rattle.mutator.proofs.Asking.{held-off, held-owing}
 use Rattle.mutator.proofs.LevelWords.{read-asks, read-unknown}
-use Rattle.model.specs.Collect.{held}
-use Rattle.model.specs.Examples.{left}
 use Rattle.image.specs.Answer.{asked}
 use mathlib.Core.Path.{sym, _∙_}
 use Rattle.mutator.proofs.levels.read.Statement.{statement}
 use Rattle.mutator.proofs.levels.read.Tie as tie
-use Rattle.mutator.proofs.levels.read.Reads as reads
-use Rattle.mutator.proofs.levels.read.Lts as lts
-use Rattle.mutator.proofs.levels.read_level.Reads as read-level-reads
-use Rattle.mutator.proofs.refusals.held.Reads as held-reads
 
 returns : tie.Need-returns
 returns c = search read-unknown

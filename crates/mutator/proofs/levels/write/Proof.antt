@@ -1,15 +1,10 @@
 use borrow.Author.Needs.{needs}
 use Rattle.mutator.proofs.Asking.{held-off, held-owing}
 use Rattle.mutator.proofs.LevelWords.{write-asks}
-use Rattle.model.specs.Collect.{held}
 use Rattle.image.specs.Answer.{asked}
 use mathlib.Core.Path.{sym, _∙_}
 use Rattle.mutator.proofs.levels.write.Statement.{statement}
 use Rattle.mutator.proofs.levels.write.Tie as tie
-use Rattle.mutator.proofs.levels.write.Reads as reads
-use Rattle.mutator.proofs.levels.write.Lts as lts
-use Rattle.mutator.proofs.levels.write_level.Reads as write-level-reads
-use Rattle.mutator.proofs.refusals.held.Reads as held-reads
 
 held-requires : tie.Need-held-requires
 held-requires c κs = search needs

@@ -3,7 +3,6 @@ use borrow.Author.Needs.{needs}
 use Rattle.mutator.specs.Asks.{Inside}
 use Rattle.mutator.proofs.Asking.{held-nil, held-inside}
 use Rattle.mutator.proofs.LevelWords.{write-asks, write-past, write-done, level-inside}
-use Rattle.model.specs.Examples.{left}
 use Rattle.model.specs.Image.{links, levels}
 use Rattle.image.specs.Answer.{asked}
 use Rattle.image.specs.Sized.{narrow}
@@ -11,11 +10,6 @@ use Prim.Native.Nat.{_+_, _*_, _<_}
 use native.Mathlib.Omega.{arith}
 use Rattle.mutator.proofs.levels.write_level.Statement.{statement}
 use Rattle.mutator.proofs.levels.write_level.Tie as tie
-use Rattle.mutator.proofs.levels.write_level.Reads as reads
-use Rattle.mutator.proofs.levels.write_level.Lts as lts
-use Rattle.mutator.proofs.words.levels.Reads as levels-reads
-use Rattle.mutator.proofs.words.links.Reads as links-reads
-use Rattle.mutator.proofs.words.set_word.Reads as set-word-reads
 
 inside : (c : tie.Else1) → Inside (c .before .before .args .k) (narrow (c .before .before .args .k) (c .before .before .args .im .now)) (c .before .before .args .g)
 inside c = let q = c .before .before .pre in held-inside _ _ (q .1 .0) _ _ _ (q .1 .1 .1) (c .if1 .left)

@@ -4,7 +4,6 @@ use Rattle.mutator.specs.Asks.{Inside}
 use Rattle.mutator.proofs.Asking.{held-nil, held-inside}
 use Rattle.mutator.proofs.Held.{ready}
 use Rattle.mutator.proofs.Loading.{load-asks, load-past, load-done}
-use Rattle.model.specs.Examples.{left}
 use Rattle.model.specs.Image.{links}
 use Rattle.image.specs.Sized.{narrow}
 use Prim.Native.Nat.{_<_}
@@ -12,11 +11,6 @@ use native.Mathlib.Omega.{arith}
 use Rattle.image.specs.Answer.{asked}
 use Rattle.mutator.proofs.objects.load_link.Statement.{statement}
 use Rattle.mutator.proofs.objects.load_link.Tie as tie
-use Rattle.mutator.proofs.objects.load_link.Reads as reads
-use Rattle.mutator.proofs.objects.load_link.Lts as lts
-use Rattle.image.proofs.set_reg.Reads as set-reg-reads
-use Rattle.mutator.proofs.words.links.Reads as links-reads
-use Rattle.mutator.proofs.words.word.Reads as word-reads
 
 inside : (c : tie.Else1) → Inside (c .before .before .args .k) (narrow (c .before .before .args .k) (c .before .before .args .im .now)) (c .before .before .args .g)
 inside c = let q = c .before .before .pre in held-inside _ _ (q .1 .0) _ _ _ (q .1 .1 .1) (c .if1 .left)

@@ -1,17 +1,11 @@
 use borrow.Author.Needs.{needs}
 use Rattle.mutator.proofs.Asking.{held-off, held-owing}
 use Rattle.mutator.proofs.Storing.{store-off, store-asks}
-use Rattle.model.specs.Collect.{held}
-use Rattle.model.specs.Examples.{left}
 use Rattle.image.specs.Answer.{asked}
 use mathlib.Core.Path.{sym, _∙_}
 use native.Mathlib.Omega.{arith}
 use Rattle.mutator.proofs.objects.store.Statement.{statement}
 use Rattle.mutator.proofs.objects.store.Tie as tie
-use Rattle.mutator.proofs.objects.store.Reads as reads
-use Rattle.mutator.proofs.objects.store.Lts as lts
-use Rattle.mutator.proofs.objects.store_link.Reads as store-link-reads
-use Rattle.mutator.proofs.refusals.held.Reads as held-reads
 
 returns : tie.Need-returns
 returns c = search store-off

@@ -4,7 +4,6 @@ use Rattle.mutator.specs.Asks.{Inside}
 use Rattle.mutator.proofs.Asking.{held-nil, held-inside}
 use Rattle.mutator.proofs.Held.{ready}
 use Rattle.mutator.proofs.Storing.{store-asks, store-past, store-done}
-use Rattle.model.specs.Examples.{left}
 use Rattle.model.specs.Image.{links}
 use Rattle.image.specs.Answer.{asked}
 use Rattle.image.specs.Sized.{narrow}
@@ -12,12 +11,6 @@ use Prim.Native.Nat.{_<_}
 use native.Mathlib.Omega.{arith}
 use Rattle.mutator.proofs.objects.store_link.Statement.{statement}
 use Rattle.mutator.proofs.objects.store_link.Tie as tie
-use Rattle.mutator.proofs.objects.store_link.Reads as reads
-use Rattle.mutator.proofs.objects.store_link.Lts as lts
-use Rattle.image.proofs.reg.Reads as reg-reads
-use Rattle.image.proofs.set_owed.Reads as set-owed-reads
-use Rattle.mutator.proofs.words.links.Reads as links-reads
-use Rattle.mutator.proofs.words.set_word.Reads as set-word-reads
 
 inside : (c : tie.Else1) → Inside (c .before .before .args .k) (narrow (c .before .before .args .k) (c .before .before .args .im .now)) (c .before .before .args .g)
 inside c = let q = c .before .before .pre in held-inside _ _ (q .1 .0) _ _ _ (q .1 .1 .1) (c .if1 .left)

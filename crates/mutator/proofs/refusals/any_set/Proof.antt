@@ -1,8 +1,6 @@
 use Rattle.mutator.proofs.Held.{set-first, set-second, set-third}
 use Rattle.mutator.proofs.refusals.any_set.Statement.{statement}
 use Rattle.mutator.proofs.refusals.any_set.Tie as tie
-use Rattle.mutator.proofs.refusals.any_set.Reads as reads
-use Rattle.mutator.proofs.refusals.any_set.Lts as lts
 
 returns : tie.Need-returns
 returns c = search set-first

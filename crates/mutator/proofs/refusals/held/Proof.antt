@@ -2,10 +2,6 @@ use borrow.Author.Needs.{needs}
 use Rattle.mutator.proofs.Held.{held-player, held-register, held-owes, held-holds}
 use Rattle.mutator.proofs.refusals.held.Statement.{statement}
 use Rattle.mutator.proofs.refusals.held.Tie as tie
-use Rattle.mutator.proofs.refusals.held.Reads as reads
-use Rattle.mutator.proofs.refusals.held.Lts as lts
-use Rattle.image.proofs.reg.Reads as reg-reads
-use Rattle.mutator.proofs.words.owed.Reads as owed-reads
 
 returns : tie.Need-returns
 returns c = search held-player

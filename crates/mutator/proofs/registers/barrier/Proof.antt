@@ -4,14 +4,6 @@ use Rattle.model.specs.Image.{owed}
 use native.Mathlib.Omega.{arith}
 use Rattle.mutator.proofs.registers.barrier.Statement.{statement}
 use Rattle.mutator.proofs.registers.barrier.Tie as tie
-use Rattle.mutator.proofs.registers.barrier.Reads as reads
-use Rattle.mutator.proofs.registers.barrier.Lts as lts
-use Rattle.image.proofs.card.Reads as card-reads
-use Rattle.image.proofs.set_card.Reads as set-card-reads
-use Rattle.image.proofs.set_owed.Reads as set-owed-reads
-use Rattle.mutator.proofs.refusals.any_set.Reads as any-set-reads
-use Rattle.mutator.proofs.registers.dirtied.Reads as dirtied-reads
-use Rattle.mutator.proofs.words.owed.Reads as owed-reads
 
 any-set-requires : tie.Need-any-set-requires
 any-set-requires c κs = search needs
@@ -24,6 +16,9 @@ returns-2 c = search barrier-off
 
 owed-requires : tie.Need-owed-requires
 owed-requires c κs = search needs
+
+cast-o : tie.Need-cast-o
+cast-o c = search needs
 
 same-length : tie.Need-same-length
 same-length c = search needs
@@ -63,6 +58,7 @@ barrier-spec =
     returns
     returns-2
     owed-requires
+    cast-o
     same-length
     returns-3
     sub-card

@@ -2,8 +2,6 @@ use Rattle.mutator.proofs.Passing.{dirty-low, dirty-high}
 use native.Mathlib.Omega.{arith}
 use Rattle.mutator.proofs.registers.dirtied.Statement.{statement}
 use Rattle.mutator.proofs.registers.dirtied.Tie as tie
-use Rattle.mutator.proofs.registers.dirtied.Reads as reads
-use Rattle.mutator.proofs.registers.dirtied.Lts as lts
 
 returns : tie.Need-returns
 returns c = dirty-low _ (omega arith)

@@ -1,18 +1,11 @@
 use borrow.Author.Needs.{needs}
 use Rattle.mutator.proofs.Asking.{held-off, held-owing}
 use Rattle.mutator.proofs.Passing.{drop-unknown, drop-asks, drop-done}
-use Rattle.model.specs.Collect.{held}
-use Rattle.model.specs.Examples.{left}
 use Rattle.image.specs.Answer.{asked}
 use mathlib.Core.Path.{sym, _∙_}
 use Rattle.mutator.proofs.Held.{ready}
 use Rattle.mutator.proofs.registers.drop.Statement.{statement}
 use Rattle.mutator.proofs.registers.drop.Tie as tie
-use Rattle.mutator.proofs.registers.drop.Reads as reads
-use Rattle.mutator.proofs.registers.drop.Lts as lts
-use Rattle.image.proofs.set_reg.Reads as set-reg-reads
-use Rattle.mutator.proofs.refusals.any_set.Reads as any-set-reads
-use Rattle.mutator.proofs.refusals.held.Reads as held-reads
 
 any-set-requires : tie.Need-any-set-requires
 any-set-requires c κs = search needs

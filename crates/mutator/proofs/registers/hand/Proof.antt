@@ -1,18 +1,11 @@
 use borrow.Author.Needs.{needs}
 use Rattle.mutator.proofs.Asking.{held-off, held-owing}
 use Rattle.mutator.proofs.Passing.{hand-player, hand-register, hand-asks, hand-owing, hand-done}
-use Rattle.model.specs.Collect.{held}
-use Rattle.model.specs.Examples.{left}
 use Rattle.image.specs.Answer.{asked}
 use mathlib.Core.Path.{sym, _∙_}
 use Rattle.model.specs.Image.{owed}
 use Rattle.mutator.proofs.registers.hand.Statement.{statement}
 use Rattle.mutator.proofs.registers.hand.Tie as tie
-use Rattle.mutator.proofs.registers.hand.Reads as reads
-use Rattle.mutator.proofs.registers.hand.Lts as lts
-use Rattle.image.proofs.set_reg.Reads as set-reg-reads
-use Rattle.mutator.proofs.refusals.held.Reads as held-reads
-use Rattle.mutator.proofs.words.owed.Reads as owed-reads
 
 returns : tie.Need-returns
 returns c = search hand-player

@@ -3,10 +3,6 @@ use Rattle.model.specs.Image.{size, levels}
 use native.Mathlib.Omega.{arith}
 use Rattle.mutator.proofs.words.levels.Statement.{statement}
 use Rattle.mutator.proofs.words.levels.Tie as tie
-use Rattle.mutator.proofs.words.levels.Reads as reads
-use Rattle.mutator.proofs.words.levels.Lts as lts
-use Rattle.mutator.proofs.words.links.Reads as links-reads
-use Rattle.mutator.proofs.words.word.Reads as word-reads
 
 word-requires : tie.Need-word-requires
 word-requires c κs = (search needs, omega (arith, c .before .pre .1 .below))

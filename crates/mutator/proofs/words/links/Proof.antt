@@ -2,9 +2,6 @@ use borrow.Author.Needs.{needs}
 use Rattle.model.specs.Image.{links}
 use Rattle.mutator.proofs.words.links.Statement.{statement}
 use Rattle.mutator.proofs.words.links.Tie as tie
-use Rattle.mutator.proofs.words.links.Reads as reads
-use Rattle.mutator.proofs.words.links.Lts as lts
-use Rattle.mutator.proofs.words.word.Reads as word-reads
 
 word-requires : tie.Need-word-requires
 word-requires c κs = search needs
