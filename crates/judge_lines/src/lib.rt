@@ -1,0 +1,1 @@
+// The lines of "undamaged" but Cover.
