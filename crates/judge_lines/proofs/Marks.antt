@@ -41,6 +41,7 @@ low x a b d ha hb e = go (ℕ-discrete a 1) (ℕ-discrete b 1) (ℕ-discrete x 0
     end : (y : ℕ) → y ≡ x * 2 → Dec (x ≡ 0) → eqb y 0 ≡ eqb x 0
     end y q (yes z) = rw (eq-eqb x 0 z, eq-eqb y 0 (omega arith))
     end y q (no z) = rw (ne-eqb x 0 z, ne-eqb y 0 (λ h. z (omega arith)))
+
     go : Dec (a ≡ 1) → Dec (b ≡ 1) → Dec (x ≡ 0) → eqb (x * 2 + d) 0 ≡ (implies (eqb a 1) (eqb b 1) && eqb x 0)
     go (yes p) (yes q) z = rw (eq-eqb a 1 p, eq-eqb b 1 q) (end (x * 2 + d) (omega arith) z)
     go (yes p) (no q) z = rw (eq-eqb a 1 p, ne-eqb b 1 q) (ne-eqb (x * 2 + d) 0 (λ h. q (omega arith)))
@@ -77,9 +78,9 @@ module _ (k : ℕ) (l : List ℕ) where
   mark-word w a b ea eb ha hb =
       sub-word 16 a b (65535 - b) ha hb (omega arith)
       ∙ all-cong 16 _ _ (λ j q.
-          let y : (16 * w + j) / 16 ≡ w = omega arith in
-          let z : (16 * w + j) % 16 ≡ j = omega arith in
-          rw (y, z, ea, eb))
+      let y : (16 * w + j) / 16 ≡ w = omega arith in
+      let z : (16 * w + j) % 16 ≡ j = omega arith in
+      rw (y, z, ea, eb))
 
   -- all granules, word by word
   pub by-words : (p : ℕ → Bool) (r : Bool) → r ≡ all (4 * k) (wordwise p) → r ≡ all (granules (narrow k l)) p

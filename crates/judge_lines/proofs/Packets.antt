@@ -41,7 +41,7 @@ entries-more (suc n) ps =
     let a : 32 + 32 * n ≡ 32 * suc n = omega arith in
     let b : 32 + (32 * n + 2) ≡ 32 * suc n + 2 = omega arith in
     rw (append-assoc) (ap (λ r. take (nth ps 0) (drop 2 ps) ++ r)
-      (entries-more n (drop 32 ps) ∙ rw (nth-drop 32 ps (32 * n), drop-drop (32 * n + 2) 32 ps, a, b)))
+    (entries-more n (drop 32 ps) ∙ rw (nth-drop 32 ps (32 * n), drop-drop (32 * n + 2) 32 ps, a, b)))
 
 pub elem-append : (g : ℕ) (l r : List ℕ) → elem g (l ++ r) ≡ (elem g l || elem g r)
 unfolding elem

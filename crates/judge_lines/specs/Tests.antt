@@ -42,7 +42,13 @@ module _ (m : Image) where
   unfoldable pub linkOk : ℕ → ℕ → Bool
   linkOk g i = nilOrStart m (link m g i)
 
-  -- the piece at g is in order
+  -- the object at g, the run at g, the piece at g are in order
+  unfoldable pub objectAt : ℕ → Bool
+  objectAt g = piece (isStart m) g (word m g 0) (drop (suc (4 * g)) (m .heap)) 0 false true
+
+  unfoldable pub runAt : ℕ → ℕ → Bool → Bool
+  runAt g next run = piece (isStart m) g (word m g 0) (drop (suc (4 * g)) (m .heap)) next run false
+
   unfoldable pub pieceAt : ℕ → ℕ → Bool → Bool
   pieceAt g next run = piece (isStart m) g (word m g 0) (drop (suc (4 * g)) (m .heap)) next run (isStart m g)
 
