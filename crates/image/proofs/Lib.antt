@@ -1,4 +1,6 @@
 pub mod Split
 pub mod Sections
-pub mod BitWords
+pub mod Stretches
 pub mod Sizes
+pub mod Masks
+pub mod BitWords
