@@ -15,7 +15,7 @@ use Rattle.model.specs.Image.{image, imageOf, granules, word, isStart, links, f
 use Rattle.model.specs.Undamaged.{bare, piece, fill, filled, linksOk}
 use Rattle.model.proofs.Laws.{false≢, and-split, all-use, all-make, every-use}
 use Rattle.image.specs.Sized.{Sized, narrow}
-use Rattle.judge_lines.specs.Tests.{notStart, clear, objectAt, pieceAt, nextRun}
+use Rattle.judge_lines.specs.Tests.{Room, notStart, clear, objectAt, pieceAt, nextRun}
 use Rattle.judge_lines.proofs.Loops.{and-true, all-append, all-first}
 use Rattle.judge_lines.proofs.Sections.{heap-long}
 use Rattle.judge_lines.proofs.Walk.{Head, head-is, tail-at, tail-long, bare-is, object-is, head-use}
@@ -154,8 +154,8 @@ module _ (k : ℕ) (l : List ℕ) (z : Sized k l) where
       pub w-less : not t ≡ false → (s : ℕ) → s ≡ word (narrow k l) g 0 → 64 * k - (g + s) < 64 * k - g
       w-less q s es = let f = fine g next run hg (sym e ∙ not-false t q) in omega (arith, f .pos, f .inside)
 
-      pub w-room : not t ≡ false → isStart (narrow k l) g ≡ true → 4 * g + 2 + links (narrow k l) g ≤ 256 * k
-      w-room q h = object-room g hg (piece-start g next run hg (sym e ∙ not-false t q) h)
+      pub w-room : not t ≡ false → Room k (narrow k l) g
+      w-room q = record { room = λ h. object-room g hg (piece-start g next run hg (sym e ∙ not-false t q) h) }
 
     pub w-end : 64 * k ≤ g → (eqb next 0 && good) ≡ heapLines
     unfolding granules narrow imageOf image

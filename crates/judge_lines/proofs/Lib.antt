@@ -1,7 +1,9 @@
 pub mod Loops
-pub mod Packets
+pub mod Entered
 pub mod Sections
+pub mod Searched
 pub mod Stretch
-pub mod Marks
+pub mod MarkWords
 pub mod Walk
 pub mod Fill
+pub mod Cases

@@ -9,7 +9,7 @@ use lib.Dec.{eqb}
 use lib.ListN.{length, getD, take, drop, List·getD-eq-default}
 use lib.Seq.{drop-drop, length-take-le}
 use borrow.Author.Tests.{ne-eqb}
-use Rattle.model.specs.Base.{nth, testBit, bit}
+use Rattle.model.specs.Base.{nth, zeroes, testBit, bit}
 use Rattle.model.specs.Image.{lengths, split, image, imageOf, isStart, marked}
 use Rattle.image.specs.Sized.{Sized, narrow}
 use Rattle.image.proofs.Split.{place, split-length}
@@ -38,6 +38,21 @@ module _ (k : ℕ) (ws : List ℕ) where
   pub tracers-at : narrow k ws .tracers ≡ take 64 (drop (265 * k + 1280) ws)
   unfolding narrow imageOf image lengths
   tracers-at = section-at 6 64 (265 * k + 1280) (omega arith) refl (omega arith)
+
+  -- ---- sections that are 0, by their stretch of the slice
+
+  module _ (r : Bool) where
+    section-zero : (s : List ℕ) (o n e : ℕ) → s ≡ take n (drop o ws) → e - o ≡ n → r ≡ zeroes (take (e - o) (drop o ws)) → r ≡ zeroes s
+    section-zero s o n e q d h = rw q (rw d at h)
+
+    pub marks-zero : r ≡ zeroes (take (264 * k - 260 * k) (drop (260 * k) ws)) → r ≡ zeroes (narrow k ws .marks)
+    marks-zero h = section-zero (narrow k ws .marks) (260 * k) (4 * k) (264 * k) marks-at (omega arith) h
+
+    pub packets-zero : r ≡ zeroes (take (265 * k + 1280 - (265 * k + 256)) (drop (265 * k + 256) ws)) → r ≡ zeroes (narrow k ws .packets)
+    packets-zero h = section-zero (narrow k ws .packets) (265 * k + 256) 1024 (265 * k + 1280) packets-at (omega arith) h
+
+    pub tracers-zero : r ≡ zeroes (take (265 * k + 1344 - (265 * k + 1280)) (drop (265 * k + 1280) ws)) → r ≡ zeroes (narrow k ws .tracers)
+    tracers-zero h = section-zero (narrow k ws .tracers) (265 * k + 1280) 64 (265 * k + 1344) tracers-at (omega arith) h
 
 -- ---- lengths
 

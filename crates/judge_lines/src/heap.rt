@@ -3,10 +3,10 @@ ghost use mathlib.Core.Path.{_≡_};
 ghost use mathlib.Core.Bool.{Bool, true, false, _&&_};
 ghost use Prim.Native.Nat.{ℕ, _+_, _*_, _-_, _≤_, _<_};
 ghost use Rattle.model.specs.Base.{all};
-ghost use Rattle.model.specs.Image.{granules, word, isStart, links, firstRun};
+ghost use Rattle.model.specs.Image.{granules, word, isStart, firstRun};
 ghost use Rattle.model.specs.Undamaged.{nilOrStart, regOk, linksOk, zeroGranule, filled};
 ghost use Rattle.image.specs.Sized.{Sized, narrow};
-ghost use Rattle.judge_lines.specs.Tests.{firstZero, linkOk, objectAt, runAt, pieceAt, nextRun};
+ghost use Rattle.judge_lines.specs.Tests.{Room, firstZero, linkOk, objectAt, runAt, pieceAt, nextRun};
 
 // ---- starts, and what may link to them
 
@@ -81,7 +81,7 @@ pub fn links_ok(im: &[u16], k: usize, g: usize, n: usize) -> bool
 pub fn object_links(im: &[u16], k: usize, g: usize) -> bool
     requires { ⌜ Sized k (now im) ⌝ }
     requires { ⌜ g < 64 * k ⌝ }
-    requires { ⌜ isStart (narrow k (now im)) g ≡ true → 4 * g + 2 + links (narrow k (now im)) g ≤ 256 * k ⌝ }
+    requires { ⌜ Room k (narrow k (now im)) g ⌝ }
     ensures { λ r. ⌜ r ≡ linksOk (narrow k (now (im .entry))) g ⌝ }
 {
     if image::bits::is_start(im, k, g) {

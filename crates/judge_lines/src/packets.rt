@@ -8,7 +8,8 @@ ghost use Rattle.model.specs.Base.{nth, all, elem, distinct, eachPiece, bit, se
 ghost use Rattle.model.specs.Image.{entries};
 ghost use Rattle.model.specs.Undamaged.{packetOk, entered};
 ghost use Rattle.image.specs.Sized.{Sized, narrow};
-ghost use Rattle.judge_lines.specs.Tests.{entryAt, packetAt, packetEntries, Packed, Seen};
+ghost use Rattle.judge_lines.specs.Tests.{entryAt, packetAt, packetEntries, Packed};
+ghost use Rattle.judge_lines.specs.Once.{Once};
 
 // ---- each packet
 
@@ -72,7 +73,7 @@ pub fn first_time(seen: &mut [u16], g: usize) -> bool
     let w = g / 16;
     let j = (g % 16) as u16;
     let x = seen[w];
-    seen[w] = image::bits::set_bit(x, j);
+    seen[w] = image::bits::with_bit(x, j);
     !image::bits::has_bit(x, j)
 }
 

@@ -15,7 +15,7 @@ use Rattle.model.specs.Image.{entriesOf}
 use Rattle.model.proofs.Laws.{length-put}
 use Rattle.model.proofs.Bits.{setBit-same, setBit-other, bit-zeros}
 use Rattle.model.proofs.Entries.{nth-drop}
-use Rattle.judge_lines.specs.Tests.{noneIn}
+use Rattle.judge_lines.specs.Once.{noneIn, restOnce, Once}
 use Rattle.judge_lines.proofs.Loops.{all-none, and-true, and-assoc, and-false, all-first, all-cong}
 
 -- ---- pieces by index
@@ -30,13 +30,13 @@ each-piece s (suc n) p ws =
 
 -- ---- entries packet after packet
 
+append-nil : (l : List ℕ) → l ++ [] ≡ l
+append-nil [] = refl
+append-nil (x ∷ l) = ap (λ r. x ∷ r) (append-nil l)
+
 pub entries-more : (n : ℕ) (ps : List ℕ) → entriesOf (suc n) ps ≡ entriesOf n ps ++ take (nth ps (32 * n)) (drop (32 * n + 2) ps)
 unfolding entriesOf
 entries-more zero ps = append-nil _
-  where
-    append-nil : (l : List ℕ) → l ++ [] ≡ l
-    append-nil [] = refl
-    append-nil (x ∷ l) = ap (λ r. x ∷ r) (append-nil l)
 entries-more (suc n) ps =
     let a : 32 + 32 * n ≡ 32 * suc n = omega arith in
     let b : 32 + (32 * n + 2) ≡ 32 * suc n + 2 = omega arith in
@@ -63,15 +63,6 @@ none-more seen x (y ∷ l) h = rw (none-more seen x l h) (go (ℕ-discrete y x))
     go : Dec (y ≡ x) → (not (bit 16 (setBit 16 seen x) y) && (noneIn seen l && not (elem x l))) ≡ ((not (bit 16 seen y) && noneIn seen l) && not (eqb x y || elem x l))
     go (yes e) = rw (e, setBit-same 16 seen x h, eq-eqb x x refl) (sym (and-false (not (bit 16 seen x) && noneIn seen l)))
     go (no e) = rw (setBit-other 16 seen x y e, ne-eqb x y (λ q. e (sym q))) (sym (and-assoc (not (bit 16 seen y)) _ _))
-
--- the rest of a list adds no granule twice, where `seen` holds what stands before it
-abbrev restOnce : List ℕ → List ℕ → Bool
-restOnce seen l = noneIn seen l && distinct l
-
--- `ok` says whether the granules of l are new to `before` and distinct, and `after` holds them besides
-pub record Once (before l : List ℕ) (ok : Bool) (after : List ℕ) : Type 0 where
-  pub same-length : length after ≡ length before
-  pub once : (rest : List ℕ) → restOnce before (l ++ rest) ≡ (ok && restOnce after rest)
 
 pub once-none : {before : List ℕ} → Once before [] true before
 once-none = record { same-length = refl; once = λ rest. refl }
@@ -102,7 +93,3 @@ pub once-end : (n : ℕ) {l after : List ℕ} {ok : Bool} → Once (replicate n 
 unfolding noneIn distinct
 once-end n {l} {after} {ok} p =
     sym (and-true ok) ∙ (sym (p .once []) ∙ rw (append-nil l, none-zeros n l))
-  where
-    append-nil : (l : List ℕ) → l ++ [] ≡ l
-    append-nil [] = refl
-    append-nil (x ∷ l) = ap (λ r. x ∷ r) (append-nil l)
