@@ -70,13 +70,13 @@ module _ (k : ℕ) (l : List ℕ) (z : Sized k l) where
   packet-nth : (p i : ℕ) → i < 32 → nth (take 32 (drop (32 * p) (narrow k l .packets))) i ≡ nth (narrow k l .packets) (32 * p + i)
   packet-nth p i h = nth-take 32 (drop (32 * p) (narrow k l .packets)) i h ∙ nth-drop (32 * p) (narrow k l .packets) i
 
-  packet-is : (p : ℕ) → packetAt (narrow k l) p ≡ every (leb (count (narrow k l) p) 30 ∷ eqb (nth (narrow k l .packets) (32 * p + 1)) 0 ∷ all 30 (entryAt (narrow k l) p) ∷ [])
+  pub packet-is : (p : ℕ) → packetAt (narrow k l) p ≡ every (leb (count (narrow k l) p) 30 ∷ eqb (nth (narrow k l .packets) (32 * p + 1)) 0 ∷ all 30 (entryAt (narrow k l) p) ∷ [])
   unfolding packetAt packetOk entryAt count entry every
   packet-is p =
       let o : 32 * p + 0 ≡ 32 * p = omega arith in
       let c : nth (take 32 (drop (32 * p) (narrow k l .packets))) 0 ≡ nth (narrow k l .packets) (32 * p) = packet-nth p 0 (omega arith) ∙ ap (nth (narrow k l .packets)) o in
       let b : all 30 (λ e. entryOk (narrow k l) (ltb e (nth (narrow k l .packets) (32 * p))) (nth (take 32 (drop (32 * p) (narrow k l .packets))) (2 + e))) ≡ all 30 (λ e. entryOk (narrow k l) (ltb e (nth (narrow k l .packets) (32 * p))) (nth (narrow k l .packets) (32 * p + 2 + e))) =
-          all-cong 30 _ _ (λ e h. let y : 32 * p + (2 + e) ≡ 32 * p + 2 + e = omega arith in rw (packet-nth p (2 + e) (omega arith), y)) in
+      all-cong 30 _ _ (λ e h. let y : 32 * p + (2 + e) ≡ 32 * p + 2 + e = omega arith in rw (packet-nth p (2 + e) (omega arith), y)) in
       rw (c, packet-nth p 1 (omega arith), b)
 
   pub packet-all : (p n y : ℕ) (r : Bool) → n ≡ nth (narrow k l .packets) (32 * p) → y ≡ nth (narrow k l .packets) (32 * p + 1) → r ≡ all 30 (entryAt (narrow k l) p) → ((leb n 30 && eqb y 0) && r) ≡ packetAt (narrow k l) p
@@ -128,6 +128,10 @@ module _ (k : ℕ) (l : List ℕ) (z : Sized k l) where
     pub links-object : (n : ℕ) (r : Bool) → t ≡ true → n ≡ word (narrow k l) g 1 → r ≡ all n (linkOk (narrow k l) g) → r ≡ linksOk (narrow k l) g
     unfolding linksOk implies links linkOk
     links-object n r h en q = rw (← et, h, ← en) q
+
+    pub room-use : (n : ℕ) → Room k (narrow k l) g → t ≡ true → n ≡ word (narrow k l) g 1 → 4 * g + 2 + n ≤ 256 * k
+    unfolding links
+    room-use n r h en = let b : 4 * g + 2 + word (narrow k l) g 1 ≤ 256 * k = r .room (sym et ∙ h) in omega arith
 
     pub links-run : t ≡ false → true ≡ linksOk (narrow k l) g
     unfolding linksOk implies

@@ -7,3 +7,4 @@ pub mod MarkWords
 pub mod Walk
 pub mod Fill
 pub mod Cases
+pub mod Idle

@@ -55,7 +55,7 @@ module _ (k : ℕ) (l : List ℕ) (z : Sized k l) (packed : Packed (narrow k l))
       let b : n ≤ 30 = few n en in
       let q : a + n - a ≡ n = omega arith in
       let s : take n (drop (32 * p + 2) (narrow k l .packets)) ≡ take n (drop a l) =
-          rw (packets-at k l, stretch n (32 * p + 2) 1024 (drop (265 * k + 256) l) (omega arith), drop-drop (32 * p + 2) (265 * k + 256) l, ← ea) refl in
+      rw (packets-at k l, stretch n (32 * p + 2) 1024 (drop (265 * k + 256) l) (omega arith), drop-drop (32 * p + 2) (265 * k + 256) l, ← ea) refl in
       rw (← en, s) (rw q at e)
 
   -- ---- none of them twice
@@ -68,5 +68,75 @@ module _ (k : ℕ) (l : List ℕ) (z : Sized k l) (packed : Packed (narrow k l))
   unfolding packetEntries nth
   entries-nth e h = nth-take (count (narrow k l) p) (drop (32 * p + 2) (narrow k l .packets)) e h ∙ nth-drop (32 * p + 2) (narrow k l .packets) e
 
-pub record Along (l before : List ℕ) (ok : Bool) (e : ℕ) (after : List ℕ) : Type 0 where
+-- `after` holds the granules of the first e of the n entries of l besides those of `before`
+pub record Along (l : List ℕ) (n : ℕ) (before : List ℕ) (ok : Bool) (e : ℕ) (after : List ℕ) : Type 0 where
+  pub within : e ≤ n
+  pub long : length after ≡ 2048
   pub so-far : Once before (take e l) ok after
+
+pub a-none : {l : List ℕ} {n : ℕ} {before : List ℕ} → length before ≡ 2048 → Along l n before true 0 before
+a-none h = record { within = omega arith; long = h; so-far = once-none }
+
+module _ (k : ℕ) (l : List ℕ) (z : Sized k l) (packed : Packed (narrow k l)) (p : ℕ) (hp : p < 32) (before seen : List ℕ) (n e x : ℕ) (ok : Bool) (a : Along (packetEntries (narrow k l) p) n before ok e seen) (h : e < n) (en : n ≡ nth (narrow k l .packets) (32 * p)) (ex : x ≡ nth (narrow k l .packets) (32 * p + 2 + e)) where
+  a-count : e < count (narrow k l) p
+  unfolding count
+  a-count = omega arith
+
+  pub a-place : x / 16 < length seen
+  unfolding entry
+  a-place = let b : nth (narrow k l .packets) (32 * p + 2 + e) < 32768 = packed .below p e hp a-count in omega (arith, a .long)
+
+  pub a-more : (t : Bool) (seen′ : List ℕ) → t ≡ not (bit 16 seen x) → seen′ ≡ setBit 16 seen x → Along (packetEntries (narrow k l) p) n before (ok && t) (e + 1) seen′
+  a-more t seen′ et es =
+      let o : Once seen (x ∷ []) t seen′ = rw (et, es) (once-one seen x a-place) in
+      let y : getD (packetEntries (narrow k l) p) e 0 ≡ x = entries-nth k l z packed p hp e a-count ∙ sym ex in
+      let g : take (suc e) (packetEntries (narrow k l) p) ≡ take e (packetEntries (narrow k l) p) ++ (x ∷ []) =
+      rw (take-suc (packetEntries (narrow k l) p) e 0 (omega (arith, a-count, entries-length k l z packed p hp)), y) in
+      rw add-one (record { within = omega arith; long = o .same-length ∙ a .long; so-far = rw g (once-append (a .so-far) o) })
+
+pub a-end : (k : ℕ) (l : List ℕ) (z : Sized k l) (packed : Packed (narrow k l)) (p : ℕ) (hp : p < 32) (before seen : List ℕ) (n e : ℕ) (ok : Bool)
+    → Along (packetEntries (narrow k l) p) n before ok e seen → n ≤ e → n ≡ nth (narrow k l .packets) (32 * p) → Once before (packetEntries (narrow k l) p) ok seen
+unfolding count
+a-end k l z packed p hp before seen n e ok a h en =
+    let t : take e (packetEntries (narrow k l) p) ≡ packetEntries (narrow k l) p = take-all e (packetEntries (narrow k l) p) (omega (arith, entries-length k l z packed p hp)) in
+    rw t at (a .so-far)
+
+-- ---- packet after packet
+
+module _ (k : ℕ) (l : List ℕ) where
+  packet-more : (p : ℕ) → entriesOf (suc p) (narrow k l .packets) ≡ entriesOf p (narrow k l .packets) ++ packetEntries (narrow k l) p
+  unfolding packetEntries count
+  packet-more p = entries-more p (narrow k l .packets)
+
+  pub record Through (before : List ℕ) (ok : Bool) (p : ℕ) (after : List ℕ) : Type 0 where
+    pub within : p ≤ 32
+    pub long : length after ≡ 2048
+    pub so-far : Once before (entriesOf p (narrow k l .packets)) ok after
+
+  pub t-none : (before : List ℕ) → length before ≡ 2048 → Through before true 0 before
+  unfolding entriesOf
+  t-none before h = record { within = omega arith; long = h; so-far = once-none }
+
+  pub t-more : (before seen seen′ : List ℕ) (p : ℕ) (ok t : Bool) → Through before ok p seen → p < 32 → Once seen (packetEntries (narrow k l) p) t seen′ → Through before (ok && t) (p + 1) seen′
+  t-more before seen seen′ p ok t a h o =
+      rw add-one (record { within = omega arith; long = o .same-length ∙ a .long; so-far = rw (packet-more p) (once-append (a .so-far) o) })
+
+  pub t-end : (before seen : List ℕ) (p : ℕ) (ok : Bool) → Through before ok p seen → 32 ≤ p → Once before (entries (narrow k l)) ok seen
+  unfolding entries
+  t-end before seen p ok a h = let e : p ≡ 32 = omega (arith, a .within) in rw e at (a .so-far)
+
+  pub record Reached (g : ℕ) (found : Bool) (p : ℕ) : Type 0 where
+    pub within : p ≤ 32
+    pub so-far : found ≡ elem g (entriesOf p (narrow k l .packets))
+
+  pub e-none : (g : ℕ) → Reached g false 0
+  unfolding entriesOf elem
+  e-none g = record { within = omega arith; so-far = refl }
+
+  pub e-more : (g p : ℕ) (found t : Bool) → Reached g found p → p < 32 → t ≡ elem g (packetEntries (narrow k l) p) → Reached g (found || t) (p + 1)
+  e-more g p found t a h e =
+      rw add-one (record { within = omega arith; so-far = rw (packet-more p, elem-append g (entriesOf p (narrow k l .packets)) (packetEntries (narrow k l) p), ← (a .so-far), ← e) })
+
+  pub e-end : (g p : ℕ) (found : Bool) → Reached g found p → 32 ≤ p → found ≡ entered (narrow k l) g
+  unfolding entered entries
+  e-end g p found a h = let e : p ≡ 32 = omega (arith, a .within) in rw e at (a .so-far)

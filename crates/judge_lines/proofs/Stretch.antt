@@ -33,6 +33,10 @@ zero-stretch ws a n h =
     (rw e at (sym (zeroes-all (take n (drop a ws)))))
     ∙ all-cong n _ _ (λ i q. rw (nth-take n (drop a ws) i q, nth-drop a ws i))
 
+-- the words of a run behind its two
+pub run-zero : (l : List ℕ) (g s : ℕ) (r : Bool) → 1 ≤ s → r ≡ zeroes (take (4 * g + 4 * s - (4 * g + 2)) (drop (4 * g + 2) l)) → r ≡ zeroes (take (4 * s - 2) (drop (4 * g + 2) l))
+run-zero l g s r h e = let n : 4 * g + 4 * s - (4 * g + 2) ≡ 4 * s - 2 = omega arith in rw n at e
+
 -- ---- bits within a word
 
 -- a number of one more binary digit is 0 if its digit and the rest are

@@ -42,8 +42,8 @@ head-use k g s n h =
 head-make : (k g s n : ℕ) → Head k g s n → headOk k g s n ≡ true
 head-make k g s n h = and-join _ _ (and-join _ _ (and-join _ _ (le-leb _ _ (h .pos)) (le-leb _ _ (h .few))) (le-leb _ _ (h .inside))) (le-leb _ _ (h .links-in))
 
-pub object-head : (k g s n : ℕ) → not (headOk k g s n) ≡ false → Head k g s n
-object-head k g s n h = head-use k g s n (not-false _ h)
+pub object-head : (k : ℕ) (l : List ℕ) (g s n : ℕ) → s ≡ word (narrow k l) g 0 → n ≡ word (narrow k l) g 1 → not (headOk k g s n) ≡ false → Head k g s n
+object-head k l g s n es en h = head-use k g s n (not-false _ h)
 
 pub record RunHead (k g next : ℕ) (run : Bool) (s : ℕ) : Type 0 where
   pub apart : run ≡ false
@@ -61,8 +61,11 @@ run-use k g next run s h =
     let c = and-split (not run) _ (b .0) in
     record { apart = not-true run (c .0); here = eqb-true _ _ (c .1); pos = leb-true _ _ (b .1); inside = leb-true _ _ (a .1) }
 
-pub run-head : (k g next : ℕ) (run : Bool) (s : ℕ) → not (runHeadOk k g next run s) ≡ false → RunHead k g next run s
-run-head k g next run s h = run-use k g next run s (not-false _ h)
+pub run-head : (k : ℕ) (l : List ℕ) (g next : ℕ) (run : Bool) (s : ℕ) → s ≡ word (narrow k l) g 0 → not (runHeadOk k g next run s) ≡ false → RunHead k g next run s
+run-head k l g next run s es h = run-use k g next run s (not-false _ h)
+
+pub run-fits : (k : ℕ) (l : List ℕ) (g next : ℕ) (run : Bool) (s : ℕ) → s ≡ word (narrow k l) g 0 → not (runHeadOk k g next run s) ≡ false → (1 ≤ s) × (g + s ≤ 64 * k)
+run-fits k l g next run s es h = let r = run-head k l g next run s es h in (r .pos, r .inside)
 
 -- ---- pieces by index
 

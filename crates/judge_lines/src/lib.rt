@@ -118,7 +118,10 @@ pub fn is_idle(im: &[u16], k: usize) -> bool
     requires { ⌜ Sized k (now im) ⌝ }
     ensures { λ r. ⌜ r ≡ idle (narrow k (now (im .entry))) ⌝ }
 {
-    bare::zero_marks(im, k) & bare::zero_packets(im, k) & bare::zero_tracers(im, k) & all_unscanned(im, k)
+    bare::zero_marks(im, k)
+        & bare::zero_packets(im, k)
+        & bare::zero_tracers(im, k)
+        & all_unscanned(im, k)
 }
 
 // ---- a cycle
@@ -130,7 +133,10 @@ pub fn cycle_ok(im: &[u16], k: usize) -> bool
     if !packets::packets_ok(im, k) {
         return false;
     }
-    marks::marks_ok(im, k) & packets::once_ok(im, k) & tracers::tracers_ok(im, k) & tracers::held_ok(im, k)
+    marks::marks_ok(im, k)
+        & packets::once_ok(im, k)
+        & tracers::tracers_ok(im, k)
+        & tracers::held_ok(im, k)
 }
 
 // ---- all lines
@@ -139,7 +145,11 @@ pub fn is_sound(im: &[u16], k: usize) -> bool
     requires { ⌜ Sized k (now im) ⌝ }
     ensures { λ r. ⌜ r ≡ sound (narrow k (now (im .entry))) ⌝ }
 {
-    let layout = heap::heap_ok(im, k) & heap::regs_ok(im, k) & cards_ok(im, k) & players_ok(im, k) & general_ok(im, k);
+    let layout = heap::heap_ok(im, k)
+        & heap::regs_ok(im, k)
+        & cards_ok(im, k)
+        & players_ok(im, k)
+        & general_ok(im, k);
     if image::general_word(im, k, 0) == 0 {
         return layout & is_idle(im, k);
     }

@@ -1,4 +1,3 @@
-
 use borrow.Author.Needs.{needs}
 use Rattle.model.specs.Undamaged.{cardOk}
 use mathlib.Core.Path.{refl}

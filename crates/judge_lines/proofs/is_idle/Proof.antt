@@ -1,4 +1,3 @@
-
 use borrow.Author.Needs.{needs}
 use Rattle.judge_lines.specs.Tests.{idle}
 use Rattle.judge_lines.proofs.Loops.{and-true, and-assoc}

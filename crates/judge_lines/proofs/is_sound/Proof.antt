@@ -1,4 +1,5 @@
 use borrow.Author.Needs.{needs}
+use Rattle.judge_lines.proofs.Idle.{sound-still, sound-cycle}
 use Rattle.judge_lines.proofs.is_sound.Statement.{statement}
 use Rattle.judge_lines.proofs.is_sound.Tie as tie
 use Rattle.judge_lines.proofs.is_sound.Reads as reads
@@ -34,13 +35,13 @@ is-idle-requires : tie.Need-is-idle-requires
 is-idle-requires c κs = search needs
 
 returns : tie.Need-returns
-returns c = ?
+returns c = search sound-still
 
 cycle-ok-requires : tie.Need-cycle-ok-requires
 cycle-ok-requires c κs = search needs
 
 returns-2 : tie.Need-returns-2
-returns-2 c = ?
+returns-2 c = search sound-cycle
 
 pub is-sound-spec : {M : Type 1} → statement M
 is-sound-spec =

@@ -1,4 +1,3 @@
-
 use borrow.Author.Needs.{needs}
 use Rattle.judge_lines.proofs.Cases.{player-lines}
 use Rattle.judge_lines.proofs.player_ok.Statement.{statement}

@@ -1,4 +1,3 @@
-
 use borrow.Author.Needs.{needs}
 use Rattle.judge_lines.proofs.Stretch.{one-shl, bits-clear}
 use native.Mathlib.Omega.{arith}

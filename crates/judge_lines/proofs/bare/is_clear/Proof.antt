@@ -1,4 +1,3 @@
-
 use Rattle.judge_lines.proofs.Stretch.{Rest, r-all, r-more, r-stop, r-end}
 use Rattle.model.specs.Image.{count}
 use borrow.Author.Needs.{needs}

@@ -1,5 +1,6 @@
-
 use borrow.Author.Needs.{needs}
+use Rattle.judge_lines.proofs.Stretch.{run-zero}
+use Rattle.model.specs.Base.{zeros}
 use Rattle.judge_lines.proofs.bare.run_zero.Statement.{statement}
 use Rattle.judge_lines.proofs.bare.run_zero.Tie as tie
 use Rattle.judge_lines.proofs.bare.run_zero.Reads as reads
@@ -37,7 +38,7 @@ zeros-requires : tie.Need-zeros-requires
 zeros-requires c κs = search needs
 
 returns : tie.Need-returns
-returns c = search needs
+returns c = run-zero _ _ _ _ (c .before .before .before .pre .1 .0) (c .zeros .ensures)
 
 pub run-zero-spec : {M : Type 1} → statement M
 run-zero-spec =

@@ -1,4 +1,3 @@
-
 use borrow.Author.Needs.{needs}
 use Rattle.judge_lines.proofs.Sections.{packets-zero}
 use Rattle.judge_lines.proofs.bare.zero_packets.Statement.{statement}

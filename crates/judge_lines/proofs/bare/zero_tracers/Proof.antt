@@ -1,4 +1,3 @@
-
 use borrow.Author.Needs.{needs}
 use Rattle.judge_lines.proofs.Sections.{tracers-zero}
 use Rattle.judge_lines.proofs.bare.zero_tracers.Statement.{statement}

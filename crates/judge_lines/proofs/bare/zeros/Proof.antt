@@ -1,4 +1,3 @@
-
 use Rattle.judge_lines.specs.Tests.{isZero}
 use Rattle.judge_lines.proofs.Loops.{Gathered, g-none, g-more, g-end}
 use Rattle.judge_lines.proofs.Stretch.{zeroes-all}

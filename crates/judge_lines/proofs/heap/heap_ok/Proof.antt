@@ -1,4 +1,6 @@
 use borrow.Author.Needs.{needs}
+use Rattle.judge_lines.proofs.Cases.{heap-no, heap-yes, unused}
+use Rattle.model.specs.Image.{firstRun}
 use Rattle.judge_lines.proofs.heap.heap_ok.Statement.{statement}
 use Rattle.judge_lines.proofs.heap.heap_ok.Tie as tie
 use Rattle.judge_lines.proofs.heap.heap_ok.Reads as reads
@@ -11,7 +13,7 @@ first-unused-requires : tie.Need-first-unused-requires
 first-unused-requires c κs = search needs
 
 returns : tie.Need-returns
-returns c = ?
+returns c = search heap-no
 
 general-word-requires : tie.Need-general-word-requires
 general-word-requires c κs = search needs
@@ -20,10 +22,11 @@ cast-walk : tie.Need-cast-walk
 cast-walk c = search needs
 
 walk-requires : tie.Need-walk-requires
-walk-requires c κs = ?
+unfolding firstRun
+walk-requires c κs = (search needs, (c .general-word .ensures, search unused))
 
 returns-2 : tie.Need-returns-2
-returns-2 c = ?
+returns-2 c = search heap-yes
 
 pub heap-ok-spec : {M : Type 1} → statement M
 heap-ok-spec =

@@ -1,4 +1,3 @@
-
 use borrow.Author.Needs.{needs}
 use Rattle.judge_lines.specs.Tests.{linkOk}
 use Rattle.judge_lines.proofs.Cases.{nil-or-start}

@@ -1,4 +1,3 @@
-
 use borrow.Author.Needs.{needs}
 use Rattle.judge_lines.proofs.Walk.{next-object, next-run}
 use Rattle.judge_lines.proofs.heap.next_run.Statement.{statement}

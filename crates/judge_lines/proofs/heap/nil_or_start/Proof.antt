@@ -1,4 +1,3 @@
-
 use borrow.Author.Needs.{needs}
 use Rattle.judge_lines.proofs.Cases.{nil-or-start}
 use Rattle.judge_lines.proofs.heap.nil_or_start.Statement.{statement}

@@ -1,6 +1,5 @@
-
 use borrow.Author.Needs.{needs}
-use Rattle.judge_lines.proofs.Cases.{links-object, links-run}
+use Rattle.judge_lines.proofs.Cases.{links-object, links-run, room-use}
 use Rattle.judge_lines.proofs.heap.object_links.Statement.{statement}
 use Rattle.judge_lines.proofs.heap.object_links.Tie as tie
 use Rattle.judge_lines.proofs.heap.object_links.Reads as reads
@@ -19,7 +18,7 @@ cast-links-ok : tie.Need-cast-links-ok
 cast-links-ok c = search needs
 
 links-ok-requires : tie.Need-links-ok-requires
-links-ok-requires c κs = (search needs, search needs)
+links-ok-requires c κs = (search needs, search room-use)
 
 returns : tie.Need-returns
 returns c = search links-object

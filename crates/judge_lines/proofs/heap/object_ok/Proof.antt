@@ -1,4 +1,3 @@
-
 use borrow.Author.Needs.{needs}
 use Rattle.judge_lines.proofs.Walk.{object-head, object-no, object-yes}
 use native.Mathlib.Omega.{arith}
@@ -40,10 +39,10 @@ add-is-clear : tie.Need-add-is-clear
 add-is-clear c = search needs
 
 sub-is-clear : tie.Need-sub-is-clear
-sub-is-clear c = omega (arith, object-head _ _ _ _ (c .if1 .left))
+sub-is-clear c = omega (arith, object-head _ _ _ _ _ (c .before .before .word-at .ensures) (c .before .word-at2 .ensures) (c .if1 .left))
 
 is-clear-requires : tie.Need-is-clear-requires
-is-clear-requires c κs = (search needs, omega (arith, object-head _ _ _ _ (c .if1 .left)))
+is-clear-requires c κs = (search needs, omega (arith, object-head _ _ _ _ _ (c .before .before .word-at .ensures) (c .before .word-at2 .ensures) (c .if1 .left)))
 
 returns-2 : tie.Need-returns-2
 returns-2 c = search object-yes

@@ -1,4 +1,3 @@
-
 use borrow.Author.Needs.{needs}
 use Rattle.judge_lines.proofs.Walk.{piece-object, piece-run}
 use Rattle.judge_lines.proofs.heap.piece_ok.Statement.{statement}

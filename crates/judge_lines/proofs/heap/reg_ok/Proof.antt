@@ -1,4 +1,3 @@
-
 use borrow.Author.Needs.{needs}
 use Rattle.judge_lines.proofs.Cases.{nil-or-start}
 use Rattle.model.specs.Undamaged.{regOk}

@@ -1,7 +1,7 @@
-
 use borrow.Author.Needs.{needs}
-use Rattle.judge_lines.proofs.Walk.{run-head, run-no, run-yes}
+use Rattle.judge_lines.proofs.Walk.{run-head, run-no, run-yes, run-fits}
 use native.Mathlib.Omega.{arith}
+use Rattle.model.specs.Steps.{run}
 use Rattle.judge_lines.proofs.heap.run_ok.Statement.{statement}
 use Rattle.judge_lines.proofs.heap.run_ok.Tie as tie
 use Rattle.judge_lines.proofs.heap.run_ok.Reads as reads
@@ -29,13 +29,13 @@ add-is-clear : tie.Need-add-is-clear
 add-is-clear c = search needs
 
 sub-is-clear : tie.Need-sub-is-clear
-sub-is-clear c = omega (arith, run-head _ _ _ _ _ (c .if1 .left))
+sub-is-clear c = omega (arith, run-head _ _ _ (c .before .before .before .args .next) (c .before .before .before .args .run) _ (c .before .word-at .ensures) (c .if1 .left))
 
 is-clear-requires : tie.Need-is-clear-requires
-is-clear-requires c κs = (search needs, omega (arith, run-head _ _ _ _ _ (c .if1 .left)))
+is-clear-requires c κs = (search needs, omega (arith, run-head _ _ _ (c .before .before .before .args .next) (c .before .before .before .args .run) _ (c .before .word-at .ensures) (c .if1 .left)))
 
 run-zero-requires : tie.Need-run-zero-requires
-run-zero-requires c κs = search needs
+run-zero-requires c κs = (search needs, run-fits _ _ _ (c .before .before .before .before .args .next) (c .before .before .before .before .args .run) _ (c .before .before .word-at .ensures) (c .before .if1 .left))
 
 returns-2 : tie.Need-returns-2
 returns-2 c = search run-yes

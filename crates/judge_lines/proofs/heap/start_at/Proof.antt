@@ -1,4 +1,3 @@
-
 use borrow.Author.Needs.{needs}
 use Rattle.judge_lines.proofs.Cases.{start-at}
 use Rattle.judge_lines.proofs.heap.start_at.Statement.{statement}

@@ -1,4 +1,3 @@
-
 use borrow.Author.Needs.{needs}
 use Rattle.model.specs.Image.{word}
 use Rattle.judge_lines.proofs.heap.word_at.Statement.{statement}

@@ -1,4 +1,3 @@
-
 use borrow.Author.Needs.{needs}
 use Rattle.judge_lines.proofs.Cases.{mark-at}
 use Rattle.judge_lines.proofs.marks.marked_at.Statement.{statement}

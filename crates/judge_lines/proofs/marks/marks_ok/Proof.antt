@@ -1,12 +1,12 @@
-
 use Rattle.judge_lines.specs.Tests.{wordwise}
-use Rattle.judge_lines.proofs.Loops.{Gathered, g-none, g-end}
-use Rattle.judge_lines.proofs.MarkWords.{by-words}
+use Rattle.judge_lines.proofs.Loops.{Gathered, g-none, g-end, g-more}
+use Rattle.judge_lines.proofs.MarkWords.{by-words, mark-word}
 use Rattle.model.specs.Undamaged.{markOk}
 use Rattle.image.specs.Sized.{narrow}
 use Prim.Native.Nat.{_*_, _-_}
 use native.Mathlib.Omega.{arith}
 use borrow.Author.Needs.{needs}
+use Rattle.model.specs.Cases.{ok}
 use Rattle.judge_lines.proofs.marks.marks_ok.Statement.{statement}
 use Rattle.judge_lines.proofs.marks.marks_ok.Tie as tie
 use Rattle.judge_lines.proofs.marks.marks_ok.Reads as reads
@@ -39,7 +39,7 @@ loop-less : tie.Need-loop-less Inv-loop μ-loop
 loop-less c = search needs
 
 loop-again : tie.Need-loop-again Inv-loop μ-loop
-loop-again c = search needs
+loop-again c = g-more _ _ _ _ _ (c .before .before .before .loop .inv) (omega arith) (mark-word _ _ _ _ _ (c .before .mark-word .ensures) (c .start-word .ensures) (omega (arith, c .before .mark-word .ok)) (omega (arith, c .start-word .ok)))
 
 returns : tie.Need-returns Inv-loop μ-loop
 returns c = by-words _ _ _ _ (g-end (c .before .loop .inv) (omega arith))

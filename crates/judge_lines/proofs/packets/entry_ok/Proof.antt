@@ -1,4 +1,3 @@
-
 use borrow.Author.Needs.{needs}
 use Rattle.judge_lines.proofs.Cases.{entry-in, entry-past}
 use Rattle.judge_lines.proofs.packets.entry_ok.Statement.{statement}

@@ -1,4 +1,7 @@
 use borrow.Author.Needs.{needs}
+use Rattle.model.specs.Base.{nth, put, bit, setBit}
+use mathlib.Core.Path.{refl, ap}
+use mathlib.Core.Bool.{not}
 use Rattle.judge_lines.proofs.packets.first_time.Statement.{statement}
 use Rattle.judge_lines.proofs.packets.first_time.Tie as tie
 use Rattle.judge_lines.proofs.packets.first_time.Reads as reads
@@ -31,7 +34,8 @@ same-length : tie.Need-same-length
 same-length c = search needs
 
 returns : tie.Need-returns
-returns c = ?
+unfolding bit setBit nth put
+returns c = (ap not (c .has-bit .ensures), rw (c .before .with-bit .ensures) refl)
 
 pub first-time-spec : {M : Type 1} → statement M
 first-time-spec =

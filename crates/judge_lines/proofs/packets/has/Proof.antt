@@ -1,4 +1,3 @@
-
 use Rattle.judge_lines.proofs.Searched.{Met, met-none, met-more, met-end}
 use Prim.Native.Nat.{_-_}
 use borrow.Author.Needs.{needs}

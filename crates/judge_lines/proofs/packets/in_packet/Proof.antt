@@ -1,6 +1,6 @@
-
 use borrow.Author.Needs.{needs}
-use Rattle.judge_lines.proofs.Searched.{in-packet}
+use Rattle.judge_lines.proofs.Searched.{in-packet, few}
+use native.Mathlib.Omega.{arith}
 use Rattle.judge_lines.proofs.packets.in_packet.Statement.{statement}
 use Rattle.judge_lines.proofs.packets.in_packet.Tie as tie
 use Rattle.judge_lines.proofs.packets.in_packet.Reads as reads
@@ -45,7 +45,7 @@ part-has-start : tie.Need-part-has-start
 part-has-start c = search needs
 
 part-has-end : tie.Need-part-has-end
-part-has-end c = search needs
+part-has-end c = omega (arith, few _ _ (c .before .before .pre .0) (c .before .before .pre .1 .0) _ (c .before .before .pre .1 .1) _ (c .packet-word .ensures))
 
 has-requires : tie.Need-has-requires
 has-requires c κs = search needs

@@ -1,4 +1,5 @@
 use borrow.Author.Needs.{needs}
+use Rattle.judge_lines.proofs.Entered.{once-end}
 use Rattle.judge_lines.proofs.packets.once_ok.Statement.{statement}
 use Rattle.judge_lines.proofs.packets.once_ok.Tie as tie
 use Rattle.judge_lines.proofs.packets.once_ok.Reads as reads
@@ -12,7 +13,7 @@ all-once-requires : tie.Need-all-once-requires
 all-once-requires c κs = search needs
 
 returns : tie.Need-returns
-returns c = ?
+returns c = once-end 2048 (c .before .all-once .ensures)
 
 pub once-ok-spec : {M : Type 1} → statement M
 once-ok-spec = tie.close (tie.spec slice-aggregate-all-once all-once-requires returns)

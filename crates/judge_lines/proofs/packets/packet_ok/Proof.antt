@@ -1,4 +1,3 @@
-
 use borrow.Author.Needs.{needs}
 use Rattle.judge_lines.proofs.Cases.{packet-all}
 use Rattle.judge_lines.proofs.packets.packet_ok.Statement.{statement}

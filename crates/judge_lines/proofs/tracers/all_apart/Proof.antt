@@ -1,4 +1,3 @@
-
 use Rattle.judge_lines.specs.Tests.{apart}
 use Rattle.judge_lines.proofs.Loops.{Passed, none, more, end}
 use Rattle.model.specs.Cases.{ok}

@@ -1,4 +1,3 @@
-
 use borrow.Author.Needs.{needs}
 use Rattle.judge_lines.proofs.Cases.{card-nil, card-no, card-yes}
 use Rattle.judge_lines.proofs.tracers.hand_card_ok.Statement.{statement}

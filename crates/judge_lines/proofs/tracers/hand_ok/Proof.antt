@@ -1,4 +1,3 @@
-
 use borrow.Author.Needs.{needs}
 use Rattle.judge_lines.proofs.Cases.{hand-nil, hand-out, hand-in}
 use Rattle.judge_lines.proofs.tracers.hand_ok.Statement.{statement}

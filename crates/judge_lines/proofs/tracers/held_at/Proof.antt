@@ -1,4 +1,3 @@
-
 use borrow.Author.Needs.{needs}
 use Rattle.model.specs.Undamaged.{heldAt}
 use Rattle.judge_lines.proofs.tracers.held_at.Statement.{statement}

@@ -1,4 +1,3 @@
-
 use borrow.Author.Needs.{needs}
 use Rattle.judge_lines.proofs.Cases.{held-nil, held-other}
 use Rattle.judge_lines.proofs.tracers.held_once.Statement.{statement}

@@ -1,4 +1,3 @@
-
 use borrow.Author.Needs.{needs}
 use Rattle.judge_lines.specs.Tests.{apart}
 use mathlib.Core.Path.{refl}

@@ -1,5 +1,8 @@
-
 use borrow.Author.Needs.{needs}
+use Rattle.judge_lines.proofs.Loops.{and-true, and-assoc}
+use Rattle.model.specs.Base.{every}
+use Rattle.model.specs.Image.{hand, nextLink, handCard, nextGranule}
+use Rattle.model.specs.Undamaged.{tracerOk}
 use Rattle.judge_lines.proofs.tracers.tracer_ok.Statement.{statement}
 use Rattle.judge_lines.proofs.tracers.tracer_ok.Tie as tie
 use Rattle.judge_lines.proofs.tracers.tracer_ok.Reads as reads
@@ -96,7 +99,8 @@ hand-card-ok-requires : tie.Need-hand-card-ok-requires
 hand-card-ok-requires c κs = search needs
 
 returns : tie.Need-returns
-returns c = search needs
+unfolding tracerOk every hand nextLink handCard nextGranule
+returns c = simp (← (c .before .before .before .before .before .before .before .before .before .tracer-word .ensures), ← (c .before .before .before .before .before .before .before .before .tracer-word2 .ensures), ← (c .before .before .before .before .before .before .before .tracer-word3 .ensures), ← (c .before .before .before .before .before .before .tracer-word4 .ensures), ← (c .before .before .before .before .before .tracer-word5 .ensures), ← (c .before .before .before .before .tracer-word6 .ensures), ← (c .before .before .before .tracer-word7 .ensures), ← (c .before .before .tracer-word8 .ensures), ← (c .before .hand-ok .ensures), ← (c .hand-card-ok .ensures), and-assoc, and-true)
 
 pub tracer-ok-spec : {M : Type 1} → statement M
 tracer-ok-spec =
