@@ -1,13 +1,13 @@
 -- Words cut into sections: a word and a stretch of words, read and written, seen in the section that holds them.
 use mathlib.Core.Path.{_≡_, refl, ap, _∙_, sym}
-use mathlib.Core.List.{List, [], _∷_}
-use Prim.Native.Nat.{ℕ, zero, suc, _+_, _≤_, _<_}
-use native.Mathlib.Nat.{add-assoc, zero-add, add-suc}
+use mathlib.Core.List.{List, [], _∷_, map}
+use Prim.Native.Nat.{ℕ, zero, suc, _+_, _≤_, _<_, _-_}
+use native.Mathlib.Nat.{add-assoc, zero-add, add-suc, suc-add}
 use native.Mathlib.Omega.{arith}
-use lib.ListN.{length, getD, set, take, drop, length-drop}
-use lib.Seq.{getD-take, getD-drop, take-set-lt, take-set-le, drop-set-add, drop-set-lt, length-take-le, getD-set-same, set-getD, set-set, sets}
+use lib.ListN.{length, getD, set, take, drop, length-drop, take-append-drop}
+use lib.Seq.{getD-take, getD-drop, take-set-lt, take-set-le, drop-set-add, drop-set-lt, length-take-le, getD-set-same, set-getD, set-set, sets, take-nil, take-take, drop-drop}
 use Rattle.model.specs.Base.{nth, put}
-use Rattle.model.specs.Image.{split}
+use Rattle.model.specs.Image.{split, join}
 
 -- the place of section s among sections of the given lengths
 abbrev pub place : List ℕ → ℕ → ℕ
@@ -56,3 +56,37 @@ split-sets ns ws s i (v ∷ vs) h =
     let x : List ℕ = set (getD (split ns ws) s []) i v in
     rw (one, add-suc (place ns s) i) at (split-sets ns (set ws (place ns s + i) v) s (suc i) vs (omega arith))
     ∙ rw (getD-set-same (split ns ws) s x [] l, set-set (split ns ws) s x (sets x (suc i) vs))
+
+-- ---- all sections together
+
+abbrev pub total : List ℕ → ℕ
+total [] = 0
+total (n ∷ ns) = n + total ns
+
+pub join-split : (ns ws : List ℕ) → length ws ≡ total ns → join (split ns ws) ≡ ws
+unfolding split join
+join-split [] [] e = refl
+join-split [] (w ∷ ws) e = absurd (omega arith)
+join-split (n ∷ ns) ws e = rw (join-split ns (drop n ws) (rw (length-drop n ws) (omega arith))) (take-append-drop n ws)
+
+pub split-lengths : (ns ws : List ℕ) → length ws ≡ total ns → map length (split ns ws) ≡ ns
+unfolding split
+split-lengths [] ws e = refl
+split-lengths (n ∷ ns) ws e = rw (length-take-le n ws (omega arith)) (ap (λ r. n ∷ r) (split-lengths ns (drop n ws) (rw (length-drop n ws) (omega arith))))
+
+-- ---- a part of a section
+
+drop-take : (i r : ℕ) (l : List ℕ) → drop i (take (i + r) l) ≡ take r (drop i l)
+drop-take zero r l = rw zero-add
+drop-take (suc i) r [] = rw suc-add (sym (take-nil r))
+drop-take (suc i) r (x ∷ l) = rw suc-add (drop-take i r l)
+
+pub split-part : (ns ws : List ℕ) (s i m : ℕ) → i + m ≤ getD ns s 0 → take m (drop i (getD (split ns ws) s [])) ≡ take m (drop (place ns s + i) ws)
+unfolding split
+split-part [] ws s i m h =
+    let z : m ≡ 0 = omega arith in
+    rw z
+split-part (n ∷ ns) ws zero i m h =
+    let e : i + (n - i) ≡ n = omega arith in
+    rw (zero-add i, ← e, drop-take i (n - i) ws) (take-take m (n - i) (drop i ws) (omega arith))
+split-part (n ∷ ns) ws (suc s) i m h = split-part ns (drop n ws) s i m h ∙ rw (add-assoc n (place ns s) i) (ap (take m) (drop-drop (place ns s + i) n ws))

@@ -1,0 +1,3 @@
+// What the collector holds by value: work packets and tracers, read from the image and written back; the next marked object of a card.
+
+pub mod packet; // packet.rt: work packets
