@@ -64,7 +64,7 @@ module _ (k : ℕ) (l : List ℕ) where
     unfolding heldOnce heldAt either
     held-idle x = rw (z (8 * (x / 2) + x % 2))
 
-  all-packets : eachPiece 32 32 (packetOk (narrow k l)) (narrow k l .packets) ≡ all 32 (packetAt (narrow k l))
+  pub all-packets : eachPiece 32 32 (packetOk (narrow k l)) (narrow k l .packets) ≡ all 32 (packetAt (narrow k l))
   unfolding packetAt
   all-packets = each-piece 32 32 (packetOk (narrow k l)) (narrow k l .packets)
 
