@@ -103,13 +103,13 @@ module _ (k : ℕ) (l : List ℕ) where
     unfolding cardComes every handCard nextGranule
     card-comes = rw (← ec, ← en, add-one) (simp and-true)
 
-  module _ (g a p v : ℕ) (e : v ≡ nth (narrow k l .players) (2 * p)) where
+  module _ (g a p v : ℕ) (e : v ≡ owed (narrow k l) p) where
     pub owes-no : (v ≡ g / 64 + 1 → ⊥) → false ≡ owes (narrow k l) g a p
-    unfolding owes every owed
+    unfolding owes every
     owes-no h = rw (← e, ne-eqb v (suc (g / 64)) (λ q. h (omega arith)))
 
     pub owes-yes : (r : Bool) → v ≡ g / 64 + 1 → r ≡ any 16 (holds (narrow k l) p a) → r ≡ owes (narrow k l) g a p
-    unfolding owes every owed
+    unfolding owes every
     owes-yes r h q = rw (← e, eq-eqb v (suc (g / 64)) (omega arith), ← q) (sym (and-true r))
 
   -- ---- one link

@@ -56,13 +56,13 @@ module _ (k : ℕ) (l : List ℕ) (z : Sized k l) where
     un-cover r h q = rw (← e, not-false s h, ← q) (sym (and-true r))
 
     -- with no cycle nothing is marked
-    still : (v : ℕ) → v ≡ nth (narrow k l .general) 0 → v ≡ 0 → sound (narrow k l) ≡ true → cover (narrow k l) ≡ true
-    unfolding sound idleOk running cover implies
+    still : (v : ℕ) → v ≡ running (narrow k l) → v ≡ 0 → sound (narrow k l) ≡ true → cover (narrow k l) ≡ true
+    unfolding sound idleOk cover implies
     still v ev h q =
         let i = imp-use _ _ (every-use _ q 12) (eq-eqb _ 0 (sym ev ∙ h)) in
         all-make (granules (narrow k l)) _ (λ g b. rw (no-mark k l (every-use _ i 0) g))
 
-    pub un-still : (v : ℕ) → not s ≡ false → v ≡ nth (narrow k l .general) 0 → v ≡ 0 → true ≡ undamaged (narrow k l)
+    pub un-still : (v : ℕ) → not s ≡ false → v ≡ running (narrow k l) → v ≡ 0 → true ≡ undamaged (narrow k l)
     un-still v h ev y = un-cover true h (sym (still v ev y (sym e ∙ not-false s h)))
 
 -- ---- the ways out of `judge`

@@ -89,7 +89,7 @@ pub fn is_owing(im: &[u16], k: usize, g: usize, a: usize, p: usize) -> bool
     requires { ⌜ g < 64 * k ⌝ }
     ensures { λ r. ⌜ r ≡ owes (narrow k (now (im .entry))) g a p ⌝ }
 {
-    if image::player_word(im, k, 2 * p) as usize != g / 64 + 1 {
+    if image::owed(im, k, p) as usize != g / 64 + 1 {
         return false;
     }
     held_by(im, k, p, a)
@@ -140,7 +140,7 @@ pub fn is_plain(im: &[u16], k: usize, g: usize, j: usize) -> bool
     requires { ⌜ 4 * g + 2 + j < 256 * k ⌝ }
     ensures { λ r. ⌜ r ≡ plain (narrow k (now (im .entry))) g j ⌝ }
 {
-    let a = judge_lines::heap::word_at(im, k, g, 2 + j) as usize;
+    let a = image::word(im, k, g, 2 + j) as usize;
     (a == 0) | judge_lines::marks::marked_at(im, k, a)
 }
 
@@ -163,7 +163,7 @@ pub fn is_late(im: &[u16], k: usize, g: usize, j: usize) -> bool
     requires { ⌜ 4 * g + 2 + j < 256 * k ⌝ }
     ensures { λ r. ⌜ r ≡ late (narrow k (now (im .entry))) g j ⌝ }
 {
-    let a = judge_lines::heap::word_at(im, k, g, 2 + j) as usize;
+    let a = image::word(im, k, g, 2 + j) as usize;
     if is_plain(im, k, g, j) {
         return true;
     }
@@ -193,7 +193,7 @@ pub fn object_covered(im: &[u16], k: usize, g: usize) -> bool
     if !image::bits::is_marked(im, k, g) {
         return true;
     }
-    let n = judge_lines::heap::word_at(im, k, g, 1) as usize;
+    let n = image::word(im, k, g, 1) as usize;
     if all_plain(im, k, g, n) {
         return true;
     }

@@ -14,7 +14,7 @@ pub fn is_undamaged(im: &[u16], k: usize) -> bool
     if !judge_lines::is_sound(im, k) {
         return false;
     }
-    if image::general_word(im, k, 0) == 0 {
+    if image::running(im, k) == 0 {
         return true;
     }
     cover::is_covered(im, k)

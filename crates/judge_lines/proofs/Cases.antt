@@ -51,8 +51,8 @@ module _ (k : ℕ) (l : List ℕ) (z : Sized k l) where
       go true = refl
       go false = refl
 
-  pub player-lines : (p o s : ℕ) → o ≡ nth (narrow k l .players) (2 * p) → s ≡ nth (narrow k l .players) (2 * p + 1) → (leb o k && leb s 1) ≡ playerOk (narrow k l) p
-  unfolding playerOk every owed scanned narrow imageOf image
+  pub player-lines : (p o s : ℕ) → o ≡ owed (narrow k l) p → s ≡ scanned (narrow k l) p → (leb o k && leb s 1) ≡ playerOk (narrow k l) p
+  unfolding playerOk every narrow imageOf image
   player-lines p o s eo es = rw (eo, es) (simp and-true)
 
   -- ---- packets

@@ -114,13 +114,13 @@ module _ (k : ℕ) (l : List ℕ) where
       unfolding sound every cycleLines narrow imageOf image
       sound-is = rw (ea, eb, ec, ed, ee) (simp (and-assoc, and-true))
 
-      module _ (v : ℕ) (ev : v ≡ nth (narrow k l .general) 0) where
+      module _ (v : ℕ) (ev : v ≡ running (narrow k l)) where
         idle-still : v ≡ 0 → idleOk (narrow k l) ≡ idle (narrow k l)
-        unfolding idleOk implies running idle unscanned
+        unfolding idleOk implies idle unscanned
         idle-still h = rw (← ev, eq-eqb v 0 h)
 
         idle-running : (v ≡ 0 → ⊥) → idleOk (narrow k l) ≡ true
-        unfolding idleOk implies running
+        unfolding idleOk implies
         idle-running h = rw (← ev, ne-eqb v 0 h)
 
         pub sound-still : (i : Bool) → v ≡ 0 → i ≡ idle (narrow k l) → (((((a && b) && c) && d) && e) && i) ≡ sound (narrow k l)

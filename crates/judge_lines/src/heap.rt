@@ -3,7 +3,7 @@ ghost use mathlib.Core.Path.{_≡_};
 ghost use mathlib.Core.Bool.{Bool, true, false, _&&_};
 ghost use Prim.Native.Nat.{ℕ, _+_, _*_, _-_, _≤_, _<_};
 ghost use Rattle.model.specs.Base.{all};
-ghost use Rattle.model.specs.Image.{granules, word, isStart, firstRun};
+ghost use Rattle.model.specs.Image.{granules, isStart, firstRun};
 ghost use Rattle.model.specs.Undamaged.{nilOrStart, regOk, linksOk, zeroGranule, filled};
 ghost use Rattle.image.specs.Sized.{Sized, narrow};
 ghost use Rattle.judge_lines.specs.Tests.{Room, firstZero, linkOk, objectAt, runAt, pieceAt, nextRun};
@@ -46,22 +46,14 @@ pub fn regs_ok(im: &[u16], k: usize) -> bool
     ok
 }
 
-// ---- words and links of the object at g
-
-pub fn word_at(im: &[u16], k: usize, g: usize, i: usize) -> u16
-    requires { ⌜ Sized k (now im) ⌝ }
-    requires { ⌜ 4 * g + i < 256 * k ⌝ }
-    ensures { λ r. ⌜ r ≡ word (narrow k (now (im .entry))) g i ⌝ }
-{
-    image::heap_word(im, k, 4 * g + i)
-}
+// ---- links of the object at g
 
 pub fn link_ok(im: &[u16], k: usize, g: usize, i: usize) -> bool
     requires { ⌜ Sized k (now im) ⌝ }
     requires { ⌜ 4 * g + 2 + i < 256 * k ⌝ }
     ensures { λ r. ⌜ r ≡ linkOk (narrow k (now (im .entry))) g i ⌝ }
 {
-    nil_or_start(im, k, word_at(im, k, g, 2 + i) as usize)
+    nil_or_start(im, k, image::word(im, k, g, 2 + i) as usize)
 }
 
 pub fn links_ok(im: &[u16], k: usize, g: usize, n: usize) -> bool
@@ -85,7 +77,7 @@ pub fn object_links(im: &[u16], k: usize, g: usize) -> bool
     ensures { λ r. ⌜ r ≡ linksOk (narrow k (now (im .entry))) g ⌝ }
 {
     if image::bits::is_start(im, k, g) {
-        return links_ok(im, k, g, word_at(im, k, g, 1) as usize);
+        return links_ok(im, k, g, image::word(im, k, g, 1) as usize);
     }
     true
 }
@@ -97,8 +89,8 @@ pub fn object_ok(im: &[u16], k: usize, g: usize) -> bool
     requires { ⌜ g < 64 * k ⌝ }
     ensures { λ r. ⌜ r ≡ objectAt (narrow k (now (im .entry))) g ⌝ }
 {
-    let s = word_at(im, k, g, 0) as usize;
-    let n = word_at(im, k, g, 1) as usize;
+    let s = image::word(im, k, g, 0) as usize;
+    let n = image::word(im, k, g, 1) as usize;
     let fits = (1 <= s) & (s <= 1024) & (g + s <= 64 * k) & (n + 2 <= 4 * s);
     if !fits {
         return false;
@@ -111,7 +103,7 @@ pub fn run_ok(im: &[u16], k: usize, g: usize, next: usize, run: bool) -> bool
     requires { ⌜ g < 64 * k ⌝ }
     ensures { λ r. ⌜ r ≡ runAt (narrow k (now (im .entry))) g next run ⌝ }
 {
-    let s = word_at(im, k, g, 0) as usize;
+    let s = image::word(im, k, g, 0) as usize;
     let fits = (!run) & (g == next) & (1 <= s) & (g + s <= 64 * k);
     if !fits {
         return false;
@@ -138,7 +130,7 @@ pub fn next_run(im: &[u16], k: usize, g: usize, next: usize) -> usize
     if image::bits::is_start(im, k, g) {
         return next;
     }
-    word_at(im, k, g, 1) as usize
+    image::word(im, k, g, 1) as usize
 }
 
 // ---- the walk
@@ -160,7 +152,7 @@ pub fn walk(im: &[u16], k: usize, first: usize) -> bool
         good = good & object_links(im, k, g);
         run = !image::bits::is_start(im, k, g);
         next = next_run(im, k, g, next);
-        g += word_at(im, k, g, 0) as usize;
+        g += image::word(im, k, g, 0) as usize;
     }
     (next == 0) & good
 }
@@ -202,5 +194,5 @@ pub fn heap_ok(im: &[u16], k: usize) -> bool
     if !first_unused(im, k) {
         return false;
     }
-    walk(im, k, image::general_word(im, k, 1) as usize)
+    walk(im, k, image::first_run(im, k) as usize)
 }

@@ -43,8 +43,8 @@ pub fn player_ok(im: &[u16], k: usize, p: usize) -> bool
     requires { ⌜ p < 16 ⌝ }
     ensures { λ r. ⌜ r ≡ playerOk (narrow k (now (im .entry))) p ⌝ }
 {
-    let o = image::player_word(im, k, 2 * p) as usize;
-    let s = image::player_word(im, k, 2 * p + 1);
+    let o = image::owed(im, k, p) as usize;
+    let s = image::scanned(im, k, p);
     (o <= k) & (s <= 1)
 }
 
@@ -88,7 +88,7 @@ pub fn general_ok(im: &[u16], k: usize) -> bool
     requires { ⌜ Sized k (now im) ⌝ }
     ensures { λ r. ⌜ r ≡ generalOk (narrow k (now (im .entry))) ⌝ }
 {
-    (image::general_word(im, k, 0) <= 1) & spares_ok(im, k)
+    (image::running(im, k) <= 1) & spares_ok(im, k)
 }
 
 // ---- no cycle
@@ -98,7 +98,7 @@ pub fn is_unscanned(im: &[u16], k: usize, p: usize) -> bool
     requires { ⌜ p < 16 ⌝ }
     ensures { λ r. ⌜ r ≡ unscanned (narrow k (now (im .entry))) p ⌝ }
 {
-    image::player_word(im, k, 2 * p + 1) == 0
+    image::scanned(im, k, p) == 0
 }
 
 pub fn all_unscanned(im: &[u16], k: usize) -> bool
@@ -150,7 +150,7 @@ pub fn is_sound(im: &[u16], k: usize) -> bool
         & cards_ok(im, k)
         & players_ok(im, k)
         & general_ok(im, k);
-    if image::general_word(im, k, 0) == 0 {
+    if image::running(im, k) == 0 {
         return layout & is_idle(im, k);
     }
     layout & cycle_ok(im, k)

@@ -17,7 +17,7 @@ pub fn hand_ok(im: &[u16], k: usize, g: usize, i: usize) -> bool
     if 64 * k <= g {
         return false;
     }
-    image::bits::is_marked(im, k, g) & (i < crate::heap::word_at(im, k, g, 1) as usize)
+    image::bits::is_marked(im, k, g) & (i < image::word(im, k, g, 1) as usize)
 }
 
 pub fn hand_card_ok(im: &[u16], k: usize, c: usize, g: usize) -> bool

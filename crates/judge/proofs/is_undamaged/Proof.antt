@@ -4,7 +4,6 @@ use Rattle.judge.proofs.is_undamaged.Statement.{statement}
 use Rattle.judge.proofs.is_undamaged.Tie as tie
 use Rattle.judge.proofs.is_undamaged.Reads as reads
 use Rattle.judge.proofs.is_undamaged.Lts as lts
-use Rattle.image.proofs.general_word.Reads as general-word-reads
 use Rattle.judge.proofs.cover.is_covered.Reads as is-covered-reads
 use Rattle.judge_lines.proofs.is_sound.Reads as is-sound-reads
 
@@ -14,8 +13,8 @@ is-sound-requires c κs = search needs
 returns : tie.Need-returns
 returns c = search un-sound
 
-general-word-requires : tie.Need-general-word-requires
-general-word-requires c κs = search needs
+running-requires : tie.Need-running-requires
+running-requires c κs = search needs
 
 returns-2 : tie.Need-returns-2
 returns-2 c = search un-still
@@ -32,7 +31,7 @@ is-undamaged-spec =
     (tie.spec
     is-sound-requires
     returns
-    general-word-requires
+    running-requires
     returns-2
     is-covered-requires
     returns-3)

@@ -4,7 +4,6 @@ use Rattle.judge_lines.proofs.is_sound.Statement.{statement}
 use Rattle.judge_lines.proofs.is_sound.Tie as tie
 use Rattle.judge_lines.proofs.is_sound.Reads as reads
 use Rattle.judge_lines.proofs.is_sound.Lts as lts
-use Rattle.image.proofs.general_word.Reads as general-word-reads
 use Rattle.judge_lines.proofs.cards_ok.Reads as cards-ok-reads
 use Rattle.judge_lines.proofs.cycle_ok.Reads as cycle-ok-reads
 use Rattle.judge_lines.proofs.general_ok.Reads as general-ok-reads
@@ -28,8 +27,8 @@ players-ok-requires c κs = search needs
 general-ok-requires : tie.Need-general-ok-requires
 general-ok-requires c κs = search needs
 
-general-word-requires : tie.Need-general-word-requires
-general-word-requires c κs = search needs
+running-requires : tie.Need-running-requires
+running-requires c κs = search needs
 
 is-idle-requires : tie.Need-is-idle-requires
 is-idle-requires c κs = search needs
@@ -52,7 +51,7 @@ is-sound-spec =
     cards-ok-requires
     players-ok-requires
     general-ok-requires
-    general-word-requires
+    running-requires
     is-idle-requires
     returns
     cycle-ok-requires

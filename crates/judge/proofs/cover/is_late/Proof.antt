@@ -7,13 +7,12 @@ use Rattle.judge.proofs.cover.is_late.Lts as lts
 use Rattle.judge.proofs.cover.is_plain.Reads as is-plain-reads
 use Rattle.judge.proofs.cover.link_to_come.Reads as link-to-come-reads
 use Rattle.judge.proofs.cover.owed_with.Reads as owed-with-reads
-use Rattle.judge_lines.proofs.heap.word_at.Reads as word-at-reads
 
-add-word-at : tie.Need-add-word-at
-add-word-at c = search needs
+add-word : tie.Need-add-word
+add-word c = search needs
 
-word-at-requires : tie.Need-word-at-requires
-word-at-requires c κs = search needs
+word-requires : tie.Need-word-requires
+word-requires c κs = search needs
 
 cast-a : tie.Need-cast-a
 cast-a c = search needs
@@ -37,8 +36,8 @@ pub is-late-spec : {M : Type 1} → statement M
 is-late-spec =
     tie.close
     (tie.spec
-    add-word-at
-    word-at-requires
+    add-word
+    word-requires
     cast-a
     is-plain-requires
     returns

@@ -4,14 +4,11 @@ use Rattle.judge.proofs.cover.is_owing.Statement.{statement}
 use Rattle.judge.proofs.cover.is_owing.Tie as tie
 use Rattle.judge.proofs.cover.is_owing.Reads as reads
 use Rattle.judge.proofs.cover.is_owing.Lts as lts
-use Rattle.image.proofs.player_word.Reads as player-word-reads
+use Rattle.image.proofs.owed.Reads as owed-reads
 use Rattle.judge.proofs.cover.held_by.Reads as held-by-reads
 
-mul-player-word : tie.Need-mul-player-word
-mul-player-word c = search needs
-
-player-word-requires : tie.Need-player-word-requires
-player-word-requires c κs = search needs
+owed-requires : tie.Need-owed-requires
+owed-requires c κs = search needs
 
 cast-if1 : tie.Need-cast-if1
 cast-if1 c = search needs
@@ -30,12 +27,4 @@ returns-2 c = search owes-yes
 
 pub is-owing-spec : {M : Type 1} → statement M
 is-owing-spec =
-    tie.close
-    (tie.spec
-    mul-player-word
-    player-word-requires
-    cast-if1
-    add-if1
-    returns
-    held-by-requires
-    returns-2)
+    tie.close (tie.spec owed-requires cast-if1 add-if1 returns held-by-requires returns-2)

@@ -8,7 +8,6 @@ use Rattle.image.proofs.bits.is_marked.Reads as is-marked-reads
 use Rattle.judge.proofs.cover.all_late.Reads as all-late-reads
 use Rattle.judge.proofs.cover.all_plain.Reads as all-plain-reads
 use Rattle.judge.proofs.cover.is_coming.Reads as is-coming-reads
-use Rattle.judge_lines.proofs.heap.word_at.Reads as word-at-reads
 
 is-marked-requires : tie.Need-is-marked-requires
 is-marked-requires c κs = search needs
@@ -16,8 +15,8 @@ is-marked-requires c κs = search needs
 returns : tie.Need-returns
 returns c = search cov-unmarked
 
-word-at-requires : tie.Need-word-at-requires
-word-at-requires c κs = search needs
+word-requires : tie.Need-word-requires
+word-requires c κs = search needs
 
 cast-n : tie.Need-cast-n
 cast-n c = search needs
@@ -46,7 +45,7 @@ object-covered-spec =
     (tie.spec
     is-marked-requires
     returns
-    word-at-requires
+    word-requires
     cast-n
     all-plain-requires
     returns-2

@@ -5,7 +5,6 @@ use Rattle.judge_lines.proofs.heap.heap_ok.Statement.{statement}
 use Rattle.judge_lines.proofs.heap.heap_ok.Tie as tie
 use Rattle.judge_lines.proofs.heap.heap_ok.Reads as reads
 use Rattle.judge_lines.proofs.heap.heap_ok.Lts as lts
-use Rattle.image.proofs.general_word.Reads as general-word-reads
 use Rattle.judge_lines.proofs.heap.first_unused.Reads as first-unused-reads
 use Rattle.judge_lines.proofs.heap.walk.Reads as walk-reads
 
@@ -15,15 +14,14 @@ first-unused-requires c κs = search needs
 returns : tie.Need-returns
 returns c = search heap-no
 
-general-word-requires : tie.Need-general-word-requires
-general-word-requires c κs = search needs
+first-run-requires : tie.Need-first-run-requires
+first-run-requires c κs = search needs
 
 cast-walk : tie.Need-cast-walk
 cast-walk c = search needs
 
 walk-requires : tie.Need-walk-requires
-unfolding firstRun
-walk-requires c κs = (search needs, (c .general-word .ensures, search unused))
+walk-requires c κs = (search needs, (search needs, search unused))
 
 returns-2 : tie.Need-returns-2
 returns-2 c = search heap-yes
@@ -34,7 +32,7 @@ heap-ok-spec =
     (tie.spec
     first-unused-requires
     returns
-    general-word-requires
+    first-run-requires
     cast-walk
     walk-requires
     returns-2)

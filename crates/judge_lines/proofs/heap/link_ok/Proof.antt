@@ -7,13 +7,12 @@ use Rattle.judge_lines.proofs.heap.link_ok.Tie as tie
 use Rattle.judge_lines.proofs.heap.link_ok.Reads as reads
 use Rattle.judge_lines.proofs.heap.link_ok.Lts as lts
 use Rattle.judge_lines.proofs.heap.nil_or_start.Reads as nil-or-start-reads
-use Rattle.judge_lines.proofs.heap.word_at.Reads as word-at-reads
 
-add-word-at : tie.Need-add-word-at
-add-word-at c = search needs
+add-word : tie.Need-add-word
+add-word c = search needs
 
-word-at-requires : tie.Need-word-at-requires
-word-at-requires c κs = search needs
+word-requires : tie.Need-word-requires
+word-requires c κs = search needs
 
 cast-nil-or-start : tie.Need-cast-nil-or-start
 cast-nil-or-start c = search needs
@@ -23,9 +22,9 @@ nil-or-start-requires c κs = search needs
 
 returns : tie.Need-returns
 unfolding linkOk link
-returns c = rw (← (c .before .word-at .ensures)) (c .nil-or-start .ensures)
+returns c = rw (← (c .before .word .ensures)) (c .nil-or-start .ensures)
 
 pub link-ok-spec : {M : Type 1} → statement M
 link-ok-spec =
     tie.close
-    (tie.spec add-word-at word-at-requires cast-nil-or-start nil-or-start-requires returns)
+    (tie.spec add-word word-requires cast-nil-or-start nil-or-start-requires returns)

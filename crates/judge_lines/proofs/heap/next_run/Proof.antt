@@ -5,7 +5,6 @@ use Rattle.judge_lines.proofs.heap.next_run.Tie as tie
 use Rattle.judge_lines.proofs.heap.next_run.Reads as reads
 use Rattle.judge_lines.proofs.heap.next_run.Lts as lts
 use Rattle.image.proofs.bits.is_start.Reads as is-start-reads
-use Rattle.judge_lines.proofs.heap.word_at.Reads as word-at-reads
 
 is-start-requires : tie.Need-is-start-requires
 is-start-requires c κs = search needs
@@ -13,8 +12,8 @@ is-start-requires c κs = search needs
 returns : tie.Need-returns
 returns c = search next-object
 
-word-at-requires : tie.Need-word-at-requires
-word-at-requires c κs = search needs
+word-requires : tie.Need-word-requires
+word-requires c κs = search needs
 
 cast-result : tie.Need-cast-result
 cast-result c = search needs
@@ -24,4 +23,4 @@ returns-2 c = search next-run
 
 pub next-run-spec : {M : Type 1} → statement M
 next-run-spec =
-    tie.close (tie.spec is-start-requires returns word-at-requires cast-result returns-2)
+    tie.close (tie.spec is-start-requires returns word-requires cast-result returns-2)

@@ -6,13 +6,12 @@ use Rattle.judge_lines.proofs.heap.object_links.Reads as reads
 use Rattle.judge_lines.proofs.heap.object_links.Lts as lts
 use Rattle.image.proofs.bits.is_start.Reads as is-start-reads
 use Rattle.judge_lines.proofs.heap.links_ok.Reads as links-ok-reads
-use Rattle.judge_lines.proofs.heap.word_at.Reads as word-at-reads
 
 is-start-requires : tie.Need-is-start-requires
 is-start-requires c κs = search needs
 
-word-at-requires : tie.Need-word-at-requires
-word-at-requires c κs = search needs
+word-requires : tie.Need-word-requires
+word-requires c κs = search needs
 
 cast-links-ok : tie.Need-cast-links-ok
 cast-links-ok c = search needs
@@ -29,4 +28,4 @@ returns-2 c = search links-run
 pub object-links-spec : {M : Type 1} → statement M
 object-links-spec =
     tie.close
-    (tie.spec is-start-requires word-at-requires cast-links-ok links-ok-requires returns returns-2)
+    (tie.spec is-start-requires word-requires cast-links-ok links-ok-requires returns returns-2)

@@ -6,16 +6,15 @@ use Rattle.judge_lines.proofs.heap.object_ok.Tie as tie
 use Rattle.judge_lines.proofs.heap.object_ok.Reads as reads
 use Rattle.judge_lines.proofs.heap.object_ok.Lts as lts
 use Rattle.judge_lines.proofs.bare.is_clear.Reads as is-clear-reads
-use Rattle.judge_lines.proofs.heap.word_at.Reads as word-at-reads
 
-word-at-requires : tie.Need-word-at-requires
-word-at-requires c κs = search needs
+word-requires : tie.Need-word-requires
+word-requires c κs = search needs
 
 cast-s : tie.Need-cast-s
 cast-s c = search needs
 
-word-at-requires-2 : tie.Need-word-at-requires-2
-word-at-requires-2 c κs = search needs
+word-requires-2 : tie.Need-word-requires-2
+word-requires-2 c κs = search needs
 
 cast-n : tie.Need-cast-n
 cast-n c = search needs
@@ -39,10 +38,10 @@ add-is-clear : tie.Need-add-is-clear
 add-is-clear c = search needs
 
 sub-is-clear : tie.Need-sub-is-clear
-sub-is-clear c = omega (arith, object-head _ _ _ _ _ (c .before .before .word-at .ensures) (c .before .word-at2 .ensures) (c .if1 .left))
+sub-is-clear c = omega (arith, object-head _ _ _ _ _ (c .before .before .word .ensures) (c .before .word2 .ensures) (c .if1 .left))
 
 is-clear-requires : tie.Need-is-clear-requires
-is-clear-requires c κs = (search needs, omega (arith, object-head _ _ _ _ _ (c .before .before .word-at .ensures) (c .before .word-at2 .ensures) (c .if1 .left)))
+is-clear-requires c κs = (search needs, omega (arith, object-head _ _ _ _ _ (c .before .before .word .ensures) (c .before .word2 .ensures) (c .if1 .left)))
 
 returns-2 : tie.Need-returns-2
 returns-2 c = search object-yes
@@ -51,9 +50,9 @@ pub object-ok-spec : {M : Type 1} → statement M
 object-ok-spec =
     tie.close
     (tie.spec
-    word-at-requires
+    word-requires
     cast-s
-    word-at-requires-2
+    word-requires-2
     cast-n
     add-fits
     mul-fits

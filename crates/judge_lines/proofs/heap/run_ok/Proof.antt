@@ -8,10 +8,9 @@ use Rattle.judge_lines.proofs.heap.run_ok.Reads as reads
 use Rattle.judge_lines.proofs.heap.run_ok.Lts as lts
 use Rattle.judge_lines.proofs.bare.is_clear.Reads as is-clear-reads
 use Rattle.judge_lines.proofs.bare.run_zero.Reads as run-zero-reads
-use Rattle.judge_lines.proofs.heap.word_at.Reads as word-at-reads
 
-word-at-requires : tie.Need-word-at-requires
-word-at-requires c κs = search needs
+word-requires : tie.Need-word-requires
+word-requires c κs = search needs
 
 cast-s : tie.Need-cast-s
 cast-s c = search needs
@@ -29,13 +28,13 @@ add-is-clear : tie.Need-add-is-clear
 add-is-clear c = search needs
 
 sub-is-clear : tie.Need-sub-is-clear
-sub-is-clear c = omega (arith, run-head _ _ _ (c .before .before .before .args .next) (c .before .before .before .args .run) _ (c .before .word-at .ensures) (c .if1 .left))
+sub-is-clear c = omega (arith, run-head _ _ _ (c .before .before .before .args .next) (c .before .before .before .args .run) _ (c .before .word .ensures) (c .if1 .left))
 
 is-clear-requires : tie.Need-is-clear-requires
-is-clear-requires c κs = (search needs, omega (arith, run-head _ _ _ (c .before .before .before .args .next) (c .before .before .before .args .run) _ (c .before .word-at .ensures) (c .if1 .left)))
+is-clear-requires c κs = (search needs, omega (arith, run-head _ _ _ (c .before .before .before .args .next) (c .before .before .before .args .run) _ (c .before .word .ensures) (c .if1 .left)))
 
 run-zero-requires : tie.Need-run-zero-requires
-run-zero-requires c κs = (search needs, run-fits _ _ _ (c .before .before .before .before .args .next) (c .before .before .before .before .args .run) _ (c .before .before .word-at .ensures) (c .before .if1 .left))
+run-zero-requires c κs = (search needs, run-fits _ _ _ (c .before .before .before .before .args .next) (c .before .before .before .before .args .run) _ (c .before .before .word .ensures) (c .before .if1 .left))
 
 returns-2 : tie.Need-returns-2
 returns-2 c = search run-yes
@@ -44,7 +43,7 @@ pub run-ok-spec : {M : Type 1} → statement M
 run-ok-spec =
     tie.close
     (tie.spec
-    word-at-requires
+    word-requires
     cast-s
     add-fits
     mul-fits

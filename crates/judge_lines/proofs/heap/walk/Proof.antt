@@ -12,7 +12,6 @@ use Rattle.image.proofs.bits.is_start.Reads as is-start-reads
 use Rattle.judge_lines.proofs.heap.next_run.Reads as next-run-reads
 use Rattle.judge_lines.proofs.heap.object_links.Reads as object-links-reads
 use Rattle.judge_lines.proofs.heap.piece_ok.Reads as piece-ok-reads
-use Rattle.judge_lines.proofs.heap.word_at.Reads as word-at-reads
 
 abbrev Inv-loop : tie.InvT-loop
 Inv-loop im k first g₀ next₀ run₀ good₀ g next run good = Walk k im g next run good
@@ -41,8 +40,8 @@ is-start-requires c κs = search needs
 next-run-requires : tie.Need-next-run-requires Inv-loop μ-loop
 next-run-requires c κs = search needs
 
-word-at-requires : tie.Need-word-at-requires Inv-loop μ-loop
-word-at-requires c κs = search needs
+word-requires : tie.Need-word-requires Inv-loop μ-loop
+word-requires c κs = search needs
 
 cast-g : tie.Need-cast-g Inv-loop μ-loop
 cast-g c = search needs
@@ -51,10 +50,10 @@ add-g : tie.Need-add-g Inv-loop μ-loop
 add-g c = search needs
 
 loop-less : tie.Need-loop-less Inv-loop μ-loop
-loop-less c = w-less _ _ (c .before .before .before .before .before .before .before .before .before .pre .0) _ _ _ _ (c .before .before .before .before .before .before .before .loop .inv) (c .before .before .before .before .before .before .loop-test .taken) _ (c .before .before .before .before .before .piece-ok .ensures) (c .before .before .before .before .if1 .left) _ (c .word-at .ensures)
+loop-less c = w-less _ _ (c .before .before .before .before .before .before .before .before .before .pre .0) _ _ _ _ (c .before .before .before .before .before .before .before .loop .inv) (c .before .before .before .before .before .before .loop-test .taken) _ (c .before .before .before .before .before .piece-ok .ensures) (c .before .before .before .before .if1 .left) _ (c .word .ensures)
 
 loop-again : tie.Need-loop-again Inv-loop μ-loop
-loop-again c = w-more _ _ (c .before .before .before .before .before .before .before .before .before .pre .0) _ _ _ _ (c .before .before .before .before .before .before .before .loop .inv) (c .before .before .before .before .before .before .loop-test .taken) _ (c .before .before .before .before .before .piece-ok .ensures) (c .before .before .before .before .if1 .left) _ _ _ _ (c .before .before .before .object-links .ensures) (c .before .before .is-start .ensures) (c .before .next-run .ensures) (c .word-at .ensures)
+loop-again c = w-more _ _ (c .before .before .before .before .before .before .before .before .before .pre .0) _ _ _ _ (c .before .before .before .before .before .before .before .loop .inv) (c .before .before .before .before .before .before .loop-test .taken) _ (c .before .before .before .before .before .piece-ok .ensures) (c .before .before .before .before .if1 .left) _ _ _ _ (c .before .before .before .object-links .ensures) (c .before .before .is-start .ensures) (c .before .next-run .ensures) (c .word .ensures)
 
 returns-2 : tie.Need-returns-2 Inv-loop μ-loop
 returns-2 c = search w-end
@@ -72,7 +71,7 @@ walk-spec =
     object-links-requires
     is-start-requires
     next-run-requires
-    word-at-requires
+    word-requires
     cast-g
     add-g
     loop-less

@@ -5,7 +5,6 @@ use Rattle.judge_lines.proofs.tracers.hand_ok.Tie as tie
 use Rattle.judge_lines.proofs.tracers.hand_ok.Reads as reads
 use Rattle.judge_lines.proofs.tracers.hand_ok.Lts as lts
 use Rattle.image.proofs.bits.is_marked.Reads as is-marked-reads
-use Rattle.judge_lines.proofs.heap.word_at.Reads as word-at-reads
 
 returns : tie.Need-returns
 returns c = search hand-nil
@@ -19,8 +18,8 @@ returns-2 c = search hand-out
 is-marked-requires : tie.Need-is-marked-requires
 is-marked-requires c κs = search needs
 
-word-at-requires : tie.Need-word-at-requires
-word-at-requires c κs = search needs
+word-requires : tie.Need-word-requires
+word-requires c κs = search needs
 
 cast-result : tie.Need-cast-result
 cast-result c = search needs
@@ -31,4 +30,4 @@ returns-3 c = search hand-in
 pub hand-ok-spec : {M : Type 1} → statement M
 hand-ok-spec =
     tie.close
-    (tie.spec returns mul-if2 returns-2 is-marked-requires word-at-requires cast-result returns-3)
+    (tie.spec returns mul-if2 returns-2 is-marked-requires word-requires cast-result returns-3)
