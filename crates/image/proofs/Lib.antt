@@ -1,0 +1,4 @@
+pub mod Split
+pub mod Sections
+pub mod BitWords
+pub mod Sizes
