@@ -1,1 +1,5 @@
 pub mod Cover
+pub mod Lists
+pub mod Walk
+pub mod Sweep
+pub mod FinishHeap

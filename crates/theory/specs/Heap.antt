@@ -2,7 +2,7 @@
 use mathlib.Core.Path.{_≡_}
 use mathlib.Core.Bool.{Bool, true, false}
 use mathlib.Core.List.{List, [], _∷_, _++_}
-use Prim.Native.Nat.{ℕ, zero, suc, _+_, _*_, _-_, _≤_, _<_}
+use Prim.Native.Nat.{ℕ, zero, suc, _+_, _*_, _-_, _/_, _≤_, _<_}
 use lib.ListN.{length, drop}
 use Rattle.model.specs.Base.{nth}
 use Rattle.model.specs.Image.{Image, granules, word, isStart, marked, size, links, link, reg, firstRun}
@@ -42,6 +42,19 @@ pub record HeapFilled (m : Image) : Type 0 where
   pub heap-words : length (m .heap) ≡ 4 * granules m
   pub heap-filled : Filled (isStart m) 1 (drop 4 (m .heap)) (firstRun m) false
   pub start-range : (g : ℕ) → isStart m g ≡ true → (1 ≤ g) × (g < granules m)
+
+-- the words that new and finish write are there
+pub record HeapSized (m : Image) : Type 0 where
+  pub some-granules : 1 ≤ granules m
+  pub start-words : (g : ℕ) → g < granules m → g / m .width < length (m .starts)
+  pub general-words : 2 ≤ length (m .general)
+
+-- the object at a start
+pub record ObjectAt (m : Image) (g : ℕ) : Type 0 where
+  pub sized : 1 ≤ size m g
+  pub links-in : links m g + 2 ≤ 4 * size m g
+  pub in-heap : g + size m g ≤ granules m
+  pub none-inside : (h : ℕ) → g < h → h < g + size m g → isStart m h ≡ false
 
 -- objects do not overlap, and links lie inside
 pub record Laid (m : Image) : Type 0 where
