@@ -1,5 +1,13 @@
 pub mod Cover
+pub mod Packets
+pub mod Sections
+pub mod Lines
+pub mod Distinct
+pub mod Tests
+pub mod Judged
 pub mod Lists
 pub mod Walk
 pub mod Sweep
 pub mod FinishHeap
+pub mod Covering
+pub mod Reaching

@@ -1,0 +1,158 @@
+-- Entries and pieces by place: each piece of a list passes a test, and no object is entered twice.
+use mathlib.Core.Path.{_≡_, refl, sym, ap, _∙_}
+use mathlib.Core.Logic.{_⊎_, inl, inr}
+use mathlib.Core.Bool.{Bool, true, false, not, _&&_, _||_}
+use mathlib.Core.List.{List, [], _∷_, _++_}
+use Prim.Native.Nat.{ℕ, zero, suc, _+_, _*_, _≤_, _<_}
+use native.Mathlib.Nat.{mul-zero, mul-suc, add-comm}
+use native.Mathlib.Omega.{arith}
+use lib.ListN.{length, take, drop, length-take, length-drop}
+use lib.Seq.{drop-drop}
+use borrow.Author.Tests.{not-true, eqb-true, eq-eqb}
+use Rattle.model.specs.Base.{nth, elem, distinct, eachPiece}
+use Rattle.model.proofs.Laws.{false≢, and-split, and-join, not-make, or-split, or-left, or-right}
+use Rattle.model.proofs.Entries.{nth-drop, nth-take, elem-use, elem-make, elem-left, elem-right, elem-split, entries-use, entries-make}
+use Rattle.theory.specs.Lines.{countIn, entryIn}
+use lib.Dec.{eqb}
+use Rattle.model.specs.Image.{entriesOf}
+
+-- ---- pieces
+
+piece-first : (s : ℕ) (ws : List ℕ) → take s (drop (s * 0) ws) ≡ take s ws
+piece-first s ws = rw (mul-zero s) refl
+
+piece-next : (s i : ℕ) (ws : List ℕ) → take s (drop (s * suc i) ws) ≡ take s (drop (s * i) (drop s ws))
+piece-next s i ws = rw (mul-suc s i, add-comm (s * i) s, drop-drop (s * i) s ws) refl
+
+pub eachPiece-use : (s n : ℕ) (p : List ℕ → Bool) (ws : List ℕ) → eachPiece s n p ws ≡ true → (i : ℕ) → i < n → p (take s (drop (s * i) ws)) ≡ true
+unfolding eachPiece
+eachPiece-use s zero p ws e i h = absurd (omega arith)
+eachPiece-use s (suc n) p ws e zero h = ap p (piece-first s ws) ∙ (and-split (p (take s ws)) (eachPiece s n p (drop s ws)) e) .0
+eachPiece-use s (suc n) p ws e (suc i) h = ap p (piece-next s i ws) ∙ eachPiece-use s n p (drop s ws) ((and-split (p (take s ws)) (eachPiece s n p (drop s ws)) e) .1) i (omega arith)
+
+pub eachPiece-make : (s n : ℕ) (p : List ℕ → Bool) (ws : List ℕ) → ((i : ℕ) → i < n → p (take s (drop (s * i) ws)) ≡ true) → eachPiece s n p ws ≡ true
+unfolding eachPiece
+eachPiece-make s zero p ws f = refl
+eachPiece-make s (suc n) p ws f =
+    and-join (p (take s ws)) (eachPiece s n p (drop s ws)) (ap p (sym (piece-first s ws)) ∙ f zero (omega arith))
+    (eachPiece-make s n p (drop s ws) (λ i h. ap p (sym (piece-next s i ws)) ∙ f (suc i) (omega arith)))
+
+-- ---- no word stands twice
+
+distinct-use : (l : List ℕ) → distinct l ≡ true → (i j : ℕ) → i < length l → j < length l → nth l i ≡ nth l j → i ≡ j
+unfolding distinct nth
+distinct-use [] e i j hi hj q = absurd (omega arith)
+distinct-use (x ∷ l) e zero zero hi hj q = refl
+distinct-use (x ∷ l) e zero (suc j) hi hj q = false≢ (sym (not-true _ ((and-split (not (elem x l)) (distinct l) e) .0)) ∙ elem-make x l j (omega arith) (sym q))
+distinct-use (x ∷ l) e (suc i) zero hi hj q = false≢ (sym (not-true _ ((and-split (not (elem x l)) (distinct l) e) .0)) ∙ elem-make x l i (omega arith) q)
+distinct-use (x ∷ l) e (suc i) (suc j) hi hj q = ap suc (distinct-use l ((and-split (not (elem x l)) (distinct l) e) .1) i j (omega arith) (omega arith) q)
+
+distinct-make : (l : List ℕ) → ((i j : ℕ) → i < length l → j < length l → nth l i ≡ nth l j → i ≡ j) → distinct l ≡ true
+unfolding distinct nth
+distinct-make [] f = refl
+distinct-make (x ∷ l) f =
+    and-join (not (elem x l)) (distinct l)
+    (not-make _ (λ e. let r = elem-use x l e in omega (arith, f zero (suc (r .0)) (omega arith) (omega (arith, r .1)) (sym (r .2)))))
+    (distinct-make l (λ i j hi hj q. omega (arith, f (suc i) (suc j) (omega arith) (omega arith) q)))
+
+distinct-split : (l r : List ℕ) → distinct (l ++ r) ≡ true → (distinct l ≡ true) × (distinct r ≡ true) × ((g : ℕ) → elem g l ≡ true → elem g r ≡ true → ⊥)
+unfolding distinct elem
+distinct-split [] r e = (refl, e, λ g a b. false≢ a)
+distinct-split (x ∷ l) r e = go (and-split (not (elem x (l ++ r))) (distinct (l ++ r)) e) (distinct-split l r)
+  where
+    no : elem x (l ++ r) ≡ false → elem x l ≡ true → ⊥
+    no n a = false≢ (sym n ∙ elem-left x l r a)
+
+    go : (not (elem x (l ++ r)) ≡ true) × (distinct (l ++ r) ≡ true)
+        → (distinct (l ++ r) ≡ true → (distinct l ≡ true) × (distinct r ≡ true) × ((g : ℕ) → elem g l ≡ true → elem g r ≡ true → ⊥))
+        → ((not (elem x l) && distinct l) ≡ true) × (distinct r ≡ true) × ((g : ℕ) → (eqb g x || elem g l) ≡ true → elem g r ≡ true → ⊥)
+    go (a, b) ih = let s = ih b in (and-join (not (elem x l)) (distinct l) (not-make _ (no (not-true _ a))) (s .0), s .1, λ g c d. apart s g (or-split (eqb g x) (elem g l) c) d)
+      where
+        apart : (distinct l ≡ true) × (distinct r ≡ true) × ((g : ℕ) → elem g l ≡ true → elem g r ≡ true → ⊥) → (g : ℕ) → (eqb g x ≡ true) ⊎ (elem g l ≡ true) → elem g r ≡ true → ⊥
+        apart s g (inl q) d = false≢ (sym (not-true _ a) ∙ elem-right x l r (rw (eqb-true g x q) at d))
+        apart s g (inr q) d = s .2 g q d
+
+distinct-append : (l r : List ℕ) → distinct l ≡ true → distinct r ≡ true → ((g : ℕ) → elem g l ≡ true → elem g r ≡ true → ⊥) → distinct (l ++ r) ≡ true
+unfolding distinct elem
+distinct-append [] r a b f = b
+distinct-append (x ∷ l) r a b f =
+    let s = and-split (not (elem x l)) (distinct l) a in
+    and-join (not (elem x (l ++ r))) (distinct (l ++ r)) (not-make _ (λ e. out (s .0) (elem-split x l r e))) (distinct-append l r (s .1) b (λ g p q. f g (or-right (eqb g x) (elem g l) p) q))
+  where
+    out : not (elem x l) ≡ true → (elem x l ≡ true) ⊎ (elem x r ≡ true) → ⊥
+    out n (inl q) = false≢ (sym (not-true _ n) ∙ q)
+    out n (inr q) = f x (or-left (eqb x x) (elem x l) (eq-eqb x x refl)) q
+
+-- ---- no object is entered twice
+
+-- the first packet's entries
+abbrev front : List ℕ → List ℕ
+front ps = take (nth ps 0) (drop 2 ps)
+
+front-length : (ps : List ℕ) → 32 ≤ length ps → nth ps 0 ≤ 30 → length (front ps) ≡ nth ps 0
+front-length ps l c = length-take (nth ps 0) (drop 2 ps) ∙ omega (arith, length-drop 2 ps)
+
+front-nth : (ps : List ℕ) (e : ℕ) → e < nth ps 0 → nth (front ps) e ≡ nth ps (2 + e)
+front-nth ps e h = nth-take (nth ps 0) (drop 2 ps) e h ∙ nth-drop 2 ps e
+
+next-count : (ps : List ℕ) (p : ℕ) → countIn (drop 32 ps) p ≡ countIn ps (suc p)
+next-count ps p = let c : 32 + 32 * p ≡ 32 * suc p = omega arith in nth-drop 32 ps (32 * p) ∙ ap (nth ps) c
+
+next-entry : (ps : List ℕ) (p e : ℕ) → entryIn (drop 32 ps) p e ≡ entryIn ps (suc p) e
+next-entry ps p e = let d : 32 + (32 * p + 2 + e) ≡ 32 * suc p + 2 + e = omega arith in nth-drop 32 ps (32 * p + 2 + e) ∙ ap (nth ps) d
+
+-- entries of the first n packets that are the same stand at one place
+abbrev pub Once : ℕ → List ℕ → Type 0
+Once n ps = (p e q f : ℕ) → p < n → q < n → e < countIn ps p → f < countIn ps q → entryIn ps p e ≡ entryIn ps q f → (p ≡ q) × (e ≡ f)
+
+-- the counts are below 31
+abbrev pub Few : ℕ → List ℕ → Type 0
+Few n ps = (p : ℕ) → p < n → countIn ps p ≤ 30
+
+few-next : (n : ℕ) (ps : List ℕ) → Few (suc n) ps → Few n (drop 32 ps)
+few-next n ps f p h = rw (next-count ps p) (f (suc p) (omega arith))
+
+pub once-use : (n : ℕ) (ps : List ℕ) → 32 * n ≤ length ps → Few n ps → distinct (entriesOf n ps) ≡ true → Once n ps
+unfolding entriesOf
+once-use zero ps l c d p e q f hp hq he hf s = absurd (omega arith)
+once-use (suc n) ps l c d p e q f hp hq he hf s = go (distinct-split (front ps) (entriesOf n (drop 32 ps)) d) (once-use n (drop 32 ps) (omega (arith, length-drop 32 ps)) (few-next n ps c)) p e q f hp hq he hf s
+  where
+    fl : length (front ps) ≡ nth ps 0
+    fl = front-length ps (omega arith) (c zero (omega arith))
+
+    -- an entry of the first packet is none of a later one
+    apart : ((g : ℕ) → elem g (front ps) ≡ true → elem g (entriesOf n (drop 32 ps)) ≡ true → ⊥) → (e q f : ℕ) → q < n → e < nth ps 0 → f < countIn ps (suc q) → nth ps (2 + e) ≡ entryIn ps (suc q) f → ⊥
+    apart x e q f hq he hf s =
+        x (nth ps (2 + e)) (elem-make _ (front ps) e (omega (arith, fl)) (front-nth ps e he))
+        (entries-make n (drop 32 ps) q f _ (omega (arith, length-drop 32 ps)) hq (rw (next-count ps q) hf) (few-next n ps c q hq) (next-entry ps q f ∙ sym s))
+
+    go : (distinct (front ps) ≡ true) × (distinct (entriesOf n (drop 32 ps)) ≡ true) × ((g : ℕ) → elem g (front ps) ≡ true → elem g (entriesOf n (drop 32 ps)) ≡ true → ⊥)
+        → (distinct (entriesOf n (drop 32 ps)) ≡ true → Once n (drop 32 ps)) → Once (suc n) ps
+    go (a, b, x) ih zero e zero f hp hq he hf s = (refl, distinct-use (front ps) a e f (omega (arith, fl)) (omega (arith, fl)) (front-nth ps e he ∙ (s ∙ sym (front-nth ps f hf))))
+    go (a, b, x) ih zero e (suc q) f hp hq he hf s = absurd (apart x e q f (omega arith) he hf s)
+    go (a, b, x) ih (suc p) e zero f hp hq he hf s = absurd (apart x f p e (omega arith) hf he (sym s))
+    go (a, b, x) ih (suc p) e (suc q) f hp hq he hf s =
+        let r = ih b p e q f (omega arith) (omega arith) (rw (next-count ps p) he) (rw (next-count ps q) hf) (next-entry ps p e ∙ (s ∙ sym (next-entry ps q f))) in
+        (ap suc (r .0), r .1)
+
+pub once-make : (n : ℕ) (ps : List ℕ) → 32 * n ≤ length ps → Few n ps → Once n ps → distinct (entriesOf n ps) ≡ true
+unfolding entriesOf distinct
+once-make zero ps l c o = refl
+once-make (suc n) ps l c o = distinct-append (front ps) (entriesOf n (drop 32 ps)) here (once-make n (drop 32 ps) (omega (arith, length-drop 32 ps)) (few-next n ps c) later) apart
+  where
+    fl : length (front ps) ≡ nth ps 0
+    fl = front-length ps (omega arith) (c zero (omega arith))
+
+    here : distinct (front ps) ≡ true
+    here = distinct-make (front ps) (λ i j hi hj s. (o zero i zero j (omega arith) (omega arith) (omega (arith, fl)) (omega (arith, fl)) (sym (front-nth ps i (omega (arith, fl))) ∙ (s ∙ front-nth ps j (omega (arith, fl))))) .1)
+
+    later : Once n (drop 32 ps)
+    later p e q f hp hq he hf s =
+        let r = o (suc p) e (suc q) f (omega arith) (omega arith) (rw (next-count ps p) at he) (rw (next-count ps q) at hf) (sym (next-entry ps p e) ∙ (s ∙ next-entry ps q f)) in
+        (omega (arith, r .0), r .1)
+
+    apart : (g : ℕ) → elem g (front ps) ≡ true → elem g (entriesOf n (drop 32 ps)) ≡ true → ⊥
+    apart g a b =
+        let i = elem-use g (front ps) a in
+        let j = entries-use n (drop 32 ps) g b in
+        omega (arith, o zero (i .0) (suc (j .packet)) (j .place) (omega arith) (omega (arith, j .is-packet)) (omega (arith, fl, i .1)) (rw (next-count ps (j .packet)) at (j .below)) (sym (front-nth ps (i .0) (omega (arith, fl, i .1))) ∙ (i .2 ∙ (sym (j .is-entry) ∙ next-entry ps (j .packet) (j .place)))))
