@@ -1,4 +1,5 @@
 pub mod Split
 pub mod Sections
-pub mod BitWords
 pub mod Sizes
+pub mod Masks
+pub mod BitWords
