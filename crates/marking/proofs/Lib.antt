@@ -1,0 +1,5 @@
+pub mod Digits
+pub mod Worklist
+pub mod Grow
+pub mod Less
+pub mod Step
