@@ -1,5 +1,6 @@
 pub mod Split
 pub mod Sections
+pub mod Stretches
 pub mod Sizes
 pub mod Masks
 pub mod BitWords

@@ -1,11 +1,11 @@
 -- Words cut into sections: a word and a stretch of words, read and written, seen in the section that holds them.
-use mathlib.Core.Path.{_≡_, refl, ap, _∙_}
+use mathlib.Core.Path.{_≡_, refl, ap, _∙_, sym}
 use mathlib.Core.List.{List, [], _∷_}
 use Prim.Native.Nat.{ℕ, zero, suc, _+_, _≤_, _<_}
-use native.Mathlib.Nat.{add-assoc, zero-add}
+use native.Mathlib.Nat.{add-assoc, zero-add, add-suc}
 use native.Mathlib.Omega.{arith}
 use lib.ListN.{length, getD, set, take, drop, length-drop}
-use lib.Seq.{getD-take, getD-drop, take-set-lt, take-set-le, drop-set-add, drop-set-lt, length-take-le}
+use lib.Seq.{getD-take, getD-drop, take-set-lt, take-set-le, drop-set-add, drop-set-lt, length-take-le, getD-set-same, set-getD, set-set, sets}
 use Rattle.model.specs.Base.{nth, put}
 use Rattle.model.specs.Image.{split}
 
@@ -35,3 +35,24 @@ unfolding split
 split-length [] ws s h = refl
 split-length (n ∷ ns) ws zero h = length-take-le n ws (omega arith)
 split-length (n ∷ ns) ws (suc s) h = split-length ns (drop n ws) s (rw (length-drop n ws) (omega arith))
+
+length-split : (ns ws : List ℕ) → length (split ns ws) ≡ length ns
+unfolding split
+length-split [] ws = refl
+length-split (n ∷ ns) ws = ap suc (length-split ns (drop n ws))
+
+in-range : (ns : List ℕ) (s : ℕ) → 0 < getD ns s 0 → s < length ns
+in-range [] s h = absurd (omega arith)
+in-range (n ∷ ns) zero h = omega arith
+in-range (n ∷ ns) (suc s) h = omega (arith, in-range ns s h)
+
+-- words written from word i of section s on
+pub split-sets : (ns ws : List ℕ) (s i : ℕ) (vs : List ℕ) → i + length vs ≤ getD ns s 0 → split ns (sets ws (place ns s + i) vs) ≡ set (split ns ws) s (sets (getD (split ns ws) s []) i vs)
+unfolding put
+split-sets ns ws s i [] h = sym (set-getD (split ns ws) s [])
+split-sets ns ws s i (v ∷ vs) h =
+    let one : split ns (set ws (place ns s + i) v) ≡ set (split ns ws) s (set (getD (split ns ws) s []) i v) = split-put ns ws s i v (omega arith) in
+    let l : s < length (split ns ws) = rw (length-split ns ws) (in-range ns s (omega arith)) in
+    let x : List ℕ = set (getD (split ns ws) s []) i v in
+    rw (one, add-suc (place ns s) i) at (split-sets ns (set ws (place ns s + i) v) s (suc i) vs (omega arith))
+    ∙ rw (getD-set-same (split ns ws) s x [] l, set-set (split ns ws) s x (sets x (suc i) vs))

@@ -1,3 +1,4 @@
 pub mod Sized
 pub mod Size
 pub mod Bits
+pub mod Clear

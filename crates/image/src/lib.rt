@@ -7,6 +7,7 @@ ghost use Rattle.model.specs.Image.{state, reg, withHeap, withStarts, withMarks
 ghost use Rattle.image.specs.Sized.{Sized, narrow};
 
 pub mod bits; // bits.rt: start and mark bits, by shift and mask
+pub mod clearing; // clearing.rt: stretches of the image cleared
 pub mod size; // size.rt: the number of cards, from the length
 
 // ---- read
