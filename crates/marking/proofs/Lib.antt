@@ -2,4 +2,10 @@ pub mod Digits
 pub mod Worklist
 pub mod Grow
 pub mod Less
+pub mod WordBits
 pub mod Step
+pub mod Lengths
+pub mod Bares
+pub mod Visits
+pub mod Linking
+pub mod Turns
