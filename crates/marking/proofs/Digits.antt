@@ -36,6 +36,13 @@ unfolding digit
 off-digit true e = absurd (omega arith)
 off-digit false e = refl
 
+pub same-digit : (a b : Bool) → digit a ≡ digit b → a ≡ b
+unfolding digit
+same-digit true true e = refl
+same-digit false false e = refl
+same-digit true false e = absurd (omega arith)
+same-digit false true e = absurd (omega arith)
+
 -- ---- equal heaps have equal objects
 
 module _ (m m' : Image) (e : m' .heap ≡ m .heap) (g : ℕ) where

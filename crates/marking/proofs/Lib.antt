@@ -9,3 +9,7 @@ pub mod Bares
 pub mod Visits
 pub mod Linking
 pub mod Turns
+pub mod Open
+pub mod Due
+pub mod Loops
+pub mod Seeds
