@@ -10,12 +10,12 @@ use lib.ListN.{length}
 use Rattle.marking.specs.Mark.{Pending, Placed, placed, pend, visited, visits, settled, Bare, Next, Fine}
 use Rattle.marking.proofs.Digits.{on-digit}
 use Rattle.marking.proofs.Grow.{found}
-use Rattle.marking.proofs.Step.{Visit, visit, past, on, new}
 use Rattle.marking.proofs.WordBits.{trailing}
 use Rattle.model.specs.Base.{nth}
 use Rattle.model.specs.Image.{Image, image, word, links, link, withStarts, withMarks, withCards, setStart, setMark, setState}
 use Rattle.image.specs.Bits.{clearStart}
 use Rattle.image.specs.Sized.{Sized, narrow}
+use Rattle.marking.proofs.Visiting.{Visit, visit, past, on, new}
 
 -- ---- a visit leaves the heap alone
 

@@ -6,17 +6,18 @@ use native.Mathlib.Omega.{arith}
 use native.Mathlib.Decide.{ℕ-discrete}
 use lib.ListN.{length}
 use lib.Bits.{bitAnd}
-use Rattle.marking.specs.Mark.{digit, markBit, startBit, rest, Shape, left}
+use Rattle.marking.specs.Mark.{digit, markBit, startBit, Shape}
 use Rattle.marking.specs.Seeds.{Upto, Same, WordAt, Bared}
 use Rattle.marking.proofs.Digits.{digit-two, digit-le, digit-off}
-use Rattle.marking.proofs.Step.{on}
 use Rattle.marking.proofs.WordBits.{bitOf, bit-and, bit-not, mark-of, start-of}
-use Rattle.model.specs.Base.{nth, put, some, bit}
+use Rattle.model.specs.Base.{nth, put, bit}
 use Rattle.model.specs.Image.{Image, isStart, marked, withStarts}
 use Rattle.model.proofs.Laws.{nth-put-same, nth-put-other}
 use Rattle.image.specs.Bits.{clearBit, clearStart}
 use Rattle.image.proofs.Masks.{clear-same, clear-other}
-use Rattle.image.proofs.Split.{place}
+use Rattle.marking.proofs.Lengths.{narrow-width, shape}
+use Rattle.image.specs.Sized.{Sized, narrow}
+use mathlib.Core.List.{List}
 use Rattle.marking.specs.Mark
 
 -- ---- none, one, and more
@@ -39,6 +40,7 @@ module _ (m m1 m2 : Image) (N N1 N2 : ℕ → Type 0) (a : Bared m m1 N) (b : Ba
       has g q (inl r) = b .has g r
       has g (inr q) (inr r) = b .has g q
       has g (inl q) (inr r) = r ∙ a .has g q
+
       only : (g : ℕ) → N g ⊎ (startBit m1 g ≡ startBit m g) → N1 g ⊎ (startBit m2 g ≡ startBit m1 g) → N2 g ⊎ (startBit m2 g ≡ startBit m g)
       only g q (inl r) = inl (right g r)
       only g (inl q) (inr r) = inl (left g q)
@@ -95,6 +97,7 @@ module _ (m : Image) (e : m .width ≡ 16) (w x s : ℕ) (ex : x ≡ nth (m .mar
     where
       width : m' .width ≡ 16
       width = unfold withStarts in e
+
       words : nth (m' .starts) (g / 16) ≡ r
       words = unfold withStarts in rw (q, nth-put-same (m .starts) w r h)
 
@@ -104,6 +107,7 @@ module _ (m : Image) (e : m .width ≡ 16) (w x s : ℕ) (ex : x ≡ nth (m .mar
     where
       width : m' .width ≡ 16
       width = unfold withStarts in e
+
       words : bitOf (nth (m' .starts) (g / 16)) (g % 16) ≡ bitOf (nth (m .starts) (g / 16)) (g % 16)
       words = unfold withStarts in rw (nth-put-other (m .starts) w (g / 16) r n)
 
@@ -114,3 +118,9 @@ module _ (m : Image) (e : m .width ≡ 16) (w x s : ℕ) (ex : x ≡ nth (m .mar
   pub word-bared : (m₁ : Image) → m₁ ≡ withStarts m (put (m .starts) w r) → Bared m m₁ (WordAt (markBit m) w)
   unfolding m'
   word-bared m₁ q = rw q (record { heap = unfold withStarts in refl; marks = unfold withStarts marked in refl; cards = unfold withStarts in refl; rest = unfold withStarts in refl; has = λ g p. omega (arith, after g (p .on), p .is-marked); only = λ g. word-only g (ℕ-discrete (g / 16) w) })
+
+pub open-word : (k : ℕ) (ws : List ℕ) → Sized k ws → (w x s : ℕ) → w < 4 * k → x ≡ nth (narrow k ws .marks) w → s ≡ nth (narrow k ws .starts) w → x < 65536 → (m₁ : Image)
+    → m₁ ≡ withStarts (narrow k ws) (put (narrow k ws .starts) w (bitAnd s (65535 - x))) → Bared (narrow k ws) m₁ (WordAt (markBit (narrow k ws)) w)
+open-word k ws z w x s h ex es f m₁ e =
+    let l : 16 * w / 16 < length (narrow k ws .starts) = rw (narrow-width k ws) at (shape k ws z .starts (16 * w) (omega arith)) in
+    word-bared (narrow k ws) (narrow-width k ws) w x s ex es (omega arith) f m₁ e

@@ -5,16 +5,15 @@ use mathlib.Core.List.{List}
 use Prim.Native.Nat.{ℕ, zero, suc, _*_, _-_, _<_, _≤_}
 use native.Mathlib.Omega.{arith}
 use lib.ListN.{length}
-use Rattle.marking.specs.Mark.{Pending, Placed, placed, settled, unlisted, Next, Turn, Fine, Ready, objectBit, World, rest, Shape, Listed, Marking, left, Marked, settle, leave}
+use Rattle.marking.specs.Mark.{Pending, Placed, placed, settled, unlisted, Next, Turn, Fine, Ready, objectBit, World, Shape, Listed, Marking, left, Marked, settle, leave}
 use Rattle.marking.proofs.Digits.{same-links, same-link, nth-in}
 use Rattle.marking.proofs.Grow.{found}
 use Rattle.marking.proofs.Lengths.{shape}
-use Rattle.marking.proofs.Step.{turn-keeps, marking-done, on}
 use Rattle.marking.proofs.Worklist.{low, Popped, pop}
 use Rattle.model.specs.Image.{Image, links, link, state, setState}
-use Rattle.model.specs.Undamaged.{bare}
 use Rattle.image.specs.Sized.{Sized, narrow}
 use lib.Pow.{high}
+use Rattle.marking.proofs.Step.{turn-keeps, marking-done}
 
 module _ (k : ℕ) (m : Image) (h g : ℕ) (n : Next k m (h - 2) g) where
   pub turn-settle : g < 64 * k → (p : Placed) → p ≡ settled m h g → Turn k m h p
@@ -48,11 +47,14 @@ ready k m₀ m h w n = record { low = t .above; high = omega (arith, nth-in (m .
   where
     t : Popped (m .cards) h
     t = pop (m .cards) (w .listed .order) h (w .listed .chained) (w .listed .once) n (nth-in (m .cards))
+
     o : (g : ℕ) → Pending m g → objectBit m₀ g ≡ 1
     o g q = omega (arith, w .grown .same g, q .is-marked, q .bare)
+
     to : (g i : ℕ) → Pending m g → i < links m₀ g → (a : ℕ) → a ≡ link m₀ g i → (1 ≤ k) → a < 64 * k
     to g i q l zero e p = omega arith
     to g i q l (suc a) e p = rw e (w .world .target g i (o g q) l (λ z. absurd (omega arith)) .0)
+
     fine : (g : ℕ) → Pending m g → Fine k m g
     fine g q = record {
       inside = rw (same-links m₀ m (w .grown .heap) g) (w .world .inside g (o g q));

@@ -81,6 +81,7 @@ pop-at cards x l ch once hx = record {
   where
     e : x + 2 - 2 ≡ x
     e = omega arith
+
     go : (c : ℕ) → Dec (c ≡ x) → times c l ≡ min 1 (nth (put cards x 0) c)
     go c (yes s) = rw (s, nth-put-same cards x 0 hx) (omega (arith, once x, times-here x l))
     go c (no s) = rw (nth-put-other cards x c 0 s, ← (once c)) (sym (times-there c x l (λ z. s (sym z))))

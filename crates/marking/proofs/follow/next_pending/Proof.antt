@@ -1,4 +1,3 @@
-
 use Rattle.marking.proofs.Linking.{Searching, searching-none, searching-more, searching-found, searching-end}
 use Rattle.marking.proofs.WordBits.{trailing}
 use Rattle.image.specs.Sized.{narrow}
@@ -7,9 +6,6 @@ use native.Mathlib.Omega.{arith}
 use borrow.Author.Needs.{needs}
 use Rattle.marking.proofs.follow.next_pending.Statement.{statement}
 use Rattle.marking.proofs.follow.next_pending.Tie as tie
-use Rattle.marking.proofs.follow.next_pending.Reads as reads
-use Rattle.marking.proofs.follow.next_pending.Lts as lts
-use Rattle.marking.proofs.follow.bare_word.Reads as bare-word-reads
 
 abbrev Inv-loop : tie.InvT-loop
 Inv-loop im k c w₀ e w = Searching k (narrow k im) c e w

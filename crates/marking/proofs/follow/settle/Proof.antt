@@ -1,17 +1,10 @@
-
 use Rattle.marking.proofs.Linking.{Linking, linking-none, linking-target, linking-more, linking-end}
-use Rattle.marking.proofs.Step.{visit}
 use Prim.Native.Nat.{_-_}
 use native.Mathlib.Omega.{arith}
 use borrow.Author.Needs.{needs}
 use lib.Pow.{high}
 use Rattle.marking.proofs.follow.settle.Statement.{statement}
 use Rattle.marking.proofs.follow.settle.Tie as tie
-use Rattle.marking.proofs.follow.settle.Reads as reads
-use Rattle.marking.proofs.follow.settle.Lts as lts
-use Rattle.image.proofs.bits.set_start.Reads as set-start-reads
-use Rattle.image.proofs.heap_word.Reads as heap-word-reads
-use Rattle.marking.proofs.follow.visit.Reads as visit-reads
 
 abbrev Inv-loop : tie.InvT-loop
 Inv-loop im₀ k head g n h₀ i₀ im h i = Linking k im₀ head g n im h i

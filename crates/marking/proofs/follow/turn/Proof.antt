@@ -1,4 +1,3 @@
-
 use borrow.Author.Needs.{needs}
 use Rattle.marking.proofs.Turns.{turn-settle, turn-leave, next-fine}
 use Rattle.marking.proofs.Worklist.{low}
@@ -6,12 +5,6 @@ use native.Mathlib.Omega.{arith}
 use lib.Pow.{high}
 use Rattle.marking.proofs.follow.turn.Statement.{statement}
 use Rattle.marking.proofs.follow.turn.Tie as tie
-use Rattle.marking.proofs.follow.turn.Reads as reads
-use Rattle.marking.proofs.follow.turn.Lts as lts
-use Rattle.image.proofs.card.Reads as card-reads
-use Rattle.image.proofs.set_card.Reads as set-card-reads
-use Rattle.marking.proofs.follow.next_pending.Reads as next-pending-reads
-use Rattle.marking.proofs.follow.settle.Reads as settle-reads
 
 sub-c : tie.Need-sub-c
 sub-c c = search needs

@@ -5,18 +5,16 @@ use mathlib.Core.List.{List, [], _∷_}
 use Prim.Native.Nat.{ℕ, zero, suc, _+_, _*_, _-_, _/_, _%_, _<_, _≤_, min, max}
 use native.Mathlib.Omega.{arith}
 use native.Mathlib.Decide.{ℕ-discrete, decLt}
-use Rattle.marking.specs.Mark.{markBit, startBit, cardWord, Pending, Reach, objectBit, World, rest, times, Chained, Listed, Marked, seed, follow}
+use Rattle.marking.specs.Mark.{markBit, startBit, cardWord, Pending, Reach, objectBit, World, times, Chained, Listed, Marked, seed, follow}
 use Rattle.marking.specs.Seeds.{Fit, Upto, Same, EntryAt, HandAt, DirtyAt, HeldAt, Bared, Opened, EntriesIn, HandsIn, RegsIn, ListedAll, KeptMarked, object, card}
 use Rattle.marking.proofs.Digits.{digit-two, digit-on, digit-off, on-digit, off-digit, same-digit, same-links, same-link}
 use Rattle.marking.proofs.Due.{moved}
 use Rattle.marking.proofs.Loops.{same-regs, same-tracers}
 use Rattle.marking.proofs.Open.{bared-both}
-use Rattle.marking.proofs.Step.{past, on}
 use Rattle.marking.proofs.Worklist.{times-here, times-there, times-none}
-use Rattle.model.specs.Base.{nth, all, some}
+use Rattle.model.specs.Base.{nth}
 use Rattle.model.specs.Finish.{Due, Found, Kept, due-entered, due-in-hand, due-dirty, due-card-in-hand, found-reg, found-link, found-due, kept-marked, kept-found}
-use Rattle.model.specs.Image.{Image, words, granules, marked, links, link, state, dirty, reg, count, entry, entries, hand, handCard}
-use Rattle.model.specs.Undamaged.{bare}
+use Rattle.model.specs.Image.{Image, granules, marked, links, link, state, dirty, reg, count, entry, hand, handCard}
 use native.Mathlib.Numerals.{add-one}
 use Rattle.marking.specs.Mark
 
@@ -27,6 +25,7 @@ entries-in k m hk f i hi h = go (decLt (i % 32 - 2) (nth (m .packets) (32 * (i /
   where
     e : 32 * (i / 32) + 2 + (i % 32 - 2) ≡ i
     e = omega arith
+
     go : Dec (i % 32 - 2 < nth (m .packets) (32 * (i / 32))) → nth (m .packets) i < 64 * k
     go (yes l) = rw e at (f .entries (i / 32) (i % 32 - 2) (omega arith) l .0)
     go (no l) = let z : nth (m .packets) i ≡ 0 = rw e at (f .past (i / 32) (i % 32 - 2) (omega arith) (omega arith) (omega arith)) in omega arith
@@ -149,6 +148,7 @@ all-listed k m m' h s t = rw (t .head) (record {
     once : (c : ℕ) → Dec (c < k) → times c (down k) ≡ min 1 (cardWord m' c)
     once c (yes l) = omega (arith, down-in k c l, t .words c l)
     once c (no l) = omega (arith, down-out k c (omega arith), t .past c (omega arith))
+
     holds : (g : ℕ) → Pending m' g → 1 ≤ cardWord m' (g / 64)
     holds g q =
         let l : g < 64 * k = s g (ap (λ (w : ℕ → ℕ). w g) (sym (t .marks)) ∙ q .is-marked) in
