@@ -52,14 +52,19 @@ sizes k ws z =
     len : (s : ℕ) → place (lengths 16 k) s + getD (lengths 16 k) s 0 ≤ length ws → length (getD (split (lengths 16 k) ws) s []) ≡ getD (lengths 16 k) s 0
     len s h = split-length (lengths 16 k) ws s h
 
+-- a word for every 16 granules
+module _ (k : ℕ) (ws : List ℕ) (z : Sized k ws) where
+  pub start-words : length (narrow k ws .starts) ≡ 4 * k
+  start-words = omega (arith, rw (narrow-width k ws, narrow-k k ws) at (sizes k ws z .starts-size))
+
+  pub mark-words : length (narrow k ws .marks) ≡ 4 * k
+  mark-words = omega (arith, rw (narrow-width k ws, narrow-k k ws) at (sizes k ws z .marks-size))
+
 -- every granule has its bits, every card its word
 pub shape : (k : ℕ) (ws : List ℕ) → Sized k ws → Shape k (narrow k ws)
 shape k ws z =
-    let s = sizes k ws z in
-    let kk = narrow-k k ws in
-    let ww = narrow-width k ws in
     record {
-      starts = λ g h. rw ww (omega (arith, rw (ww, kk) at (s .starts-size)));
-      marks = λ g h. rw ww (omega (arith, rw (ww, kk) at (s .marks-size)));
-      cards = s .cards-size ∙ kk;
+      starts = λ g h. rw (narrow-width k ws) (omega (arith, start-words k ws z));
+      marks = λ g h. rw (narrow-width k ws) (omega (arith, mark-words k ws z));
+      cards = sizes k ws z .cards-size ∙ narrow-k k ws;
     }

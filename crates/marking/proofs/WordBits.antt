@@ -29,12 +29,12 @@ bit-digit x j = go (eqb (x / 2 ^ j % 2) 1) refl
     go true e = digit-on refl ∙ sym (eqb-true _ _ e)
     go false e = let z = digit-off {b = false} refl in omega (arith, z, eqb-false (x / 2 ^ j % 2) 1 e)
 
-bit-half : (x j : ℕ) → bitOf x (suc j) ≡ bitOf (x / 2) j
+pub bit-half : (x j : ℕ) → bitOf x (suc j) ≡ bitOf (x / 2) j
 bit-half x j =
     let e : 1 + j ≡ suc j = omega arith in
     bit-digit x (suc j) ∙ rw (← e) (ap (λ (y : ℕ). y % 2) (sym (shr-shr x 1 j))) ∙ sym (bit-digit (x / 2) j)
 
-bit-zero : (x : ℕ) → bitOf x 0 ≡ x % 2
+pub bit-zero : (x : ℕ) → bitOf x 0 ≡ x % 2
 bit-zero x = bit-digit x 0 ∙ omega arith
 
 pub bit-none : (j : ℕ) → bitOf 0 j ≡ 0

@@ -14,6 +14,7 @@ use Rattle.theory.specs.Heap.{Filled, f-end, f-object, f-run, Object, runWords,
 use Rattle.theory.proofs.Lists.{nth-head, length-run}
 use Rattle.theory.proofs.Sweep.{not-kept, sweep-piece}
 use Rattle.sweep.specs.Gaps.{goes, freedBelow}
+use Rattle.sweep.proofs.Fold.{words-behind, size-first}
 
 module _ (m : Image) where
   goes-none : (h : ℕ) → isStart m h ≡ false → goes m h ≡ 0
@@ -54,21 +55,13 @@ module _ (m : Image) (kept : (g : ℕ) → marked m g ≡ true → isStart m g �
   at-most false true s = omega arith
   at-most false false s = omega arith
 
-  -- the words behind a piece
-  behind : (g s : ℕ) (ws rest : List ℕ) → drop (4 * g) (m .heap) ≡ (s ∷ ws) ++ rest → suc (length ws) ≡ 4 * s → drop (4 * (g + s)) (m .heap) ≡ rest
-  behind g s ws rest ew lw =
-      let q : 4 * (g + s) ≡ 4 * g + 4 * s = omega arith in
-      ap (λ (i : ℕ). drop i (m .heap)) q ∙ sym (drop-drop (4 * s) (4 * g) (m .heap)) ∙ ap (drop (4 * s)) ew ∙ drop-at (s ∷ ws) rest (4 * s) lw
-
   -- a piece in front of what is counted
   piece : (G g s : ℕ) (ws rest : List ℕ) (n : ℕ) → Bare (isStart m) g s → suc (length ws) ≡ 4 * s → drop (4 * g) (m .heap) ≡ (s ∷ ws) ++ rest
       → freedBelow m G ≡ freedBelow m (g + s) + sweep (isStart m) (marked m) n (g + s) rest .freed
       → freedBelow m G ≡ freedBelow m g + swept (isStart m) g s (s ∷ ws) (marked m g) (sweep (isStart m) (marked m) n (g + s) rest) .freed
   piece G g zero ws rest n ba lw ew ih = absurd (omega arith)
   piece G g (suc j) ws rest n ba lw ew ih =
-      let z : 4 * g ≡ 4 * g + 0 = omega arith in
-      let w : nth (m .heap) (4 * g) ≡ suc j = ap (nth (m .heap)) z ∙ sym (nth-drop (4 * g) (m .heap) 0) ∙ ap (λ (l : List ℕ). nth l 0) ew ∙ nth-head (suc j) (ws ++ rest) in
-      omega (arith, ih, piece-goes m g j ba, piece-freed g (suc j) w, swept-freed g (suc j) (suc j ∷ ws) (marked m g) (sweep (isStart m) (marked m) n (g + suc j) rest))
+      omega (arith, ih, piece-goes m g j ba, piece-freed g (suc j) (size-first (m .heap) g (suc j) ws rest ew), swept-freed g (suc j) (suc j ∷ ws) (marked m g) (sweep (isStart m) (marked m) n (g + suc j) rest))
 
   pub freed-counted : (G : ℕ) {g next : ℕ} {b : Bool} {ws : List ℕ} (n : ℕ) → Filled (isStart m) g ws next b → length ws < 4 * n → 4 * g + length ws ≡ 4 * G → drop (4 * g) (m .heap) ≡ ws
       → freedBelow m G ≡ freedBelow m g + sweep (isStart m) (marked m) n g ws .freed
@@ -76,10 +69,10 @@ module _ (m : Image) (kept : (g : ℕ) → marked m g ≡ true → isStart m g �
   freed-counted G {g} (suc n) f-end l e ew = let q : G ≡ g = omega arith in ap (freedBelow m) q ∙ unfold sweep in omega arith
   freed-counted G {g} (suc n) (f-object s ws rest t o ba f) l e ew =
       rw (sweep-piece (isStart m) (marked m) kept n g s ws rest (o .long))
-      (piece G g s ws rest n ba (o .long) ew (freed-counted G n f (omega (arith, length-append ws rest, o .long)) (omega (arith, length-append ws rest, o .long)) (behind g s ws rest ew (o .long))))
+      (piece G g s ws rest n ba (o .long) ew (freed-counted G n f (omega (arith, length-append ws rest, o .long)) (omega (arith, length-append ws rest, o .long)) (words-behind (m .heap) g s ws rest ew (o .long))))
   freed-counted G {g} (suc n) (f-run j next rest t ba f) l e ew =
       rw (sweep-piece (isStart m) (marked m) kept n g (suc j) (runTail j next) rest (length-run j next))
-      (piece G g (suc j) (runTail j next) rest n ba (length-run j next) ew (freed-counted G n f (omega (arith, length-append (runTail j next) rest, length-run j next)) (omega (arith, length-append (runTail j next) rest, length-run j next)) (behind g (suc j) (runTail j next) rest ew (length-run j next))))
+      (piece G g (suc j) (runTail j next) rest n ba (length-run j next) ew (freed-counted G n f (omega (arith, length-append (runTail j next) rest, length-run j next)) (omega (arith, length-append (runTail j next) rest, length-run j next)) (words-behind (m .heap) g (suc j) (runTail j next) rest ew (length-run j next))))
 
   -- no more is freed than there is
   pub freed-small : {g next : ℕ} {b : Bool} {ws : List ℕ} (n : ℕ) → Filled (isStart m) g ws next b → length ws < 4 * n → 4 * sweep (isStart m) (marked m) n g ws .freed ≤ length ws

@@ -124,6 +124,18 @@ heap-reheaped : (m : Image) (hs : List ℕ) (f : ℕ) → reheaped m hs f .heap 
 unfolding reheaped setFirstRun withHeap withGeneral
 heap-reheaped m hs f = refl
 
+-- the words behind a piece
+pub words-behind : (H : List ℕ) (g s : ℕ) (ws rest : List ℕ) → drop (4 * g) H ≡ (s ∷ ws) ++ rest → suc (length ws) ≡ 4 * s → drop (4 * (g + s)) H ≡ rest
+words-behind H g s ws rest ew lw =
+    let q : 4 * (g + s) ≡ 4 * g + 4 * s = omega arith in
+    ap (λ (i : ℕ). drop i H) q ∙ sym (drop-drop (4 * s) (4 * g) H) ∙ ap (drop (4 * s)) ew ∙ drop-at (s ∷ ws) rest (4 * s) lw
+
+-- the size of a piece is its first word
+pub size-first : (H : List ℕ) (g s : ℕ) (ws rest : List ℕ) → drop (4 * g) H ≡ (s ∷ ws) ++ rest → nth H (4 * g) ≡ s
+size-first H g s ws rest ew =
+    let z : 4 * g ≡ 4 * g + 0 = omega arith in
+    ap (nth H) z ∙ sym (nth-drop (4 * g) H 0) ∙ ap (λ (l : List ℕ). nth l 0) ew ∙ nth-head s (ws ++ rest)
+
 -- ---- the fold
 
 module _ (G : ℕ) (m : Image) (H : List ℕ) (lH : length H ≡ 4 * G) (hg : 1 < length (m .general)) (kept : (g : ℕ) → marked m g ≡ true → isStart m g ≡ true) where
@@ -171,10 +183,8 @@ module _ (G : ℕ) (m : Image) (H : List ℕ) (lH : length H ≡ 4 * G) (hg : 1 
 
     size-here : nth (from m H hg (g + s) r .heap) (4 * g) ≡ s
     size-here =
-        let z : 4 * g ≡ 4 * g + 0 = omega arith in
-        let w : nth H (4 * g) ≡ s = ap (nth H) z ∙ sym (nth-drop (4 * g) H 0) ∙ ap (λ (l : List ℕ). nth l 0) ew ∙ nth-head s (ws ++ rest) in
         let k : length (take (4 * (g + s + r .free)) H) ≡ 4 * (g + s + r .free) = length-take-le _ H hl in
-        ap (λ (l : List ℕ). nth l (4 * g)) (heap-reheaped m _ _) ∙ nth-left (take (4 * (g + s + r .free)) H) (r .rest) (4 * g) (omega arith) ∙ nth-take (4 * (g + s + r .free)) H (4 * g) (omega arith) ∙ w
+        ap (λ (l : List ℕ). nth l (4 * g)) (heap-reheaped m _ _) ∙ nth-left (take (4 * (g + s + r .free)) H) (r .rest) (4 * g) (omega arith) ∙ nth-take (4 * (g + s + r .free)) H (4 * g) (omega arith) ∙ size-first H g s ws rest ew
 
     stays : marked m g ≡ true → passed (from m H hg (g + s) r) g (g + s + r .free) ≡ done g (record { free = 0; rest = (s ∷ ws) ++ sweptWords r; next = firstOf (g + s) r; freed = x })
     stays u =
@@ -193,11 +203,6 @@ module _ (G : ℕ) (m : Image) (H : List ℕ) (lH : length H ≡ 4 * G) (hg : 1 
       let w : G ≡ g + 0 = omega arith in
       (rw q (ap (λ (i : ℕ). edged i m₀) w ∙ ap (λ (l : List ℕ). edged (g + 0) (reheaped m l 0)) (sym (append-nil _ ∙ take-all (4 * (g + 0)) H (omega (arith, lH))))), omega (arith, lH))
 
-  after : (g s : ℕ) (ws rest : List ℕ) → drop (4 * g) H ≡ (s ∷ ws) ++ rest → suc (length ws) ≡ 4 * s → drop (4 * (g + s)) H ≡ rest
-  after g s ws rest ew lw =
-      let q : 4 * (g + s) ≡ 4 * g + 4 * s = omega arith in
-      ap (λ (i : ℕ). drop i H) q ∙ sym (drop-drop (4 * s) (4 * g) H) ∙ ap (drop (4 * s)) ew ∙ drop-at (s ∷ ws) rest (4 * s) lw
-
   good-object : (g s : ℕ) (ws rest : List ℕ) (r : Swept) → Bare (isStart m) g s → drop (4 * g) H ≡ (s ∷ ws) ++ rest → suc (length ws) ≡ 4 * s → g + s ≤ G
       → Good (g + s) r → (b : Bool) → marked m g ≡ b → Good g (swept (isStart m) g s (s ∷ ws) b r)
   unfolding Good swept
@@ -211,11 +216,11 @@ module _ (G : ℕ) (m : Image) (H : List ℕ) (lH : length H ≡ 4 * G) (hg : 1 
   fold {g} (suc n) (f-object s ws rest t o ba f) l e ew =
       rw (sweep-piece (isStart m) (marked m) kept n g s ws rest (o .long))
       (good-object g s ws rest (sweep (isStart m) (marked m) n (g + s) rest) ba ew (o .long) (omega (arith, length-append ws rest, o .long))
-      (fold n f (omega (arith, length-append ws rest, o .long)) (omega (arith, length-append ws rest, o .long)) (after g s ws rest ew (o .long))) (marked m g) refl)
+      (fold n f (omega (arith, length-append ws rest, o .long)) (omega (arith, length-append ws rest, o .long)) (words-behind H g s ws rest ew (o .long))) (marked m g) refl)
   fold {g} (suc n) (f-run j next rest t ba f) l e ew =
       rw (sweep-piece (isStart m) (marked m) kept n g (suc j) (runTail j next) rest (length-run j next))
       (good-object g (suc j) (runTail j next) rest (sweep (isStart m) (marked m) n (g + suc j) rest) ba ew (length-run j next) (omega (arith, length-append (runTail j next) rest, length-run j next))
-      (fold n f (omega (arith, length-append (runTail j next) rest, length-run j next)) (omega (arith, length-append (runTail j next) rest, length-run j next)) (after g (suc j) (runTail j next) rest ew (length-run j next))) (marked m g) refl)
+      (fold n f (omega (arith, length-append (runTail j next) rest, length-run j next)) (omega (arith, length-append (runTail j next) rest, length-run j next)) (words-behind H g (suc j) (runTail j next) rest ew (length-run j next))) (marked m g) refl)
 
 -- ---- the whole sweep
 

@@ -1,1 +1,1 @@
-// The sweep and the whole of a finish.
+// A finish
