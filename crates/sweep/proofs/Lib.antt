@@ -1,0 +1,6 @@
+pub mod Fold
+pub mod Counted
+pub mod Lists
+pub mod Down
+pub mod Ends
+pub mod Whole
