@@ -1,6 +1,6 @@
 // The answer of one step: accepted with a value, or the number that refuses it.
 ghost use mathlib.Core.Path.{_≡_};
-ghost use Rattle.image.specs.Answers.{numberOf, valueOf};
+ghost use Rattle.image.specs.Answer.{numberOf, valueOf};
 
 pub enum Answer {
     Done(u16),
