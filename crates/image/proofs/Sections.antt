@@ -136,3 +136,11 @@ narrow-inj k ws vs z y e = sym (words-narrow k ws z) ∙ (ap words e ∙ words-n
 pub granules-narrow : (k : ℕ) (ws : List ℕ) → granules (narrow k ws) ≡ 64 * k
 unfolding granules narrow imageOf image
 granules-narrow k ws = refl
+
+pub cards-narrow : (k : ℕ) (ws : List ℕ) → narrow k ws .k ≡ k
+unfolding narrow imageOf image
+cards-narrow k ws = refl
+
+pub width-narrow : (k : ℕ) (ws : List ℕ) → narrow k ws .width ≡ 16
+unfolding narrow imageOf image
+width-narrow k ws = refl
