@@ -1,14 +1,14 @@
 -- What a passed test says, and how to pass one; words of a list after a write.
-use mathlib.Core.Path.{_≡_, refl, sym, subst}
+use mathlib.Core.Path.{_≡_, refl, sym, ap, subst, _∙_}
 use mathlib.Core.Logic.{_⊎_, inl, inr}
 use mathlib.Core.Bool.{Bool, true, false, not, cond, _&&_, _||_}
 use mathlib.Core.List.{List, [], _∷_}
-use Prim.Native.Nat.{ℕ, zero, suc, _≤_, _<_}
+use Prim.Native.Nat.{ℕ, zero, suc, _+_, _≤_, _<_}
 use native.Mathlib.Nat.{not-suc-le-zero}
 use native.Mathlib.Decide.{ℕ-discrete}
 use native.Mathlib.Omega.{arith}
 use lib.Dec.{T}
-use lib.ListN.{getD, length, length-set}
+use lib.ListN.{getD, set, length, length-set}
 use lib.Seq.{getD-set-same, getD-set-other, set-out}
 use Rattle.model.specs.Base.{first, nth, put, every, some, either, implies, all, any, best}
 
@@ -130,6 +130,15 @@ some-make [] i e = e
 some-make (b ∷ l) zero e = or-left b (some l) e
 some-make (b ∷ l) (suc i) e = or-right b (some l) (some-make l i e)
 
+pub some-false : (l : List Bool) → some l ≡ false → (i : ℕ) → getD l i false ≡ false
+unfolding some
+some-false [] e i = refl
+some-false (true ∷ l) e i = false≢ (sym e)
+some-false (false ∷ l) e zero = refl
+some-false (false ∷ l) e (suc i) = some-false l e i
+
+-- ---- words after a write
+
 pub nth-put-same : (l : List ℕ) (i v : ℕ) → i < length l → nth (put l i v) i ≡ v
 unfolding nth put
 nth-put-same l i v h = getD-set-same l i v 0 h
@@ -145,6 +154,8 @@ put-out l i v h = set-out l i v h
 pub length-put : (l : List ℕ) (i v : ℕ) → length (put l i v) ≡ length l
 unfolding put
 length-put l i v = length-set l i v
+
+-- ---- choices
 
 -- what `best` gives passes
 pub best-ok : (better : ℕ → ℕ → Bool) (ok : ℕ → Bool) (n p : ℕ) → best better ok n ≡ suc p → (p < n) × (ok p ≡ true)
@@ -168,12 +179,7 @@ best-ok better ok (suc n) p e = go (best-ok better ok n) (best better ok n) refl
     go ih zero a r = end (ok n) refl r
     go ih (suc q) a r = more ih q a (ok n && better n q) refl r
 
-pub some-false : (l : List Bool) → some l ≡ false → (i : ℕ) → getD l i false ≡ false
-unfolding some
-some-false [] e i = refl
-some-false (true ∷ l) e i = false≢ (sym e)
-some-false (false ∷ l) e zero = refl
-some-false (false ∷ l) e (suc i) = some-false l e i
+-- ---- the first line of a table that passes
 
 -- no line passed
 pub first-none : (n : ℕ) (l : List Bool) → first (suc n) l ≡ 0 → (i : ℕ) → getD l i false ≡ false
@@ -182,3 +188,41 @@ first-none n [] e i = refl
 first-none n (true ∷ l) e i = absurd (omega arith)
 first-none n (false ∷ l) e zero = refl
 first-none n (false ∷ l) e (suc i) = first-none (suc n) l e i
+
+-- a line taken off, where it is not the one that is given
+pub first-off : (n : ℕ) (l : List Bool) (i : ℕ) → (first n l ≡ n + i → ⊥) → first n l ≡ first n (set l i false)
+unfolding first
+first-off n [] i ne = refl
+first-off n (true ∷ l) zero ne = absurd (ne (omega arith))
+first-off n (true ∷ l) (suc i) ne = refl
+first-off n (false ∷ l) zero ne = refl
+first-off n (false ∷ l) (suc i) ne = first-off (suc n) l i (λ e. ne (omega arith))
+
+-- the tables agree on a line, and on the rest where it does not apply
+pub first-cons : (n : ℕ) (b b′ : Bool) (l l′ : List Bool) → b ≡ b′ → (b ≡ false → first (suc n) l ≡ first (suc n) l′) → first n (b ∷ l) ≡ first n (b′ ∷ l′)
+unfolding first
+first-cons n true b′ l l′ e h = ap (λ z. first n (z ∷ l′)) e
+first-cons n false b′ l l′ e h = h refl ∙ ap (λ z. first n (z ∷ l′)) e
+
+pub first-low : (n : ℕ) (l : List Bool) → (first n l ≡ 0) ⊎ (n ≤ first n l)
+unfolding first
+first-low n [] = inl refl
+first-low n (true ∷ l) = inr (omega arith)
+first-low n (false ∷ l) = more (first-low (suc n) l)
+  where
+    more : (first (suc n) l ≡ 0) ⊎ (suc n ≤ first (suc n) l) → (first (suc n) l ≡ 0) ⊎ (n ≤ first (suc n) l)
+    more (inl e) = inl e
+    more (inr h) = inr (omega arith)
+
+-- the line that is given passes
+pub first-passes : (n : ℕ) (l : List Bool) (i : ℕ) → first (suc n) l ≡ suc n + i → getD l i false ≡ true
+unfolding first
+first-passes n [] i e = absurd (omega arith)
+first-passes n (true ∷ l) zero e = refl
+first-passes n (true ∷ l) (suc i) e = absurd (omega arith)
+first-passes n (false ∷ l) zero e = absurd (past (first-low (suc (suc n)) l))
+  where
+    past : (first (suc (suc n)) l ≡ 0) ⊎ (suc (suc n) ≤ first (suc (suc n)) l) → ⊥
+    past (inl z) = omega arith
+    past (inr z) = omega arith
+first-passes n (false ∷ l) (suc i) e = first-passes (suc n) l i (omega arith)

@@ -19,7 +19,7 @@ use Rattle.theory.proofs.Beginning.{scan-does, begin-does}
 use Rattle.theory.proofs.Cleaning.{clean-does}
 use Rattle.theory.proofs.Facts.{reg-value, link-value}
 use Rattle.theory.proofs.FinishKept.{finish-keeps}
-use Rattle.theory.proofs.LiveSteps.{line}
+use Rattle.theory.proofs.Steps.{line}
 use Rattle.theory.proofs.Mutating.{reg-keeps, barrier-keeps, store-keeps, write-keeps}
 use Rattle.theory.proofs.NewKept.{new-does, new-step}
 use Rattle.theory.proofs.Reaching.{Stays}

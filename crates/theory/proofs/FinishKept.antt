@@ -32,7 +32,8 @@ facts-of {m} s = record {
   proper = proper-of o;
   laid = laid-of o;
   counted = counted-of m o;
-  regs-many = o .regs-ok .sized;
+  regs-length = o .regs-ok .sized;
+  players-length = o .players-ok .sized;
   hand-ok = λ t h n. holds t n (o .tracers-ok .hands .pair t h);
   idle = λ n g. no-bit (m .width) (m .marks) (s .idle (omega (arith, o .general-ok .runs)) .no-marks) g;
 }

@@ -9,14 +9,15 @@ use lib.ListN.{getD, take, drop, length-take}
 use borrow.Author.Tests.{eqb-false, leb-false, ltb-false}
 use Rattle.model.specs.Image.{Image, isStart, size, links, levels, reg, hand, nextLink, setWord, setOwed, withPlayers, dirtyCard, setState, withCards}
 use Rattle.model.specs.Records.{Step, Kind, new, load, store, barrier, handOver, dropReg, read, write, begin, scan, trace, clean, finish, isDue, unknown, kindOf}
-use Rattle.model.specs.Steps.{unnamed, offDesk, object, owing, noObject, pastEnd, badSize, noRoom, wrongPhase, nothingToDo, refusal, accept, finishDone, act, outcome, step}
-use Rattle.model.proofs.Laws.{first-none, some-false}
+use Rattle.model.specs.Steps.{offDesk, object, noObject, pastEnd, refusal, accept, act, step}
+use Rattle.model.proofs.Laws.{some-false}
 use Rattle.model.proofs.Entries.{nth-take, nth-drop}
 use Rattle.model.proofs.Found.{place}
 use Rattle.theory.specs.Cycle.{Facts, Source, in-reg, in-link, is-marked, Carries, NewPlaced, NoFinish, Live}
-use Rattle.theory.proofs.Quiet.{Next, quiet-refl, quiet-silent, quiet-begin, quiet-scan, quiet-trace, quiet-clean}
+use Rattle.theory.proofs.Quiet.{Next, quiet-refl, quiet-begin, quiet-scan, quiet-trace, quiet-clean}
 use Rattle.theory.proofs.Carries.{quiet-carries, carries-silent, setReg-carries, setWord-carries, new-carries}
 use Rattle.theory.proofs.Live.{live-carried}
+use Rattle.theory.proofs.Steps.{step-number, line, step-cases}
 
 on-desk : (n x : ℕ) → ltb n x ≡ false → x < suc n
 on-desk n x e = omega (arith, ltb-false n x e)
@@ -35,32 +36,6 @@ scan-source m p hp g k nz =
     let r = place g (take 16 (drop (16 * p) (m .regs))) k in
     let h : r .0 < 16 = omega (arith, r .1, length-take 16 (drop (16 * p) (m .regs))) in
     in-reg p (r .0) hp h (sym (nth-drop (16 * p) (m .regs) (r .0)) ∙ (sym (nth-take 16 (drop (16 * p) (m .regs)) (r .0) h) ∙ r .2)) nz
-
--- ---- numbers
-
-pub act-number : (m : Image) (s : Step) (n : Kind) → (act m s n) .number ≡ 0
-unfolding act accept finishDone
-act-number m s new = refl
-act-number m s load = refl
-act-number m s store = refl
-act-number m s barrier = refl
-act-number m s handOver = refl
-act-number m s dropReg = refl
-act-number m s read = refl
-act-number m s write = refl
-act-number m s begin = refl
-act-number m s scan = refl
-act-number m s trace = refl
-act-number m s clean = refl
-act-number m s finish = refl
-act-number m s isDue = refl
-act-number m s unknown = refl
-
--- line i of the numbers of an accepted step does not apply
-pub line : (m : Image) (s : Step) (n : Kind) → refusal m s n ≡ 0 → (i : ℕ)
-    → getD (unnamed s n ∷ offDesk s n ∷ owing m s n ∷ noObject m s n ∷ pastEnd m s n ∷ badSize s n ∷ noRoom m s n ∷ wrongPhase m s n ∷ nothingToDo m s n ∷ []) i false ≡ false
-unfolding refusal
-line m s n e i = first-none 2 _ e i
 
 -- ---- the kinds
 
@@ -114,7 +89,7 @@ module _ (m : Image) (s : Step) (f : Facts m) where
 
   barrier-carries : Carries m ((act m s barrier) .image)
   unfolding act accept setOwed withPlayers dirtyCard setState withCards
-  barrier-carries = quiet-carries m _ (quiet-silent m _ _ _ _ _)
+  barrier-carries = carries-silent m m _ _ _ _ _ (carries-refl m)
 
   scan-carries : refusal m s scan ≡ 0 → Carries m ((act m s scan) .image)
   unfolding act accept offDesk
@@ -149,12 +124,7 @@ module _ (m : Image) (s : Step) (f : Facts m) where
   -- ---- every step but an accepted finish
 
   pub step-carries : NewPlaced m s → NoFinish m s → Carries m ((step m s) .image)
-  unfolding step
-  step-carries np nf = go (refusal m s (kindOf (s .kind))) refl nf
-    where
-      go : (r : ℕ) → refusal m s (kindOf (s .kind)) ≡ r → (kindOf (s .kind) ≡ finish → (outcome m s (kindOf (s .kind)) r) .number ≡ 0 → ⊥) → Carries m ((outcome m s (kindOf (s .kind)) r) .image)
-      go zero e nf′ = unfold outcome in act-carries np (kindOf (s .kind)) e (λ k. nf′ k (act-number m s (kindOf (s .kind))))
-      go (suc r) e nf′ = unfold outcome in carries-refl m
+  step-carries np nf = step-cases m s (Carries m) (carries-refl m) (λ n k e. act-carries np n e (λ q. nf (k ∙ q) (step-number m s k ∙ e)))
 
   -- start bits stay
   pub step-stays : NewPlaced m s → NoFinish m s → (g : ℕ) → isStart m g ≡ true → isStart ((step m s) .image) g ≡ true

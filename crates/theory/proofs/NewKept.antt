@@ -18,7 +18,7 @@ use Rattle.theory.specs.Heap.{HeapFilled}
 use Rattle.theory.specs.Lines.{NilOr, GeneralOk, HeapOk, Start, Lines, Undamaged}
 use Rattle.theory.specs.New.{reheaped, NewMade}
 use Rattle.theory.proofs.Facts.{some-card, laid-of, link-value, start-of, heap-filled-of, heap-sized-of}
-use Rattle.theory.proofs.LiveSteps.{line}
+use Rattle.theory.proofs.Steps.{line}
 use Rattle.theory.proofs.Mutating.{reg-keeps, is-start}
 use Rattle.theory.proofs.NewMade.{new-made}
 use Rattle.theory.proofs.Replaced.{nil-mono, reheaped-keeps}

@@ -12,7 +12,8 @@ use Rattle.model.specs.Steps.{isNew, offDesk, badSize, object, noObject, pastEn
 use Rattle.model.specs.Plain.{Object, made, PlainStore, putLink, Value, as-is, PlainDone, byPlayerKind, holding, plainRefusal, plainAccept, plainAct, plainOutcome, feeds, objectAt, upd, named, reading}
 use Rattle.model.specs.Claim.{Chain, chain-link}
 use Rattle.model.proofs.Laws.{false≢, some-false}
-use Rattle.theory.specs.Same.{Names, SameStore, Related, Facts, KeptWords, ObjectMade, NewMade, event, Admitted}
+use Rattle.theory.specs.Same.{Names, SameStore, Related, KeptWords, ObjectMade, NewMade, event, Admitted}
+use Rattle.theory.specs.Cycle.{Facts}
 use Rattle.theory.proofs.PlainLaws.{upd-same, names-more, names-new, same-kept}
 use Rattle.theory.proofs.PlainWrites.{same-setReg, same-stored, same-written, same-setOwed}
 use Rattle.theory.proofs.PlainNew.{same-new}

@@ -1,12 +1,10 @@
 -- An image and a plain store that agree give a player's step the same number, but for 9.
 use mathlib.Core.Path.{_≡_, refl, sym, ap, _∙_}
-use mathlib.Core.Logic.{_⊎_, inl, inr}
 use mathlib.Core.Bool.{Bool, true, false, not, _&&_, _||_}
 use mathlib.Core.List.{List, [], _∷_}
 use Prim.Native.Nat.{ℕ, zero, suc, _+_, _≤_, _<_}
 use native.Mathlib.Omega.{arith}
 use lib.Dec.{eqb, ltb, leb}
-use lib.ListN.{getD, set}
 use borrow.Author.Tests.{eqb-false, ltb-false}
 use Rattle.model.specs.Base.{first}
 use Rattle.model.specs.Image.{Image, links, levels, owed}
@@ -15,49 +13,11 @@ use Rattle.model.specs.Mutate.{roomFor}
 use Rattle.model.specs.Steps.{isNew, unnamed, offDesk, badSize, object, owes, owing, noObject, pastEnd, noRoom, wrongPhase, nothingToDo, refusal}
 use Rattle.model.specs.Plain.{Object, isNil, PlainStore, holding, plainOwing, plainNoObject, plainLevels, plainPastEnd, plainNothing, plainRefusal, feeds}
 use Rattle.model.specs.Claim.{Chain, chain-reg}
-use Rattle.model.proofs.Laws.{false≢, some-false, first-none}
+use Rattle.model.proofs.Laws.{false≢, some-false, first-none, first-off, first-cons, first-passes}
 use Rattle.theory.specs.Same.{Names, SameStore, SameLines, Admitted}
 use Rattle.theory.proofs.PlainLaws.{nil-name}
 
 -- ---- tables of lines
-
--- a line taken off, where it is not the one that is given
-first-off : (n : ℕ) (l : List Bool) (i : ℕ) → (first n l ≡ n + i → ⊥) → first n l ≡ first n (set l i false)
-unfolding first
-first-off n [] i ne = refl
-first-off n (true ∷ l) zero ne = absurd (ne (omega arith))
-first-off n (true ∷ l) (suc i) ne = refl
-first-off n (false ∷ l) zero ne = refl
-first-off n (false ∷ l) (suc i) ne = first-off (suc n) l i (λ e. ne (omega arith))
-
--- the tables agree on a line, and on the rest where it does not apply
-first-cons : (n : ℕ) (b b′ : Bool) (l l′ : List Bool) → b ≡ b′ → (b ≡ false → first (suc n) l ≡ first (suc n) l′) → first n (b ∷ l) ≡ first n (b′ ∷ l′)
-unfolding first
-first-cons n true b′ l l′ e h = ap (λ z. first n (z ∷ l′)) e
-first-cons n false b′ l l′ e h = h refl ∙ ap (λ z. first n (z ∷ l′)) e
-
-first-low : (n : ℕ) (l : List Bool) → (first n l ≡ 0) ⊎ (n ≤ first n l)
-unfolding first
-first-low n [] = inl refl
-first-low n (true ∷ l) = inr (omega arith)
-first-low n (false ∷ l) = more (first-low (suc n) l)
-  where
-    more : (first (suc n) l ≡ 0) ⊎ (suc n ≤ first (suc n) l) → (first (suc n) l ≡ 0) ⊎ (n ≤ first (suc n) l)
-    more (inl e) = inl e
-    more (inr h) = inr (omega arith)
-
--- the line that is given passes
-first-passes : (n : ℕ) (l : List Bool) (i : ℕ) → first (suc n) l ≡ suc n + i → getD l i false ≡ true
-unfolding first
-first-passes n [] i e = absurd (omega arith)
-first-passes n (true ∷ l) zero e = refl
-first-passes n (true ∷ l) (suc i) e = absurd (omega arith)
-first-passes n (false ∷ l) zero e = absurd (past (first-low (suc (suc n)) l))
-  where
-    past : (first (suc (suc n)) l ≡ 0) ⊎ (suc (suc n) ≤ first (suc (suc n)) l) → ⊥
-    past (inl z) = omega arith
-    past (inr z) = omega arith
-first-passes n (false ∷ l) (suc i) e = first-passes (suc n) l i (omega arith)
 
 lines-number : (u b phase off w x y z w′ x′ y′ z′ : Bool) → SameLines phase off w x y z w′ x′ y′ z′
     → first 3 (u ∷ off ∷ w ∷ x ∷ y ∷ b ∷ false ∷ phase ∷ z ∷ []) ≡ first 3 (u ∷ off ∷ w′ ∷ x′ ∷ y′ ∷ b ∷ false ∷ false ∷ z′ ∷ [])

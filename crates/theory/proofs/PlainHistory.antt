@@ -8,7 +8,8 @@ use Rattle.model.specs.Steps.{refusal, act, step, run, after}
 use Rattle.model.specs.Batch.{Batch, callNumber, events, batchWith, batchAt}
 use Rattle.model.specs.Plain.{SameAnswers}
 use Rattle.model.specs.Claim.{Lent, eventsOf, history}
-use Rattle.theory.specs.Same.{Facts, WordsStay, NewMade, Runs, runs-none, runs-more}
+use Rattle.theory.specs.Same.{WordsStay, NewMade, Runs, runs-none, runs-more}
+use Rattle.theory.specs.Cycle.{Facts}
 use Rattle.theory.proofs.PlainList.{plain-store-runs}
 
 -- Ok: the image is undamaged, and its words are of w bits

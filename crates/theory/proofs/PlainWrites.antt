@@ -12,8 +12,10 @@ use Rattle.model.specs.Image.{Image, word, isStart, size, links, link, levels, 
 use Rattle.model.specs.Plain.{Object, PlainStore, upd, putReg, putLink, putLevel, putOwing}
 use Rattle.model.specs.Claim.{Chain, chain-reg, chain-link}
 use Rattle.model.proofs.Laws.{nth-put-same, nth-put-other}
-use Rattle.theory.specs.Same.{SameStore, Facts}
-use Rattle.theory.proofs.PlainLaws.{both, upd-same, upd-other, upd-at, updObject-at, chain-least, moved, chain-start, in-object, level-inside, agrees-narrow, count-stays, agrees-renew}
+use Rattle.theory.specs.Same.{SameStore}
+use Rattle.theory.specs.Cycle.{Facts}
+use Rattle.theory.proofs.Safe.{chain-least, chain-start}
+use Rattle.theory.proofs.PlainLaws.{both, upd-same, upd-other, upd-at, updObject-at, moved, in-object, level-inside, agrees-narrow, count-stays, agrees-renew}
 
 -- ---- a register: load, hand, drop
 

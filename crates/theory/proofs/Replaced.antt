@@ -29,7 +29,7 @@ off-length [] = refl
 off-length (o ∷ []) = refl
 off-length (o ∷ s ∷ l) = ap (λ n. suc (suc n)) (off-length l)
 
-off-owed : (l : List ℕ) (p : ℕ) → nth (scannedOff l) (2 * p) ≡ nth l (2 * p)
+pub off-owed : (l : List ℕ) (p : ℕ) → nth (scannedOff l) (2 * p) ≡ nth l (2 * p)
 unfolding scannedOff nth
 off-owed [] p = refl
 off-owed (o ∷ []) p = refl
