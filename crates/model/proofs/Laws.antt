@@ -8,7 +8,7 @@ use native.Mathlib.Nat.{not-suc-le-zero}
 use native.Mathlib.Decide.{ℕ-discrete}
 use native.Mathlib.Omega.{arith}
 use lib.Dec.{T}
-use lib.ListN.{getD, set, length, length-set}
+use lib.ListN.{getD, set, replicate, length, length-set, List·getD-eq-default}
 use lib.Seq.{getD-set-same, getD-set-other, set-out}
 use Rattle.model.specs.Base.{first, nth, put, every, some, either, implies, all, any, best}
 
@@ -136,6 +136,19 @@ some-false [] e i = refl
 some-false (true ∷ l) e i = false≢ (sym e)
 some-false (false ∷ l) e zero = refl
 some-false (false ∷ l) e (suc i) = some-false l e i
+
+-- ---- words of a list
+
+-- past the end they are 0
+pub nth-out : (l : List ℕ) (i : ℕ) → length l ≤ i → nth l i ≡ 0
+unfolding nth
+nth-out l i h = List·getD-eq-default l 0 h
+
+pub nth-zeros : (n i : ℕ) → nth (replicate n 0) i ≡ 0
+unfolding nth
+nth-zeros zero i = refl
+nth-zeros (suc n) zero = refl
+nth-zeros (suc n) (suc i) = nth-zeros n i
 
 -- ---- words after a write
 

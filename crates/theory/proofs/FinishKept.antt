@@ -11,16 +11,16 @@ use Rattle.model.specs.Image.{Image, granules, word, isStart, marked, links, li
 use Rattle.model.specs.Undamaged.{fill, filled}
 use Rattle.model.specs.Finish.{keptSet, Kept, finishStep, found-reg, kept-found, firstOf, sweep, finishWith}
 use Rattle.model.specs.Claim.{Finishes}
-use Rattle.model.proofs.Laws.{bool-cases, nth-put-same, length-put}
-use Rattle.model.proofs.Bits.{length-addBits}
+use Rattle.model.proofs.Laws.{bool-cases, nth-put-same, length-put, nth-out}
+use Rattle.model.proofs.Bits.{length-addBits, no-bit}
 use Rattle.theory.specs.Cycle.{Facts, SweptTo}
 use Rattle.theory.specs.Heap.{HeapFilled}
 use Rattle.theory.specs.Lines.{Pair, NilOr, Start, InHand, Lines, Sound, Undamaged, none, one, HeapOk}
-use Rattle.theory.proofs.Beginning.{no-bit, length-zeros}
+use Rattle.theory.proofs.Beginning.{length-zeros}
 use Rattle.theory.proofs.Facts.{heap-filled-of, heap-sized-of, laid-of, proper-of, some-card, link-value, start-of}
 use Rattle.theory.proofs.FinishHeap.{kept-start, finish-starts, finish-filled, finish-words, finish-zero}
 use Rattle.theory.proofs.Finishes.{finishes}
-use Rattle.theory.proofs.Judged.{counted-of, nth-out}
+use Rattle.theory.proofs.Judged.{counted-of}
 use Rattle.theory.proofs.Replaced.{cleared-keeps}
 use Rattle.theory.proofs.Safe.{start-below, kept-link}
 use Rattle.theory.proofs.Walk.{filled-make}

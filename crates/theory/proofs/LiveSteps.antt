@@ -1,14 +1,14 @@
 -- Every step but an accepted finish keeps start bits and what is live.
 use mathlib.Core.Path.{_≡_, refl, sym, subst, _∙_}
 use mathlib.Core.Bool.{true, false}
-use mathlib.Core.List.{[], _∷_, List·Memᴰ}
-use Prim.Native.Nat.{ℕ, zero, suc, _+_, _*_, _-_, _<_}
+use mathlib.Core.List.{List·Memᴰ}
+use Prim.Native.Nat.{ℕ, suc, _+_, _*_, _-_, _<_}
 use native.Mathlib.Omega.{arith}
 use lib.Dec.{ltb}
-use lib.ListN.{getD, take, drop, length-take}
+use lib.ListN.{take, drop, length-take}
 use borrow.Author.Tests.{eqb-false, leb-false, ltb-false}
 use Rattle.model.specs.Image.{Image, isStart, size, links, levels, reg, hand, nextLink, setWord, setOwed, withPlayers, dirtyCard, setState, withCards}
-use Rattle.model.specs.Records.{Step, Kind, new, load, store, barrier, handOver, dropReg, read, write, begin, scan, trace, clean, finish, isDue, unknown, kindOf}
+use Rattle.model.specs.Records.{Step, Kind, new, load, store, barrier, handOver, dropReg, read, write, begin, scan, trace, clean, finish, isDue, unknown}
 use Rattle.model.specs.Steps.{offDesk, object, noObject, pastEnd, refusal, accept, act, step}
 use Rattle.model.proofs.Laws.{some-false}
 use Rattle.model.proofs.Entries.{nth-take, nth-drop}

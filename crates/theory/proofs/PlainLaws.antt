@@ -7,7 +7,7 @@ use native.Mathlib.Decide.{ℕ-discrete}
 use native.Mathlib.Omega.{arith}
 use lib.Dec.{eqb}
 use borrow.Author.Tests.{eq-eqb, ne-eqb}
-use Rattle.model.specs.Image.{Image, word, isStart, size, links, link, levels, level, reg, owed}
+use Rattle.model.specs.Image.{Image, word, size, links, link, levels, level, reg, owed}
 use Rattle.model.specs.Plain.{Object, old, made, sameObject, isNil, PlainStore, upd, updObject, ofImage, plainOf}
 use Rattle.model.specs.Claim.{Chain, chain-reg, chain-link}
 use Rattle.theory.specs.Same.{Names, Agrees, SameStore, WordsStay, KeptWords}
