@@ -10,13 +10,13 @@ use Rattle.model.specs.Image.{Image, marked, withCards, withPlayers, withGenera
 use Rattle.model.specs.Collect.{scanPlayer, beginCycle}
 use Rattle.model.proofs.Laws.{false≢, nth-put-same, nth-put-other, length-put, nth-zeros}
 use Rattle.model.proofs.Entries.{nth-drop}
+use Rattle.model.proofs.Bits.{no-bit}
 use Rattle.theory.specs.Cover.{Covered, Cover, owes-by, to-nil, to-marked, is-coming, is-owed}
 use Rattle.theory.specs.Lines.{NilOr, GeneralOk, Start, Lines, Idle, none}
 use Rattle.theory.proofs.Covering.{same-coming}
 use Rattle.theory.proofs.Lines.{put-players, put-general}
 use Rattle.theory.proofs.Reaching.{each-take, Stays, reachAll-does, frame}
 use Rattle.theory.proofs.Sections.{scanned-set}
-use Rattle.model.proofs.Bits.{no-bit}
 
 -- ---- scan
 

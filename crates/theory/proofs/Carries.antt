@@ -14,6 +14,7 @@ use Rattle.model.proofs.Laws.{nth-put-same, nth-put-other, put-out}
 use Rattle.theory.specs.Heap.{Laid}
 use Rattle.theory.specs.Cycle.{Source, in-reg, is-marked, no-start, LinkFrom, had-link, to-source, Carries, Quiet, Placed}
 use Rattle.theory.proofs.Quiet.{silent}
+use Rattle.theory.proofs.Walk.{same-place}
 
 -- ---- steps without a write, and silent writes
 
@@ -68,15 +69,6 @@ setReg-carries m p r v ok = record {
 }
 
 -- ---- a word of an object
-
--- two words of objects are one only if object and place are
-same-place : (m : Image) → Laid m → (g h i j : ℕ) → isStart m g ≡ true → isStart m h ≡ true → i < 4 * size m g → j < 4 * size m h → 4 * g + i ≡ 4 * h + j → (g ≡ h) × (i ≡ j)
-same-place m d g h i j sg sh li lj e = cs (decLt g h) (decLt h g)
-  where
-    cs : Dec (g < h) → Dec (h < g) → (g ≡ h) × (i ≡ j)
-    cs (yes lt) b = absurd (omega (arith, d .apart g h sg sh lt))
-    cs (no x) (yes lt) = absurd (omega (arith, d .apart h g sh sg lt))
-    cs (no x) (no y) = (omega arith, omega arith)
 
 -- a word behind the count of links, of an object: if it is a link, then it is to a source
 pub setWord-carries : (m : Image) → Laid m → (g i v : ℕ) → isStart m g ≡ true → 2 + i < 4 * size m g → (i < links m g → (v ≡ 0 → ⊥) → Source m v) → Carries m (setWord m g (2 + i) v)

@@ -3,17 +3,19 @@ use mathlib.Core.Path.{_≡_, refl, ap, _∙_}
 use mathlib.Core.List.{List}
 use Prim.Native.Nat.{ℕ}
 use native.Mathlib.Omega.{arith}
+use borrow.Author.Tests.{not-false}
 use Rattle.model.specs.Image.{Image, reg, owed, setReg, withRegs, parts}
 use Rattle.model.specs.Undamaged.{judgeAt}
 use Rattle.model.specs.Records.{Step, finish}
 use Rattle.model.specs.Steps.{act, accept, finishDone}
 use Rattle.model.specs.Mutate.{roomFor, newObject}
 use Rattle.model.specs.Batch.{misfit, callNumber}
-use Rattle.model.proofs.Laws.{some-false, first-none}
-use borrow.Author.Tests.{not-false}
 use Rattle.model.specs.Claim.{Lent, Claim}
+use Rattle.model.specs.Cases.{bytes}
+use Rattle.model.proofs.Laws.{some-false, first-none}
 use Rattle.theory.specs.Lines.{Lines, Undamaged, Passes}
-use Rattle.theory.specs.Same.{WordsStay, NewMade}
+use Rattle.theory.specs.Same.{WordsStay, NewMakes}
+use Rattle.theory.specs.New.{NewMade}
 use Rattle.theory.proofs.Facts.{proper-of}
 use Rattle.theory.proofs.FinishKept.{facts-of, finish-does}
 use Rattle.theory.proofs.NewKept.{new-does, new-placed}
@@ -22,11 +24,9 @@ use Rattle.theory.proofs.Kept.{step-passes}
 use Rattle.theory.proofs.Passing.{parts-pass, judge-use, words-round}
 use Rattle.theory.proofs.PlainHistory.{plain-history}
 use Rattle.theory.proofs.InOrder.{claim-but-plain}
-use Rattle.model.specs.Cases.{bytes}
-use Rattle.theory.specs.New
 
 -- what an accepted new leaves, as the plain store's part asks it
-object-made : (m : Image) (s : Step) → Undamaged m → NewMade m s
+object-made : (m : Image) (s : Step) → Undamaged m → NewMakes m s
 unfolding act accept
 object-made m s u e = record {
   not-nil = λ z. omega (arith, k .filled .start-range g (k .start-new) .0);
@@ -45,7 +45,7 @@ object-made m s u e = record {
     g : ℕ
     g = (roomFor m (s .b)) .run
 
-    k : New.NewMade m (newObject m (s .who) (s .a) (s .b) (s .c)) (s .who) (s .a) (s .b) (s .c) ((roomFor m (s .b)) .run)
+    k : NewMade m (newObject m (s .who) (s .a) (s .b) (s .c)) (s .who) (s .a) (s .b) (s .c) ((roomFor m (s .b)) .run)
     k = new-does m s o e
 
 finish-stays : (m : Image) (s : Step) → Undamaged m → WordsStay m ((act m s finish) .image)

@@ -13,12 +13,12 @@ use Rattle.model.specs.Finish.{Swept, sweptWords, firstOf, sweep, keptSet, fini
 use Rattle.model.proofs.Laws.{and-split, nth-put-same, length-put}
 use Rattle.model.proofs.Bits.{length-addBits, addBits-bit, bit-zeros, addBits-past}
 use Rattle.model.proofs.Entries.{nth-take}
+use Rattle.model.proofs.Found.{table-below, table-in}
 use Rattle.theory.specs.Heap.{Filled, HeapFilled, HeapSized}
+use Rattle.theory.specs.Sweep.{Stays, SweptOk}
 use Rattle.theory.proofs.Lists.{nth-left, nth-right}
 use Rattle.theory.proofs.Walk.{word-behind}
-use Rattle.theory.specs.Sweep.{Stays, SweptOk}
 use Rattle.theory.proofs.Sweep.{nth-swept, swept-filled, sweep-ok, length-swept, sweep-stays}
-use Rattle.model.proofs.Found.{table-below, table-in}
 
 -- ---- the set that is kept
 

@@ -9,9 +9,9 @@ use borrow.Author.Tests.{not-true}
 use Rattle.model.specs.Image.{Image, granules, isStart}
 use Rattle.model.specs.Undamaged.{zeroGranule, filled}
 use Rattle.model.proofs.Laws.{false≢, every-use}
+use Rattle.model.proofs.Bits.{bit-within}
 use Rattle.theory.specs.Heap.{HeapFilled, HeapSized}
 use Rattle.theory.proofs.Walk.{filled-use}
-use Rattle.model.proofs.Bits.{bit-within}
 
 -- ---- bit words of the two widths
 

@@ -2,11 +2,11 @@
 use mathlib.Core.Path.{_≡_, refl, sym, subst, _∙_}
 use mathlib.Core.Bool.{true, false}
 use mathlib.Core.List.{List·Memᴰ}
-use Prim.Native.Nat.{ℕ, suc, _+_, _*_, _-_, _<_}
+use Prim.Native.Nat.{ℕ, _+_, _*_, _-_, _<_}
 use native.Mathlib.Omega.{arith}
 use lib.Dec.{ltb}
 use lib.ListN.{take, drop, length-take}
-use borrow.Author.Tests.{eqb-false, leb-false, ltb-false}
+use borrow.Author.Tests.{eqb-false, leb-false}
 use Rattle.model.specs.Image.{Image, isStart, size, links, levels, reg, hand, nextLink, setWord, setOwed, withPlayers, dirtyCard, setState, withCards}
 use Rattle.model.specs.Records.{Step, Kind, new, load, store, barrier, handOver, dropReg, read, write, begin, scan, trace, clean, finish, isDue, unknown}
 use Rattle.model.specs.Steps.{offDesk, object, noObject, pastEnd, refusal, accept, act, step}
@@ -17,10 +17,7 @@ use Rattle.theory.specs.Cycle.{Facts, Source, in-reg, in-link, is-marked
 use Rattle.theory.proofs.Quiet.{Next, quiet-refl, quiet-begin, quiet-scan, quiet-trace, quiet-clean}
 use Rattle.theory.proofs.Carries.{quiet-carries, carries-silent, setReg-carries, setWord-carries, new-carries}
 use Rattle.theory.proofs.Live.{live-carried}
-use Rattle.theory.proofs.Steps.{step-number, line, step-cases}
-
-on-desk : (n x : ℕ) → ltb n x ≡ false → x < suc n
-on-desk n x e = omega (arith, ltb-false n x e)
+use Rattle.theory.proofs.Steps.{step-number, line, step-cases, not-above}
 
 carries-refl : (m : Image) → Carries m m
 carries-refl m = quiet-carries m m (quiet-refl m)
@@ -43,12 +40,12 @@ module _ (m : Image) (s : Step) (f : Facts m) where
   -- what a register on the desk holds
   held : (r : ℕ) → ltb 15 (s .who) ≡ false → ltb 15 r ≡ false → (object m s r ≡ 0 → ⊥) → Source m (object m s r)
   unfolding object
-  held r hp hr nz = in-reg (s .who) r (on-desk 15 (s .who) hp) (on-desk 15 r hr) refl nz
+  held r hp hr nz = in-reg (s .who) r (not-above 15 (s .who) hp) (not-above 15 r hr) refl nz
 
   -- and where it holds something, that is an object
   held-start : (r : ℕ) → ltb 15 (s .who) ≡ false → ltb 15 r ≡ false → (object m s r ≡ 0 → ⊥) → isStart m (object m s r) ≡ true
   unfolding object
-  held-start r hp hr nz = f .proper .reg-start (s .who) r (on-desk 15 (s .who) hp) (on-desk 15 r hr) nz
+  held-start r hp hr nz = f .proper .reg-start (s .who) r (not-above 15 (s .who) hp) (not-above 15 r hr) nz
 
   load-carries : refusal m s load ≡ 0 → Carries m ((act m s load) .image)
   unfolding act accept offDesk noObject pastEnd
@@ -93,15 +90,15 @@ module _ (m : Image) (s : Step) (f : Facts m) where
 
   scan-carries : refusal m s scan ≡ 0 → Carries m ((act m s scan) .image)
   unfolding act accept offDesk
-  scan-carries e = let d = some-false _ (line m s scan e 1) in quiet-carries m _ (quiet-scan m (s .who) (s .a) (scan-source m (s .a) (on-desk 15 (s .a) (d 1))))
+  scan-carries e = let d = some-false _ (line m s scan e 1) in quiet-carries m _ (quiet-scan m (s .who) (s .a) (scan-source m (s .a) (not-above 15 (s .a) (d 1))))
 
   trace-carries : refusal m s trace ≡ 0 → Carries m ((act m s trace) .image)
   unfolding act accept offDesk
-  trace-carries e = quiet-carries m _ (quiet-trace m (s .who) (next-source m f (s .who) (on-desk 7 (s .who) (line m s trace e 1))))
+  trace-carries e = quiet-carries m _ (quiet-trace m (s .who) (next-source m f (s .who) (not-above 7 (s .who) (line m s trace e 1))))
 
   clean-carries : refusal m s clean ≡ 0 → Carries m ((act m s clean) .image)
   unfolding act accept offDesk
-  clean-carries e = quiet-carries m _ (quiet-clean m (s .who) (next-source m f (s .who) (on-desk 7 (s .who) (line m s clean e 1))))
+  clean-carries e = quiet-carries m _ (quiet-clean m (s .who) (next-source m f (s .who) (not-above 7 (s .who) (line m s clean e 1))))
 
   act-carries : NewPlaced m s → (n : Kind) → refusal m s n ≡ 0 → (n ≡ finish → ⊥) → Carries m ((act m s n) .image)
   unfolding act accept
@@ -125,10 +122,6 @@ module _ (m : Image) (s : Step) (f : Facts m) where
 
   pub step-carries : NewPlaced m s → NoFinish m s → Carries m ((step m s) .image)
   step-carries np nf = step-cases m s (Carries m) (carries-refl m) (λ n k e. act-carries np n e (λ q. nf (k ∙ q) (step-number m s k ∙ e)))
-
-  -- start bits stay
-  pub step-stays : NewPlaced m s → NoFinish m s → (g : ℕ) → isStart m g ≡ true → isStart ((step m s) .image) g ≡ true
-  step-stays np nf = (step-carries np nf) .starts-stay
 
   -- what is live stays so
   pub step-live : NewPlaced m s → NoFinish m s → (S : ℕ → Type 0) → Live S m → Live S ((step m s) .image)

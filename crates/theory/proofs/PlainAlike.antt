@@ -3,9 +3,8 @@ use mathlib.Core.Path.{_≡_, refl, sym, ap, _∙_}
 use mathlib.Core.Bool.{Bool, true, false, not, _&&_, _||_}
 use mathlib.Core.List.{[], _∷_}
 use Prim.Native.Nat.{ℕ, _<_}
-use native.Mathlib.Omega.{arith}
-use lib.Dec.{eqb, ltb, leb}
-use borrow.Author.Tests.{eqb-false, ltb-false}
+use lib.Dec.{eqb, leb}
+use borrow.Author.Tests.{eqb-false}
 use Rattle.model.specs.Base.{first}
 use Rattle.model.specs.Image.{Image, links, levels, owed}
 use Rattle.model.specs.Records.{Step, Kind, new, load, store, barrier, handOver, dropReg, read, write, begin, scan, trace, clean, finish, isDue, unknown}
@@ -13,9 +12,10 @@ use Rattle.model.specs.Mutate.{roomFor}
 use Rattle.model.specs.Steps.{isNew, unnamed, offDesk, badSize, object, owes, owing, noObject, pastEnd, noRoom, wrongPhase, nothingToDo, refusal}
 use Rattle.model.specs.Plain.{Object, isNil, PlainStore, holding, plainOwing, plainNoObject, plainLevels, plainPastEnd, plainNothing, plainRefusal, feeds}
 use Rattle.model.specs.Claim.{Chain, chain-reg}
-use Rattle.model.proofs.Laws.{false≢, some-false, first-none, first-off, first-cons, first-passes}
+use Rattle.model.proofs.Laws.{false≢, some-false, first-off, first-cons, first-passes}
 use Rattle.theory.specs.Same.{Names, SameStore, SameLines, Admitted}
 use Rattle.theory.proofs.PlainLaws.{nil-name}
+use Rattle.theory.proofs.Steps.{not-above, line}
 
 -- ---- tables of lines
 
@@ -34,13 +34,8 @@ lines-number u b phase off w x y z w′ x′ y′ z′ l =
 
 -- ---- accepted steps
 
--- a player or register on the desk
-pub low : (x : ℕ) → ltb 15 x ≡ false → x < 16
-low x e = omega (arith, ltb-false 15 x e)
-
 pub admitted : (m : Image) (s : Step) (n : Kind) → refusal m s n ≡ 0 → Admitted m s n
-unfolding refusal
-admitted m s n e = record { on-desk = first-none 2 _ e 1; has-object = first-none 2 _ e 3; not-past = first-none 2 _ e 4; good-size = first-none 2 _ e 5 }
+admitted m s n e = record { on-desk = line m s n e 1; has-object = line m s n e 3; not-past = line m s n e 4; good-size = line m s n e 5 }
 
 -- only a new is answered 9
 pub not-nine : (m : Image) (s : Step) (n : Kind) → isNew n ≡ false → refusal m s n ≡ 9 → ⊥
@@ -106,16 +101,16 @@ module _ (m : Image) (s : Step) (q : PlainStore) (name : ℕ → Object) (i : �
 
   lines-of : (n : Kind) → feeds n 0 ≡ true → LinesOf n
   unfolding wrongPhase offDesk owing noObject pastEnd nothingToDo plainOwing plainNoObject plainPastEnd plainNothing feeds
-  lines-of new e = bare-lines _ _ _ (λ d. owes-alike (s .who) (low (s .who) (some-false _ d 0)))
-  lines-of load e = object-lines _ (s .b) (s .c) (links m) (q .linkCount) (λ d. (low (s .who) (some-false _ d 0), low (s .b) (some-false _ d 2))) (links-alike (s .b))
-  lines-of store e = object-lines _ (s .a) (s .b) (links m) (q .linkCount) (λ d. (low (s .who) (some-false _ d 0), low (s .a) (some-false _ d 1))) (links-alike (s .a))
-  lines-of barrier e = barrier-lines _ (low (s .who))
+  lines-of new e = bare-lines _ _ _ (λ d. owes-alike (s .who) (not-above 15 (s .who) (some-false _ d 0)))
+  lines-of load e = object-lines _ (s .b) (s .c) (links m) (q .linkCount) (λ d. (not-above 15 (s .who) (some-false _ d 0), not-above 15 (s .b) (some-false _ d 2))) (links-alike (s .b))
+  lines-of store e = object-lines _ (s .a) (s .b) (links m) (q .linkCount) (λ d. (not-above 15 (s .who) (some-false _ d 0), not-above 15 (s .a) (some-false _ d 1))) (links-alike (s .a))
+  lines-of barrier e = barrier-lines _ (not-above 15 (s .who))
   lines-of handOver e =
       bare-lines _ _ _
-      (λ d. ap (λ z. z || owes m s (s .b)) (owes-alike (s .who) (low (s .who) (some-false _ d 0))) ∙ ap (λ z. q .owing (s .who) || z) (owes-alike (s .b) (low (s .b) (some-false _ d 2))))
-  lines-of dropReg e = bare-lines _ _ _ (λ d. owes-alike (s .who) (low (s .who) (some-false _ d 0)))
-  lines-of read e = object-lines _ (s .a) (s .b) (levels m) (plainLevels q s) (λ d. (low (s .who) (some-false _ d 0), low (s .a) (some-false _ d 1))) (levels-alike (s .a))
-  lines-of write e = object-lines _ (s .a) (s .b) (levels m) (plainLevels q s) (λ d. (low (s .who) (some-false _ d 0), low (s .a) (some-false _ d 1))) (levels-alike (s .a))
+      (λ d. ap (λ z. z || owes m s (s .b)) (owes-alike (s .who) (not-above 15 (s .who) (some-false _ d 0))) ∙ ap (λ z. q .owing (s .who) || z) (owes-alike (s .b) (not-above 15 (s .b) (some-false _ d 2))))
+  lines-of dropReg e = bare-lines _ _ _ (λ d. owes-alike (s .who) (not-above 15 (s .who) (some-false _ d 0)))
+  lines-of read e = object-lines _ (s .a) (s .b) (levels m) (plainLevels q s) (λ d. (not-above 15 (s .who) (some-false _ d 0), not-above 15 (s .a) (some-false _ d 1))) (levels-alike (s .a))
+  lines-of write e = object-lines _ (s .a) (s .b) (levels m) (plainLevels q s) (λ d. (not-above 15 (s .who) (some-false _ d 0), not-above 15 (s .a) (some-false _ d 1))) (levels-alike (s .a))
   lines-of begin e = false≢ e
   lines-of scan e = false≢ e
   lines-of trace e = false≢ e

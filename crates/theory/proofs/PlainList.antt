@@ -7,7 +7,7 @@ use Rattle.model.specs.Image.{Image}
 use Rattle.model.specs.Records.{Step, Kind, finish, kindOf}
 use Rattle.model.specs.Steps.{Done, Event, refusal, act, outcome, step, run, after}
 use Rattle.model.specs.Plain.{Object, old, PlainStore, plainOf, Reply, PlainDone, plainRefusal, plainOutcome, plainStep, Fed, feeds, feedsEvent, feed, plainRun, named, reading, readings, SameAnswers}
-use Rattle.theory.specs.Same.{Names, SameStore, Related, event, WordsStay, NewMade, Runs, runs-none, runs-more}
+use Rattle.theory.specs.Same.{Names, SameStore, Related, event, WordsStay, NewMakes, Runs, runs-none, runs-more}
 use Rattle.theory.specs.Cycle.{Facts}
 use Rattle.theory.proofs.PlainLaws.{names-old, names-more, agrees-first, same-kept}
 use Rattle.theory.proofs.Steps.{outcome-number}
@@ -33,7 +33,7 @@ runs-one {m} (runs-more ss rest) = let k = runs-one rest in (ss ++ k .0, ap (λ 
 module _ (Ok : Image → Type 0)
     (step-ok : (m : Image) (s : Step) → Ok m → Ok ((step m s) .image))
     (facts : (m : Image) → Ok m → Facts m)
-    (new-made : (m : Image) (s : Step) → Ok m → NewMade m s)
+    (new-made : (m : Image) (s : Step) → Ok m → NewMakes m s)
     (finish-stays : (m : Image) (s : Step) → Ok m → refusal m s finish ≡ 0 → WordsStay m ((act m s finish) .image)) where
   abbrev SameFrom : List Step → Type 0
   SameFrom ss = (name : ℕ → Object) (i : ℕ) (m : Image) (q : PlainStore) → Ok m → Names name i → SameStore name m q → readings name i (run m ss) ≡ plainRun q (feed i (run m ss))

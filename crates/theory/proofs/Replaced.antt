@@ -11,13 +11,13 @@ use Rattle.model.specs.Image.{Image, granules, word, marked, links, link, state
 use Rattle.model.specs.Finish.{scannedOff}
 use Rattle.model.specs.Steps.{run}
 use Rattle.model.proofs.Laws.{false≢, nth-put-same, nth-put-other, length-put}
+use Rattle.model.proofs.Bits.{no-bit}
 use Rattle.theory.specs.Cover.{Covered, owes-by, to-nil, to-marked, is-coming, is-owed}
 use Rattle.theory.specs.Lines.{PacketsOk, TracersOk, NilOr, GeneralOk, HeapOk, Start, Marked, Lines, Undamaged, none}
 use Rattle.theory.specs.New.{reheaped}
 use Rattle.theory.proofs.Beginning.{zeros-nth, length-zeros, running-ok}
 use Rattle.theory.proofs.Covering.{same-coming}
 use Rattle.theory.proofs.Sections.{tracers-mono}
-use Rattle.model.proofs.Bits.{no-bit}
 
 -- ---- finish: heap, starts and first run as given, the collector's state cleared
 

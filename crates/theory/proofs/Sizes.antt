@@ -7,10 +7,10 @@ use native.Mathlib.Omega.{arith}
 use lib.ListN.{length, getD}
 use Rattle.model.specs.Image.{lengths, mostCards, Image, sections}
 use Rattle.model.proofs.Words.{Fits, width-cases}
+use Rattle.model.proofs.Bits.{bit-within}
 use Rattle.theory.specs.Lines.{Sizes, Lines}
 use Rattle.theory.proofs.Facts.{some-card}
 use Rattle.theory.proofs.HeapOf.{bit-word}
-use Rattle.model.proofs.Bits.{bit-within}
 
 -- ---- sizes from lengths
 

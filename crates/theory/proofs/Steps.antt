@@ -2,12 +2,19 @@
 use mathlib.Core.Path.{_≡_, refl, sym, ap, _∙_}
 use mathlib.Core.Bool.{false}
 use mathlib.Core.List.{[], _∷_}
-use Prim.Native.Nat.{ℕ, zero, suc}
+use Prim.Native.Nat.{ℕ, zero, suc, _<_}
+use native.Mathlib.Omega.{arith}
 use lib.ListN.{getD}
+use lib.Dec.{ltb}
+use borrow.Author.Tests.{ltb-false}
 use Rattle.model.specs.Image.{Image}
 use Rattle.model.specs.Records.{Step, Kind, new, load, store, barrier, handOver, dropReg, read, write, begin, scan, trace, clean, finish, isDue, unknown, kindOf}
 use Rattle.model.specs.Steps.{Done, unnamed, offDesk, owing, noObject, pastEnd, badSize, noRoom, wrongPhase, nothingToDo, refusal, accept, finishDone, act, outcome, step}
 use Rattle.model.proofs.Laws.{first-none}
+
+-- a player, register or tracer that is on the desk
+pub not-above : (b x : ℕ) → ltb b x ≡ false → x < suc b
+not-above b x e = omega (arith, ltb-false b x e)
 
 module _ (m : Image) (s : Step) where
   -- ---- numbers

@@ -82,8 +82,8 @@ pub record ObjectMade (m m′ : Image) (p r b c g : ℕ) : Type 0 where
   pub made-kept : WordsStay m m′
 
 -- what an accepted new leaves
-abbrev pub NewMade : Image → Step → Type 0
-NewMade m s = refusal m s new ≡ 0 → ObjectMade m ((act m s new) .image) (s .who) (s .a) (s .b) (s .c) ((act m s new) .value)
+abbrev pub NewMakes : Image → Step → Type 0
+NewMakes m s = refusal m s new ≡ 0 → ObjectMade m ((act m s new) .image) (s .who) (s .a) (s .b) (s .c) ((act m s new) .value)
 
 -- ---- lists of steps
 
