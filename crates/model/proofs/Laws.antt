@@ -192,6 +192,26 @@ best-ok better ok (suc n) p e = go (best-ok better ok n) (best better ok n) refl
     go ih zero a r = end (ok n) refl r
     go ih (suc q) a r = more ih q a (ok n && better n q) refl r
 
+-- and where it gives nothing, none passes
+pub best-none : (better : ℕ → ℕ → Bool) (ok : ℕ → Bool) (n : ℕ) → best better ok n ≡ 0 → (i : ℕ) → i < n → ok i ≡ false
+unfolding best
+best-none better ok zero e i h = absurd (omega arith)
+best-none better ok (suc n) e i h = go (λ a l. best-none better ok n a i l) (best better ok n) refl e (ℕ-discrete i n)
+  where
+    last : (b : Bool) → cond b (suc n) 0 ≡ 0 → b ≡ false
+    last true r = absurd (omega arith)
+    last false r = refl
+
+    never : (b : Bool) (q : ℕ) → cond b (suc n) (suc q) ≡ 0 → ok i ≡ false
+    never true q r = absurd (omega arith)
+    never false q r = absurd (omega arith)
+
+    go : (best better ok n ≡ 0 → i < n → ok i ≡ false) → (x : ℕ) → best better ok n ≡ x
+        → _≡_ {A = ℕ} (elim x [ zero ↦ cond (ok n) (suc n) 0 | suc b ↦ cond (ok n && better n b) (suc n) (suc b) ]) 0 → Dec (i ≡ n) → ok i ≡ false
+    go ih zero a r (yes q) = rw q (last (ok n) r)
+    go ih zero a r (no q) = ih a (omega arith)
+    go ih (suc b) a r d = never (ok n && better n b) b r
+
 -- ---- the first line of a table that passes
 
 -- no line passed

@@ -54,3 +54,4 @@ pub mod NewHeap
 pub mod NewMade
 pub mod InOrder
 pub mod Demand
+pub mod Numbers
