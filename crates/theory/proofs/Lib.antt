@@ -55,3 +55,4 @@ pub mod NewMade
 pub mod InOrder
 pub mod Demand
 pub mod Numbers
+pub mod FinishRule
