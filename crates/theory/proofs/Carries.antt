@@ -3,18 +3,19 @@ use mathlib.Core.Path.{_≡_, refl, sym, ap, subst, _∙_}
 use mathlib.Core.Logic.{_⊎_, inl, inr}
 use mathlib.Core.Bool.{true}
 use mathlib.Core.List.{List}
-use Prim.Native.Nat.{ℕ, zero, suc, _+_, _*_, _-_, _<_}
+use Prim.Native.Nat.{ℕ, _+_, _*_, _-_, _<_}
 use native.Mathlib.Decide.{ℕ-discrete, decLt}
 use native.Mathlib.Omega.{arith}
 use lib.ListN.{length}
 use Rattle.model.specs.Base.{nth, put, bit}
-use Rattle.model.specs.Image.{Image, word, isStart, marked, size, links, link, reg, setReg, withRegs, setWord, withHeap, setStart, withStarts, setFirstRun, withGeneral}
-use Rattle.model.specs.Mutate.{Room, roomFor, setNext, takeRun, newObject}
+use Rattle.model.specs.Image.{Image, word, isStart, marked, size, links, link, reg, setReg, withRegs, setWord, withHeap, setStart, withStarts}
+use Rattle.model.specs.Mutate.{Room, roomFor, newObject}
 use Rattle.model.proofs.Laws.{nth-put-same, nth-put-other, put-out}
 use Rattle.theory.specs.Heap.{Laid}
 use Rattle.theory.specs.Cycle.{Source, in-reg, is-marked, no-start, LinkFrom, had-link, to-source, Carries, Quiet, Placed}
 use Rattle.theory.proofs.Quiet.{silent}
 use Rattle.theory.proofs.Walk.{same-place}
+use Rattle.theory.proofs.TakeRun.{take-only}
 
 -- ---- steps without a write, and silent writes
 
@@ -116,19 +117,9 @@ placed-carries m n i a k er em ew = record {
     by g j (inl s) l nz = let l′ : j < links m g = subst (λ x. j < x) (k .old-count g s) l in had-link j s l′ (sym (k .old-links g j s l′))
     by g j (inr e) l nz = absurd (nz (ap (λ x. link n x j) e ∙ k .new-links j (subst (λ x. j < links n x) e l)))
 
-next-keeps : (m : Image) (before g : ℕ) → ((setNext m before g) .regs ≡ m .regs) × ((setNext m before g) .marks ≡ m .marks) × ((setNext m before g) .width ≡ m .width)
-unfolding setNext setFirstRun withGeneral setWord withHeap
-next-keeps m zero g = (refl, refl, refl)
-next-keeps m (suc before) g = (refl, refl, refl)
-
-take-keeps : (m : Image) (g before b left : ℕ) → let n : Image = takeRun m g before b left in (n .regs ≡ m .regs) × (n .marks ≡ m .marks) × (n .width ≡ m .width)
-unfolding takeRun setWord withHeap
-take-keeps m g before b zero = next-keeps m before (word m g 1)
-take-keeps m g before b (suc left) = next-keeps (setWord (setWord m (g + b) 0 (suc left)) (g + b) 1 (word m g 1)) before (g + b)
-
 pub new-carries : (m : Image) (p r b c : ℕ) → Placed m (newObject m p r b c) ((roomFor m b) .run) → Carries m (newObject m p r b c)
 unfolding newObject setReg withRegs setStart withStarts setWord withHeap
 new-carries m p r b c k =
     let f : Room = roomFor m b in
-    let t = take-keeps m (f .run) (f .before) b (word m (f .run) 0 - b) in
-    placed-carries m (newObject m p r b c) (16 * p + r) (f .run) k (ap (λ l. put l (16 * p + r) (f .run)) (t .0)) (t .1) (t .2)
+    let t = (take-only m (f .run) (f .before) b (word m (f .run) 0 - b)) .sections in
+    placed-carries m (newObject m p r b c) (16 * p + r) (f .run) k (ap (λ n. put (n .regs) (16 * p + r) (f .run)) t) (ap (λ n. n .marks) t) (ap (λ n. n .width) t)

@@ -10,11 +10,12 @@ use lib.Dec.{eqb, ltb}
 use lib.ListN.{getD, take, drop}
 use borrow.Author.Tests.{eqb-false, not-true}
 use Rattle.model.specs.Base.{some, bit, setBit}
-use Rattle.model.specs.Image.{Image, word, isStart, marked, links, link, reg, owed, output, hand, nextLink, handCard, nextGranule, input, entry, count, dirty, setMark, setState, setTracer, setScanned, dirtyCard, withMarks, withCards, withPackets, withTracers, withPlayers, withGeneral, fields-open}
+use Rattle.model.specs.Image.{Image, word, isStart, marked, links, link, reg, owed, hand, nextLink, handCard, nextGranule, input, entry, count, dirty, setMark, setState, setTracer, setScanned, withMarks, withCards, withPackets, withTracers, withPlayers, withGeneral, fields-open}
 use Rattle.model.specs.Collect.{append, pop, takeOutput, enter, reach, reachAll, scanPlayer, beginCycle, putHand, takeObject, traceHand, traceInput, tracePool, traceOutput, traceLine, traceStep, putCard, nextMarked, cleanTo, cleanCard, lowestDirty, takeCard, cleanLine, cleanStep}
 use Rattle.model.proofs.Laws.{some-false, nth-put-other, first-passes}
 use Rattle.model.proofs.Bits.{setBit-other}
 use Rattle.theory.specs.Cycle.{Quiet}
+use Rattle.theory.proofs.Reaching.{enter-cases}
 
 -- the image with other cards, packets, tracers, players and general words
 abbrev pub silent : Image → (cs ps ts ls gs : List ℕ) → Image
@@ -60,12 +61,7 @@ module _ {P : ℕ → Type 0} where
       by h k (no ne) = inl (sym (setBit-other (m .width) (m .marks) g h ne) ∙ k)
 
   quiet-enter : (m : Image) (t g : ℕ) → Quiet P m (enter m t g)
-  unfolding enter fields-open append
-  quiet-enter m t g = go (output m t)
-    where
-      go : (x : ℕ) → Quiet P m (elim x [ zero ↦ dirtyCard m (g / 64) | suc p ↦ append m p g ])
-      go zero = quiet-silent m _ _ _ _
-      go (suc p) = quiet-silent m _ _ _ _
+  quiet-enter m t g = enter-cases (Quiet P m) m t g (unfold fields-open in quiet-silent m _ _ _ _) (λ p e. unfold append withPackets in quiet-silent m _ _ _ _)
 
   quiet-output : (m : Image) (t : ℕ) → Quiet P m (takeOutput m t)
   unfolding takeOutput setTracer withTracers
@@ -115,7 +111,7 @@ module _ {P : ℕ → Type 0} where
 
   quiet-traceInput : (m : Image) (t : ℕ) → Quiet P m (traceInput m t)
   unfolding traceInput
-  quiet-traceInput m t = quiet-cond (dirty m (entry m (input m t - 1) (count m (input m t - 1) - 1) / 64)) (quiet-pop (input m t - 1)) (quiet-trans (quiet-pop (input m t - 1)) (quiet-take (pop m (input m t - 1)) t _))
+  quiet-traceInput m t = quiet-cond (dirty m (entry m (input m t - 1) (count m (input m t - 1) - 1) / 64)) (unfold pop fields-open in quiet-silent m _ _ _ _) (quiet-trans (quiet-pop (input m t - 1)) (quiet-take (pop m (input m t - 1)) t _))
     where
       quiet-pop : (p : ℕ) → Quiet P m (pop m p)
       quiet-pop p = unfold pop withPackets in quiet-silent m _ _ _ _
@@ -140,7 +136,7 @@ module _ {P : ℕ → Type 0} where
       card c n = unfold putCard setTracer withTracers in quiet-silent m _ _ _ _
 
       go : (x : ℕ) → Quiet P m (cleanTo m t x)
-      go zero = unfold cleanTo in card 0 0
+      go zero = unfold cleanTo putCard fields-open in quiet-silent m _ _ _ _
       go (suc g) = unfold cleanTo in quiet-trans (card (handCard m t) (suc g)) (quiet-take _ t g)
 
   pub quiet-clean : (m : Image) (t : ℕ) → Next P m t → Quiet P m (cleanStep m t)

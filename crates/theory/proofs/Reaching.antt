@@ -50,7 +50,7 @@ unfolding append withPackets count entry
 append-comes m o p a hp hc i = let n = append-new o p a hp hc in on-entry p (count m p) (n .is-packet) (n .below) (n .is-entry)
 
 -- the two cases of entering
-enter-cases : (P : Image → Type 0) (m : Image) (t a : ℕ) → P (dirtyCard m (a / 64)) → ((p : ℕ) → output m t ≡ suc p → P (append m p a)) → P (enter m t a)
+pub enter-cases : (P : Image → Type 0) (m : Image) (t a : ℕ) → P (dirtyCard m (a / 64)) → ((p : ℕ) → output m t ≡ suc p → P (append m p a)) → P (enter m t a)
 unfolding enter
 enter-cases P m t a z s = go (output m t) refl
   where
