@@ -11,7 +11,7 @@ use lib.ListN.{length, replicate}
 use lib.Pow.{pow-pos, pow-add, shr-shr}
 use borrow.Author.Tests.{eqb-false, eq-eqb}
 use Rattle.model.specs.Base.{nth, put, testBit, withBit, bit, setBit, addBits}
-use Rattle.model.proofs.Laws.{false≢, nth-out, nth-zeros, nth-put-same, nth-put-other, put-out, length-put}
+use Rattle.model.proofs.Laws.{false≢, nth-out, nth-replicate, nth-put-same, nth-put-other, put-out, length-put}
 
 below-bit : (x i d : ℕ) → (x + 2 ^ (suc d + i)) / 2 ^ i % 2 ≡ x / 2 ^ i % 2
 below-bit x i d = rw (pow-add 2 (suc d) i, add-mul-div-right x (2 ^ suc d) (pow-pos i), pow-suc 2 d) (omega arith)
@@ -131,7 +131,7 @@ unfolding bit testBit
 no-bit w ws z g = rw (z (g / w), zero-div (2 ^ (g % w))) refl
 
 pub bit-zeros : (w n g : ℕ) → bit w (replicate n 0) g ≡ false
-bit-zeros w n g = no-bit w (replicate n 0) (nth-zeros n) g
+bit-zeros w n g = no-bit w (replicate n 0) (nth-replicate n) g
 
 -- behind n where the words end there
 pub bit-past : (w n : ℕ) (ws : List ℕ) (g : ℕ) → length ws ≡ n / w → n ≤ g → bit w ws g ≡ false

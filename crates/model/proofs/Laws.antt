@@ -144,11 +144,11 @@ pub nth-out : (l : List ℕ) (i : ℕ) → length l ≤ i → nth l i ≡ 0
 unfolding nth
 nth-out l i h = List·getD-eq-default l 0 h
 
-pub nth-zeros : (n i : ℕ) → nth (replicate n 0) i ≡ 0
+pub nth-replicate : (n i : ℕ) → nth (replicate n 0) i ≡ 0
 unfolding nth
-nth-zeros zero i = refl
-nth-zeros (suc n) zero = refl
-nth-zeros (suc n) (suc i) = nth-zeros n i
+nth-replicate zero i = refl
+nth-replicate (suc n) zero = refl
+nth-replicate (suc n) (suc i) = nth-replicate n i
 
 -- ---- words after a write
 

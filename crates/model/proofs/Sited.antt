@@ -1,30 +1,19 @@
 -- What the lines of `sound` say of registers, links, marks and packets, on words whose length fits.
 use mathlib.Core.Path.{_≡_, ap, subst, _∙_}
-use mathlib.Core.Bool.{Bool, true}
+use mathlib.Core.Bool.{true}
 use mathlib.Core.List.{List, map}
-use Prim.Native.Nat.{ℕ, zero, suc, _+_, _*_, _≤_, _<_}
-use native.Mathlib.Nat.{le-of-suc-le-suc, mul-zero, mul-suc, add-comm, add-zero}
+use Prim.Native.Nat.{ℕ, _*_, _≤_, _<_}
+use native.Mathlib.Nat.{add-zero}
 use native.Mathlib.Omega.{arith}
-use lib.ListN.{length, getD, take, drop}
-use lib.Seq.{drop-drop}
+use lib.ListN.{length, getD}
 use borrow.Author.Tests.{ne-eqb, leb-true, ltb-true}
-use Rattle.model.specs.Base.{nth, eachPiece}
+use Rattle.model.specs.Base.{nth}
 use Rattle.model.specs.Image.{Image, granules, isStart, marked, links, link, count, lengths, sections, fits, parts}
 use Rattle.model.specs.Undamaged.{nilOrStart, linksOk, regOk, markOk, packetOk, sound}
-use Rattle.model.proofs.Laws.{and-split, every-use, all-use, imp-use, either-no}
+use Rattle.model.proofs.Laws.{every-use, all-use, imp-use, either-no}
 use Rattle.model.proofs.Bits.{bit-within}
-use Rattle.model.proofs.Entries.{nth-take, nth-drop}
+use Rattle.model.proofs.Entries.{nth-take, nth-drop, eachPiece-use}
 use Rattle.model.proofs.Words.{parts-fit}
-
--- piece i of those that each pass
-pub eachPiece-use : (s n : ℕ) (p : List ℕ → Bool) (ws : List ℕ) → eachPiece s n p ws ≡ true → (i : ℕ) → i < n → p (take s (drop (s * i) ws)) ≡ true
-unfolding eachPiece
-eachPiece-use s zero p ws e i h = absurd (omega arith)
-eachPiece-use s (suc n) p ws e zero h = rw (mul-zero s) ((and-split (p (take s ws)) _ e) .0)
-eachPiece-use s (suc n) p ws e (suc i) h =
-    let q = eachPiece-use s n p (drop s ws) ((and-split (p (take s ws)) _ e) .1) i (le-of-suc-le-suc h) in
-    let d : s + s * i ≡ s * suc i = rw (mul-suc s i) (add-comm s (s * i)) in
-    subst (λ l. p (take s l) ≡ true) (drop-drop (s * i) s ws ∙ ap (λ x. drop x ws) d) q
 
 -- ---- what the lines give
 

@@ -8,7 +8,7 @@ use lib.ListN.{length, take, drop, length-replicate}
 use Rattle.model.specs.Base.{nth, put, zeros}
 use Rattle.model.specs.Image.{Image, marked, withCards, withPlayers, withGeneral, setScanned, fields-open}
 use Rattle.model.specs.Collect.{scanPlayer, beginCycle}
-use Rattle.model.proofs.Laws.{false≢, nth-put-same, nth-put-other, length-put, nth-zeros}
+use Rattle.model.proofs.Laws.{false≢, nth-put-same, nth-put-other, length-put, nth-replicate}
 use Rattle.model.proofs.Entries.{nth-drop}
 use Rattle.model.proofs.Bits.{no-bit}
 use Rattle.theory.specs.Cover.{Covered, Cover, owes-by, to-nil, to-marked, is-coming, is-owed}
@@ -48,7 +48,7 @@ scan-does m o cov t p ht hp =
 
 pub zeros-nth : (l : List ℕ) (i : ℕ) → nth (zeros l) i ≡ 0
 unfolding zeros
-zeros-nth l i = nth-zeros (length l) i
+zeros-nth l i = nth-replicate (length l) i
 
 pub length-zeros : (l : List ℕ) → length (zeros l) ≡ length l
 unfolding zeros

@@ -7,14 +7,14 @@ use native.Mathlib.Decide.{ℕ-discrete, decLt}
 use native.Mathlib.Omega.{arith}
 use lib.ListN.{getD, drop}
 use Rattle.model.specs.Base.{nth, put, bit}
-use Rattle.model.specs.Image.{Image, granules, word, isStart, marked, links, link, hand, nextLink, running, size, reg, firstRun}
+use Rattle.model.specs.Image.{Image, granules, word, isStart, marked, links, link, running, size, reg, firstRun}
 use Rattle.model.specs.Undamaged.{fill, filled}
 use Rattle.model.specs.Finish.{keptSet, Kept, finishStep, found-reg, kept-found, firstOf, sweep, finishWith}
 use Rattle.model.specs.Claim.{Finishes}
 use Rattle.model.proofs.Laws.{nth-put-same, length-put, nth-out}
 use Rattle.model.proofs.Bits.{no-bit}
 use Rattle.theory.specs.Cycle.{Facts, SweptTo}
-use Rattle.theory.specs.Lines.{Pair, NilOr, Start, InHand, Lines, Sound, Undamaged, none, one, HeapOk}
+use Rattle.theory.specs.Lines.{NilOr, Start, Lines, Sound, Undamaged, HeapOk}
 use Rattle.theory.specs.Finish.{FinishMade}
 use Rattle.theory.proofs.Facts.{heap-filled-of, heap-sized-of, laid-of, proper-of, some-card, link-value, start-of}
 use Rattle.theory.proofs.Finishes.{finishes}
@@ -23,26 +23,23 @@ use Rattle.theory.proofs.Replaced.{cleared-keeps}
 use Rattle.theory.proofs.Safe.{start-below, kept-link}
 use Rattle.theory.proofs.Walk.{filled-make, no-start-zero}
 use Rattle.theory.proofs.FinishMade.{finish-made}
+use Rattle.theory.proofs.Tracing.{in-hand-ok}
 
 -- what the list claims need of an image, from its lines
 pub facts-of : {m : Image} → Sound m → Facts m
-unfolding hand nextLink links word marked running
+unfolding marked running
 facts-of {m} s = record {
   proper = proper-of o;
   laid = laid-of o;
   counted = counted-of m o;
   regs-length = o .regs-ok .sized;
   players-length = o .players-ok .sized;
-  hand-ok = λ t h n. holds t n (o .tracers-ok .hands .pair t h);
+  hand-ok = λ t h n. let r = in-hand-ok m o t h n in (r .0, r .1);
   idle = λ n g. no-bit (m .width) (m .marks) (s .idle (omega (arith, o .general-ok .runs)) .no-marks) g;
 }
   where
     o : Lines m
     o = s .lines
-
-    holds : (t : ℕ) → (hand m t ≡ 0 → ⊥) → Pair (InHand m) (hand m t) (nextLink m t) → InHand m (hand m t) (nextLink m t)
-    holds t n (none a b) = absurd (n a)
-    holds t n (one a h) = h
 
 module _ (m : Image) (u : Undamaged m) where
   o : Lines m

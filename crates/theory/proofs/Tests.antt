@@ -13,9 +13,9 @@ use Rattle.model.specs.Image.{Image, granules, word, marked, links, state, entr
 use Rattle.model.specs.Undamaged.{entryOk, packetOk, heldAt, heldOnce, handOk, handCardOk, tracerOk}
 use Rattle.model.proofs.Laws.{false≢, either-yes, either-no, either-make, not-make, all-use, all-make, every-use, every-nil, every-cons}
 use Rattle.model.proofs.Entries.{nth-drop, nth-take}
-use Rattle.model.proofs.Sited.{eachPiece-use}
+use Rattle.model.proofs.Entries.{eachPiece-use, eachPiece-make}
 use Rattle.theory.specs.Lines.{countIn, entryIn, PacketsOk, Pair, Never, TracersOk, Marked, InHand, CardInHand, none, one}
-use Rattle.theory.proofs.Distinct.{eachPiece-make, once-use, once-make}
+use Rattle.theory.proofs.Distinct.{once-use, once-make}
 
 -- ---- packets
 
