@@ -49,7 +49,7 @@ room-line false = refl
 
 -- fields that pass: at most b, and 0
 at-most : (b x : ℕ) → x < suc b → ltb b x ≡ false
-at-most b x h = not-true _ (not-make _ (λ e. omega (arith, ltb-true b x e)))
+at-most b x h = not-true _ (not-make (ltb b x) (λ e. omega (arith, ltb-true b x e)))
 
 -- ---- 9: "no b neighbouring granules free"
 

@@ -206,7 +206,7 @@ object-at m o g e = record {
     w = let z : 4 * (g - 1) ≡ 4 * (g - 1) + 0 = omega arith in ap (nth (drop 4 (m .heap))) z ∙ word-behind m g 0 (range .0)
 
 pub no-start-zero : {m : Image} → HeapFilled m → isStart m 0 ≡ false
-no-start-zero {m} o = not-true _ (not-make _ (λ e. omega (arith, (o .start-range 0 e) .0)))
+no-start-zero {m} o = not-true _ (not-make (isStart m 0) (λ e. omega (arith, (o .start-range 0 e) .0)))
 
 pub laid : (m : Image) → HeapFilled m → ((g : ℕ) → marked m g ≡ true → isStart m g ≡ true) → Laid m
 laid m o marks = record {
