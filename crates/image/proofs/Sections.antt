@@ -8,8 +8,8 @@ use lib.ListN.{getD, set, length}
 use Rattle.model.specs.Base.{nth, put}
 use Rattle.model.specs.Image.{mostCards, lengths, split, image, imageOf, withHeap, withStarts, withMarks, withCards, withRegs, withPackets, withTracers, withPlayers, withGeneral, sections, words, granules}
 use Rattle.image.specs.Sized.{narrow, Sized, Lengths}
-use Rattle.image.proofs.Split.{place, split-get, split-put, total, join-split, split-lengths, split-length}
-use Rattle.model.proofs.Words.{Fits}
+use Rattle.image.proofs.Split.{place, split-get, split-put, split-length}
+use Rattle.model.proofs.Words.{Fits, total, join-split, split-lengths}
 
 -- ---- for all sections at once
 
@@ -136,3 +136,11 @@ narrow-inj k ws vs z y e = sym (words-narrow k ws z) ∙ (ap words e ∙ words-n
 pub granules-narrow : (k : ℕ) (ws : List ℕ) → granules (narrow k ws) ≡ 64 * k
 unfolding granules narrow imageOf image
 granules-narrow k ws = refl
+
+pub cards-narrow : (k : ℕ) (ws : List ℕ) → narrow k ws .k ≡ k
+unfolding narrow imageOf image
+cards-narrow k ws = refl
+
+pub width-narrow : (k : ℕ) (ws : List ℕ) → narrow k ws .width ≡ 16
+unfolding narrow imageOf image
+width-narrow k ws = refl

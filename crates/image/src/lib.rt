@@ -1,4 +1,4 @@
-// The words of an image, section by section: nothing else indexes the lent slice.
+// The words of an image, section by section: only leaves index the lent slice.
 ghost use mathlib.Core.Path.{_≡_};
 ghost use Prim.Native.Nat.{ℕ, _+_, _*_, _≤_, _<_};
 ghost use lib.ListN.{length};

@@ -2,7 +2,7 @@
 ghost use mathlib.Core.Path.{_≡_};
 ghost use Prim.Native.Nat.{ℕ, _+_, _*_, _≤_, _<_};
 ghost use Rattle.model.specs.Image.{word, firstRun};
-ghost use Rattle.model.specs.Mutate.{roomFor};
+ghost use Rattle.model.specs.Mutate.{roomFor, freeGranules};
 ghost use Rattle.image.specs.Sized.{Sized, narrow};
 ghost use Rattle.image.specs.Runs.{Linked, roomOf};
 
@@ -44,4 +44,20 @@ pub fn find_room(im: &[u16], k: usize, b: usize) -> Room
         g = next_run(im, k, g);
     }
     Room { run: 0, before }
+}
+
+// The granules of all free runs.
+pub fn free_granules(im: &[u16], k: usize) -> usize
+    requires { ⌜ Sized k (now im) ⌝ }
+    requires { ⌜ Linked (narrow k (now im)) (firstRun (narrow k (now im))) ⌝ }
+    ensures { λ r. ⌜ r ≡ freeGranules (narrow k (now (im .entry))) ⌝ }
+{
+    let mut total: usize = 0;
+    let mut g = crate::first_run(im, k) as usize;
+    while g != 0 {
+        let length = crate::word(im, k, g, 0);
+        total += length as usize;
+        g = next_run(im, k, g);
+    }
+    total
 }

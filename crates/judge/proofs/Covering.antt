@@ -1,18 +1,18 @@
 -- Cover, in the order in which the code asks.
-use mathlib.Core.Path.{_≡_, refl, sym, ap, _∙_}
+use mathlib.Core.Path.{_≡_, refl, sym, _∙_}
 use mathlib.Core.Bool.{Bool, true, false, not, _&&_, _||_}
 use mathlib.Core.List.{List, [], _∷_}
-use Prim.Native.Nat.{ℕ, zero, suc, _+_, _*_, _-_, _/_, _%_, _≤_, _<_}
+use Prim.Native.Nat.{ℕ, suc, _+_, _*_, _/_, _≤_, _<_}
 use native.Mathlib.Numerals.{add-one}
 use native.Mathlib.Omega.{arith}
 use lib.Dec.{leb, eqb}
 use borrow.Author.Tests.{eq-eqb, ne-eqb, not-true, not-false}
 use Rattle.model.specs.Base.{nth, all, any, every, some, implies, bit}
-use Rattle.model.specs.Image.{image, imageOf, granules, word, marked, links, link, state, isDirty, dirty, reg, hand, nextLink, handCard, nextGranule, owed}
+use Rattle.model.specs.Image.{image, imageOf, word, marked, links, link, state, isDirty, dirty, hand, nextLink, handCard, nextGranule, owed}
 use Rattle.model.specs.Undamaged.{entered, linkToCome, granuleToCome, owedWith, covered, cover}
 use Rattle.model.proofs.Laws.{false≢, all-use, all-make}
-use Rattle.image.specs.Sized.{Sized, narrow}
-use Rattle.judge_lines.specs.Tests.{Packed, atWord, wordwise}
+use Rattle.image.specs.Sized.{narrow}
+use Rattle.judge_lines.specs.Tests.{atWord, wordwise}
 use Rattle.judge_lines.proofs.Loops.{and-true, or-false, all-cong}
 use Rattle.judge_lines.proofs.Idle.{no-bit}
 use Rattle.judge_lines.proofs.MarkWords.{by-words}

@@ -1,15 +1,14 @@
 -- What soundness gives Cover; the ways out of `is_undamaged` and of `judge`.
 use mathlib.Core.Path.{_≡_, refl, sym, ap, _∙_}
-use mathlib.Core.Bool.{Bool, true, false, not, _&&_}
+use mathlib.Core.Bool.{Bool, true, false, not}
 use mathlib.Core.List.{List, [], _∷_}
-use Prim.Native.Nat.{ℕ, zero, suc, _+_, _*_, _-_, _/_, _≤_, _<_}
+use Prim.Native.Nat.{ℕ, zero, suc, _*_, _≤_, _<_}
 use native.Mathlib.Omega.{arith}
-use lib.ListN.{length, drop}
-use lib.Dec.{eqb}
+use lib.ListN.{length}
 use borrow.Author.Tests.{eq-eqb, not-true, not-false}
-use Rattle.model.specs.Base.{nth, all, every, implies, eachPiece, first}
-use Rattle.model.specs.Image.{image, imageOf, granules, isStart, marked, links, firstRun, running, fits, parts}
-use Rattle.model.specs.Undamaged.{zeroGranule, fill, filled, markOk, packetOk, idleOk, sound, cover, undamaged, judgeAt}
+use Rattle.model.specs.Base.{all, every, implies, first}
+use Rattle.model.specs.Image.{image, imageOf, granules, isStart, marked, firstRun, running}
+use Rattle.model.specs.Undamaged.{zeroGranule, filled, markOk, idleOk, sound, cover, undamaged, judgeAt}
 use Rattle.model.specs.Batch.{judgeOf}
 use Rattle.model.proofs.Laws.{false≢, all-use, all-make, every-use, imp-use}
 use Rattle.image.specs.Sized.{Sized, narrow}
@@ -17,7 +16,7 @@ use Rattle.image.specs.Size.{sizeOf}
 use Rattle.image.specs.declared.size.Size.{Size}
 use Rattle.image.specs.declared.size.Size.the-variants.{Cards, Misfit}
 use Rattle.image.proofs.Sizes.{misfit-fits, cards-fits, cards-sized, cards-parts}
-use Rattle.judge_lines.specs.Tests.{Packed, packetAt, unscanned, idle}
+use Rattle.judge_lines.specs.Tests.{packetAt}
 use Rattle.judge_lines.proofs.Loops.{and-true}
 use Rattle.judge_lines.proofs.Fill.{starts-ok, object-room}
 use Rattle.judge_lines.proofs.Idle.{no-mark, all-packets, packed}

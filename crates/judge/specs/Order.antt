@@ -1,7 +1,7 @@
 -- Cover, in the order in which the code asks: links that are nil or marked, then what covers a whole object, then what covers one link.
 use mathlib.Core.Path.{_≡_}
-use mathlib.Core.Bool.{Bool, true, false}
-use mathlib.Core.List.{List, [], _∷_}
+use mathlib.Core.Bool.{Bool, true}
+use mathlib.Core.List.{[], _∷_}
 use Prim.Native.Nat.{ℕ, suc, _+_, _*_, _/_, _≤_, _<_}
 use lib.Dec.{leb, eqb}
 use Rattle.model.specs.Base.{all, any, every, some, implies}

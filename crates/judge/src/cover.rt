@@ -1,10 +1,9 @@
 // Cover: if a marked object links to an unmarked one, something still covers that link.
 ghost use mathlib.Core.Path.{_≡_};
-ghost use mathlib.Core.Bool.{Bool};
-ghost use Prim.Native.Nat.{ℕ, _+_, _*_, _≤_, _<_};
+ghost use Prim.Native.Nat.{_+_, _*_, _≤_, _<_};
 ghost use Rattle.model.specs.Base.{all, any};
 ghost use Rattle.model.specs.Image.{dirty};
-ghost use Rattle.model.specs.Undamaged.{linkToCome, granuleToCome, owedWith, cover};
+ghost use Rattle.model.specs.Undamaged.{cover};
 ghost use Rattle.image.specs.Sized.{Sized, narrow};
 ghost use Rattle.judge_lines.specs.Tests.{Packed, atWord, wordwise};
 ghost use Rattle.judge.specs.Order.{Ready, handComes, cardComes, holds, owes, plain, coming, late, objectCovered};

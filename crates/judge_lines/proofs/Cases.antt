@@ -2,20 +2,20 @@
 use mathlib.Core.Path.{_≡_, refl, sym, ap, _∙_}
 use mathlib.Core.Bool.{Bool, true, false, not, _&&_, _||_}
 use mathlib.Core.List.{List, [], _∷_}
-use Prim.Native.Nat.{ℕ, _+_, _*_, _-_, _/_, _%_, _≤_, _<_, min}
+use Prim.Native.Nat.{ℕ, _+_, _*_, _-_, _≤_, _<_, min}
 use native.Mathlib.Decide.{decLt}
 use native.Mathlib.Omega.{arith}
-use borrow.Author.Tests.{lt-ltb, le-ltb, le-leb, lt-leb, eq-eqb, ne-eqb, not-true, not-false, ltb-true, leb-true}
+use borrow.Author.Tests.{lt-ltb, le-ltb, le-leb, lt-leb, eq-eqb, ne-eqb, not-true, not-false}
 use lib.Dec.{leb, ltb, eqb}
 use lib.ListN.{take, drop}
 use Rattle.model.specs.Base.{nth, all, every, implies, either}
-use Rattle.model.specs.Image.{image, imageOf, granules, word, isStart, marked, links, link, state, count, entry, owed, scanned}
+use Rattle.model.specs.Image.{image, imageOf, granules, word, isStart, marked, links, state, count, entry, owed, scanned}
 use Rattle.model.specs.Undamaged.{zeroGranule, playerOk, filled, linksOk, nilOrStart, entryOk, packetOk, heldAt, heldOnce, handOk, handCardOk}
-use Rattle.model.proofs.Laws.{false≢, and-split, all-use, every-use}
+use Rattle.model.proofs.Laws.{every-use}
 use Rattle.model.proofs.Entries.{nth-drop, nth-take}
 use Rattle.image.specs.Sized.{Sized, narrow}
-use Rattle.judge_lines.specs.Tests.{Room, Packed, firstZero, linkOk, packetAt, entryAt, apart}
-use Rattle.judge_lines.proofs.Loops.{and-true, and-false, and-assoc, all-cong}
+use Rattle.judge_lines.specs.Tests.{Room, linkOk, packetAt, entryAt, apart}
+use Rattle.judge_lines.proofs.Loops.{and-true, and-assoc, all-cong}
 use Rattle.judge_lines.proofs.Sections.{start-past, mark-past}
 
 -- ---- bits of granules that may lie past the end

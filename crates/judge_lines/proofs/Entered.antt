@@ -2,8 +2,7 @@
 use mathlib.Core.Path.{_≡_, refl, sym, ap, _∙_}
 use mathlib.Core.Bool.{Bool, true, false, not, _&&_, _||_}
 use mathlib.Core.List.{List, [], _∷_, _++_, append-assoc}
-use Prim.Native.Nat.{ℕ, zero, suc, _+_, _*_, _-_, _/_, _≤_, _<_}
-use native.Mathlib.Nat.{add-zero}
+use Prim.Native.Nat.{ℕ, zero, suc, _+_, _*_, _/_, _<_}
 use native.Mathlib.Decide.{ℕ-discrete}
 use native.Mathlib.Omega.{arith}
 use lib.Dec.{eqb}
@@ -15,7 +14,7 @@ use Rattle.model.specs.Image.{entriesOf}
 use Rattle.model.proofs.Laws.{length-put}
 use Rattle.model.proofs.Bits.{setBit-same, setBit-other, bit-zeros}
 use Rattle.model.proofs.Entries.{nth-drop}
-use Rattle.judge_lines.specs.Once.{noneIn, restOnce, Once}
+use Rattle.judge_lines.specs.Once.{noneIn, Once}
 use Rattle.judge_lines.proofs.Loops.{all-none, and-true, and-assoc, and-false, all-first, all-cong}
 
 -- ---- pieces by index

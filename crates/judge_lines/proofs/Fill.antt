@@ -10,7 +10,7 @@ use lib.Dec.{eqb, leb}
 use lib.ListN.{length, drop, drop-of-length-le}
 use lib.Seq.{drop-drop}
 use borrow.Author.Tests.{leb-true, not-true, not-false}
-use Rattle.model.specs.Base.{nth, all, every, implies}
+use Rattle.model.specs.Base.{nth, all, implies}
 use Rattle.model.specs.Image.{image, imageOf, granules, word, isStart, links, firstRun}
 use Rattle.model.specs.Undamaged.{bare, piece, fill, filled, linksOk}
 use Rattle.model.proofs.Laws.{false≢, and-split, all-use, all-make, every-use}
@@ -18,7 +18,7 @@ use Rattle.image.specs.Sized.{Sized, narrow}
 use Rattle.judge_lines.specs.Tests.{Room, notStart, clear, objectAt, pieceAt, nextRun}
 use Rattle.judge_lines.proofs.Loops.{and-true, all-append, all-first}
 use Rattle.judge_lines.proofs.Sections.{heap-long}
-use Rattle.judge_lines.proofs.Walk.{Head, head-is, tail-at, tail-long, bare-is, object-is, head-use}
+use Rattle.judge_lines.proofs.Walk.{head-is, tail-at, tail-long, bare-is, object-is, head-use}
 
 -- ---- one turn of the model's walk
 

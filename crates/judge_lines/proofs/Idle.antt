@@ -1,20 +1,19 @@
 -- With no cycle the lines on marks, packets and tracers follow from their words being 0; the ways out of a cycle's lines and of all lines.
-use mathlib.Core.Path.{_≡_, refl, sym, ap, _∙_}
+use mathlib.Core.Path.{_≡_, refl, sym, _∙_}
 use mathlib.Core.Bool.{Bool, true, false, not, _&&_}
-use mathlib.Core.List.{List, [], _∷_, _++_}
-use Prim.Native.Nat.{ℕ, zero, suc, _+_, _*_, _-_, _/_, _%_, _^_, _≤_, _<_}
+use mathlib.Core.List.{List, []}
+use Prim.Native.Nat.{ℕ, zero, suc, _+_, _*_, _/_, _%_, _^_, _≤_, _<_}
 use native.Mathlib.Nat.{zero-div}
 use native.Mathlib.Decide.{decLt}
 use native.Mathlib.Omega.{arith}
-use lib.Dec.{leb, ltb, eqb}
-use lib.ListN.{length, getD, take, drop, List·getD-eq-default}
-use borrow.Author.Tests.{eqb-true, eq-eqb, ne-eqb, leb-true, ltb-true, le-leb, lt-ltb, le-ltb, not-true, not-false}
-use Rattle.model.specs.Base.{nth, all, every, implies, either, zeroes, elem, distinct, eachPiece, testBit, bit}
-use Rattle.model.specs.Image.{Image, image, imageOf, granules, isStart, marked, count, entry, entries, entriesOf, hand, nextLink, handCard, nextGranule, running, scanned}
+use lib.ListN.{length, getD, List·getD-eq-default}
+use borrow.Author.Tests.{eqb-true, eq-eqb, ne-eqb, leb-true, ltb-true, lt-ltb, le-ltb, not-true, not-false}
+use Rattle.model.specs.Base.{nth, all, every, implies, either, zeroes, distinct, eachPiece, testBit, bit}
+use Rattle.model.specs.Image.{image, imageOf, granules, marked, count, entry, entries, entriesOf, hand, nextLink, handCard, nextGranule, running}
 use Rattle.model.specs.Undamaged.{zeroGranule, filled, linksOk, regOk, cardOk, playerOk, generalOk, markOk, entryOk, packetOk, handOk, handCardOk, tracerOk, heldAt, heldOnce, idleOk, sound}
 use Rattle.model.proofs.Laws.{all-use, all-make, every-use, every-cons, every-nil}
 use Rattle.image.specs.Sized.{Sized, narrow}
-use Rattle.judge_lines.specs.Tests.{Packed, isZero, packetAt, entryAt, apart, unscanned, idle, cycleLines}
+use Rattle.judge_lines.specs.Tests.{Packed, isZero, packetAt, entryAt, unscanned, idle, cycleLines}
 use Rattle.judge_lines.proofs.Loops.{and-true, and-false, and-assoc}
 use Rattle.judge_lines.proofs.Stretch.{zeroes-all}
 use Rattle.judge_lines.proofs.Entered.{each-piece, entries-more}

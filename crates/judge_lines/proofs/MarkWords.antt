@@ -1,8 +1,8 @@
 -- Marks stand only on starts: sixteen granules at a time.
 use mathlib.Core.Path.{_≡_, refl, sym, ap, _∙_}
-use mathlib.Core.Bool.{Bool, true, false, not, _&&_}
+use mathlib.Core.Bool.{Bool, _&&_}
 use mathlib.Core.List.{List}
-use Prim.Native.Nat.{ℕ, zero, suc, _+_, _*_, _-_, _/_, _%_, _^_, _≤_, _<_, min}
+use Prim.Native.Nat.{ℕ, zero, suc, _+_, _*_, _-_, _/_, _%_, _^_, _<_, min}
 use native.Mathlib.Nat.{pow-suc}
 use native.Mathlib.Decide.{ℕ-discrete}
 use native.Mathlib.Omega.{arith}
@@ -13,7 +13,7 @@ use borrow.Author.Tests.{eq-eqb, ne-eqb}
 use Rattle.model.specs.Base.{nth, all, implies, testBit, bit}
 use Rattle.model.specs.Image.{image, imageOf, granules, isStart, marked}
 use Rattle.model.specs.Undamaged.{markOk}
-use Rattle.image.specs.Sized.{Sized, narrow}
+use Rattle.image.specs.Sized.{narrow}
 use Rattle.judge_lines.specs.Tests.{wordwise, atWord}
 use Rattle.judge_lines.proofs.Loops.{all-cong, all-append}
 

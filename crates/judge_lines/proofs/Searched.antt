@@ -1,14 +1,14 @@
 -- Loops over packets and their entries: whether a granule is entered, and whether none is entered twice.
-use mathlib.Core.Path.{_≡_, refl, sym, ap, subst, _∙_}
+use mathlib.Core.Path.{_≡_, refl, sym, _∙_}
 use mathlib.Core.Bool.{Bool, true, false, not, _&&_, _||_}
 use mathlib.Core.List.{List, [], _∷_, _++_}
 use Prim.Native.Nat.{ℕ, zero, suc, _+_, _*_, _-_, _/_, _≤_, _<_}
 use native.Mathlib.Numerals.{add-one}
 use native.Mathlib.Omega.{arith}
 use lib.Dec.{eqb}
-use lib.ListN.{length, getD, take, drop, replicate, length-take, length-drop}
+use lib.ListN.{length, getD, take, drop, length-take, length-drop}
 use lib.Seq.{take-suc, take-all, take-take, drop-drop}
-use Rattle.model.specs.Base.{nth, elem, distinct, bit, setBit}
+use Rattle.model.specs.Base.{nth, elem, bit, setBit}
 use Rattle.model.specs.Image.{count, entry, entries, entriesOf}
 use Rattle.model.specs.Undamaged.{entered}
 use Rattle.model.proofs.Entries.{nth-drop, nth-take}
@@ -16,7 +16,7 @@ use Rattle.image.specs.Sized.{Sized, narrow}
 use Rattle.judge_lines.specs.Tests.{Packed, packetEntries}
 use Rattle.judge_lines.specs.Once.{Once}
 use Rattle.judge_lines.proofs.Loops.{or-false}
-use Rattle.judge_lines.proofs.Entered.{entries-more, elem-append, once-none, once-one, once-append, once-end}
+use Rattle.judge_lines.proofs.Entered.{entries-more, elem-append, once-none, once-one, once-append}
 use Rattle.judge_lines.proofs.Sections.{packets-at, packets-long}
 
 -- ---- a word among the words so far

@@ -14,7 +14,7 @@ use borrow.Author.Tests.{eq-eqb, ne-eqb, not-true, not-false}
 use Rattle.model.specs.Base.{nth, all, zeroes, testBit, bit}
 use Rattle.model.specs.Image.{image, imageOf, isStart}
 use Rattle.model.proofs.Entries.{nth-drop, nth-take}
-use Rattle.image.specs.Sized.{Sized, narrow}
+use Rattle.image.specs.Sized.{narrow}
 use Rattle.judge_lines.specs.Tests.{isZero, bitClear, notStart, clear}
 use Rattle.judge_lines.proofs.Loops.{all-cong, all-append, all-first, all-none}
 

@@ -1,23 +1,22 @@
 -- The walk over objects and runs.
 use mathlib.Core.Path.{_≡_, refl, sym, ap, _∙_}
-use mathlib.Core.Bool.{Bool, true, false, not, cond, _&&_}
+use mathlib.Core.Bool.{Bool, true, false, not, _&&_}
 use mathlib.Core.List.{List, [], _∷_}
-use Prim.Native.Nat.{ℕ, zero, suc, _+_, _*_, _-_, _≤_, _<_}
-use native.Mathlib.Decide.{ℕ-discrete, decLt}
+use Prim.Native.Nat.{ℕ, suc, _+_, _*_, _-_, _≤_, _<_}
 use native.Mathlib.Omega.{arith}
 use lib.Dec.{eqb, leb}
-use lib.ListN.{length, take, drop, length-drop, drop-of-length-le}
-use lib.Seq.{drop-cons, drop-drop}
+use lib.ListN.{length, take, drop, length-drop}
+use lib.Seq.{drop-cons}
 use borrow.Author.Tests.{leb-true, eqb-true, le-leb, eq-eqb, not-true, not-false}
-use Rattle.model.specs.Base.{nth, all, every, implies, zeroes}
-use Rattle.model.specs.Image.{image, imageOf, granules, word, isStart, links, link, firstRun}
-use Rattle.model.specs.Undamaged.{bare, piece, fill, filled, linksOk}
-use Rattle.model.proofs.Laws.{false≢, and-split, and-join, all-use, all-make, every-use, every-cons, every-nil}
+use Rattle.model.specs.Base.{nth, all, every, zeroes}
+use Rattle.model.specs.Image.{word, isStart}
+use Rattle.model.specs.Undamaged.{bare, piece}
+use Rattle.model.proofs.Laws.{and-split, and-join, every-use, every-cons, every-nil}
 use Rattle.model.proofs.Entries.{nth-drop}
 use Rattle.image.specs.Sized.{Sized, narrow}
 use Rattle.image.proofs.Sections.{get-heap}
-use Rattle.judge_lines.specs.Tests.{notStart, clear, linkOk, objectAt, runAt, pieceAt, nextRun}
-use Rattle.judge_lines.proofs.Loops.{and-true, and-false, and-assoc, same-test, all-cong, all-append, all-none}
+use Rattle.judge_lines.specs.Tests.{notStart, clear, objectAt, runAt, pieceAt, nextRun}
+use Rattle.judge_lines.proofs.Loops.{same-test, all-cong}
 use Rattle.judge_lines.proofs.Sections.{heap-long}
 use Rattle.judge_lines.proofs.Stretch.{zero-stretch}
 

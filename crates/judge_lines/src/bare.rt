@@ -1,6 +1,6 @@
 // Words that are 0, and granules that are no starts.
 ghost use mathlib.Core.Path.{_≡_};
-ghost use Prim.Native.Nat.{ℕ, _+_, _*_, _-_, _≤_, _<_, min};
+ghost use Prim.Native.Nat.{_+_, _*_, _-_, _≤_, min};
 ghost use lib.ListN.{take, drop};
 ghost use Rattle.model.specs.Base.{all, zeroes};
 ghost use Rattle.image.specs.Sized.{Sized, narrow};

@@ -1,7 +1,7 @@
 // Objects and runs fill the heap; links and registers are nil or starts.
 ghost use mathlib.Core.Path.{_≡_};
-ghost use mathlib.Core.Bool.{Bool, true, false, _&&_};
-ghost use Prim.Native.Nat.{ℕ, _+_, _*_, _-_, _≤_, _<_};
+ghost use mathlib.Core.Bool.{false, _&&_};
+ghost use Prim.Native.Nat.{_+_, _*_, _≤_, _<_};
 ghost use Rattle.model.specs.Base.{all};
 ghost use Rattle.model.specs.Image.{granules, isStart, firstRun};
 ghost use Rattle.model.specs.Undamaged.{nilOrStart, regOk, linksOk, zeroGranule, filled};

@@ -1,11 +1,8 @@
 // Every line of "undamaged" but Cover, over the words of an image.
 ghost use mathlib.Core.Path.{_≡_};
-ghost use mathlib.Core.Bool.{Bool, _&&_};
-ghost use mathlib.Core.List.{List, [], _∷_};
-ghost use Prim.Native.Nat.{ℕ, _+_, _*_, _-_, _≤_, _<_};
-ghost use Rattle.model.specs.Base.{all, every, distinct, eachPiece};
-ghost use Rattle.model.specs.Image.{entries, granules};
-ghost use Rattle.model.specs.Undamaged.{regOk, cardOk, playerOk, generalOk, markOk, packetOk, tracerOk, heldOnce, sound};
+ghost use Prim.Native.Nat.{_<_};
+ghost use Rattle.model.specs.Base.{all};
+ghost use Rattle.model.specs.Undamaged.{cardOk, playerOk, generalOk, sound};
 ghost use Rattle.image.specs.Sized.{Sized, narrow};
 ghost use Rattle.judge_lines.specs.Tests.{spareOk, unscanned, idle, cycleLines};
 

@@ -1,7 +1,5 @@
 // Marks stand only on starts.
 ghost use mathlib.Core.Path.{_≡_};
-ghost use mathlib.Core.Bool.{Bool};
-ghost use Prim.Native.Nat.{ℕ, _+_, _*_, _-_, _≤_, _<_};
 ghost use Rattle.model.specs.Base.{all};
 ghost use Rattle.model.specs.Image.{granules, marked};
 ghost use Rattle.model.specs.Undamaged.{markOk};

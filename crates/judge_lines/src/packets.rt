@@ -1,12 +1,11 @@
 // Packets: counts, zeros, entries that are marked, and no object entered twice.
 ghost use mathlib.Core.Path.{_≡_};
-ghost use mathlib.Core.Bool.{Bool, true, false, not};
-ghost use mathlib.Core.List.{List};
-ghost use Prim.Native.Nat.{ℕ, _+_, _*_, _-_, _/_, _≤_, _<_};
-ghost use lib.ListN.{length, take, drop};
-ghost use Rattle.model.specs.Base.{nth, all, elem, distinct, eachPiece, bit, setBit};
+ghost use mathlib.Core.Bool.{not};
+ghost use Prim.Native.Nat.{_/_, _<_};
+ghost use lib.ListN.{length};
+ghost use Rattle.model.specs.Base.{all, elem, distinct, bit, setBit};
 ghost use Rattle.model.specs.Image.{entries};
-ghost use Rattle.model.specs.Undamaged.{packetOk, entered};
+ghost use Rattle.model.specs.Undamaged.{entered};
 ghost use Rattle.image.specs.Sized.{Sized, narrow};
 ghost use Rattle.judge_lines.specs.Tests.{entryAt, packetAt, packetEntries, Packed};
 ghost use Rattle.judge_lines.specs.Once.{Once};

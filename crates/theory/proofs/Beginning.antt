@@ -1,17 +1,16 @@
 -- Scan and begin keep the lines and Cover.
 use mathlib.Core.Path.{_≡_, refl, sym, _∙_}
 use mathlib.Core.Logic.{inl}
-use mathlib.Core.Bool.{false}
-use mathlib.Core.List.{List, [], _∷_}
-use Prim.Native.Nat.{ℕ, zero, suc, _+_, _*_, _/_, _%_, _^_, _≤_, _<_}
-use native.Mathlib.Nat.{zero-div}
+use mathlib.Core.List.{List}
+use Prim.Native.Nat.{ℕ, suc, _+_, _*_, _≤_, _<_}
 use native.Mathlib.Omega.{arith}
 use lib.ListN.{length, take, drop, length-replicate}
-use Rattle.model.specs.Base.{nth, put, zeros, testBit, bit}
+use Rattle.model.specs.Base.{nth, put, zeros}
 use Rattle.model.specs.Image.{Image, marked, withCards, withPlayers, withGeneral, setScanned, fields-open}
 use Rattle.model.specs.Collect.{scanPlayer, beginCycle}
-use Rattle.model.proofs.Laws.{false≢, nth-put-same, nth-put-other, length-put}
+use Rattle.model.proofs.Laws.{false≢, nth-put-same, nth-put-other, length-put, nth-replicate}
 use Rattle.model.proofs.Entries.{nth-drop}
+use Rattle.model.proofs.Bits.{no-bit}
 use Rattle.theory.specs.Cover.{Covered, Cover, owes-by, to-nil, to-marked, is-coming, is-owed}
 use Rattle.theory.specs.Lines.{NilOr, GeneralOk, Start, Lines, Idle, none}
 use Rattle.theory.proofs.Covering.{same-coming}
@@ -48,10 +47,8 @@ scan-does m o cov t p ht hp =
 -- ---- begin: nothing runs, so nothing is marked, held or entered
 
 pub zeros-nth : (l : List ℕ) (i : ℕ) → nth (zeros l) i ≡ 0
-unfolding zeros nth
-zeros-nth [] i = refl
-zeros-nth (x ∷ l) zero = refl
-zeros-nth (x ∷ l) (suc i) = zeros-nth l i
+unfolding zeros
+zeros-nth l i = nth-replicate (length l) i
 
 pub length-zeros : (l : List ℕ) → length (zeros l) ≡ length l
 unfolding zeros
@@ -77,10 +74,6 @@ running-ok {gs} o v h = record {
   runs = rw (nth-put-same gs 0 v (omega (arith, o .sized))) h;
   rest = λ i. nth-put-other gs 0 (suc (suc i)) v (omega arith) ∙ o .rest i;
 }
-
-pub no-bit : (w : ℕ) (ms : List ℕ) → ((i : ℕ) → nth ms i ≡ 0) → (g : ℕ) → bit w ms g ≡ false
-unfolding bit testBit
-no-bit w ms z g = rw (z (g / w), zero-div (2 ^ (g % w))) refl
 
 pub record Begun (m′ : Image) : Type 0 where
   pub lines : Lines m′

@@ -3,17 +3,19 @@ use mathlib.Core.Path.{_≡_, refl, sym, ap, subst, _∙_}
 use mathlib.Core.Logic.{_⊎_, inl, inr}
 use mathlib.Core.Bool.{true}
 use mathlib.Core.List.{List}
-use Prim.Native.Nat.{ℕ, zero, suc, _+_, _*_, _-_, _<_}
+use Prim.Native.Nat.{ℕ, _+_, _*_, _-_, _<_}
 use native.Mathlib.Decide.{ℕ-discrete, decLt}
 use native.Mathlib.Omega.{arith}
 use lib.ListN.{length}
 use Rattle.model.specs.Base.{nth, put, bit}
-use Rattle.model.specs.Image.{Image, word, isStart, marked, size, links, link, reg, setReg, withRegs, setWord, withHeap, setStart, withStarts, setFirstRun, withGeneral}
-use Rattle.model.specs.Mutate.{Room, roomFor, setNext, takeRun, newObject}
+use Rattle.model.specs.Image.{Image, word, isStart, marked, size, links, link, reg, setReg, withRegs, setWord, withHeap, setStart, withStarts}
+use Rattle.model.specs.Mutate.{Room, roomFor, newObject}
 use Rattle.model.proofs.Laws.{nth-put-same, nth-put-other, put-out}
 use Rattle.theory.specs.Heap.{Laid}
 use Rattle.theory.specs.Cycle.{Source, in-reg, is-marked, no-start, LinkFrom, had-link, to-source, Carries, Quiet, Placed}
 use Rattle.theory.proofs.Quiet.{silent}
+use Rattle.theory.proofs.Walk.{same-place}
+use Rattle.theory.proofs.TakeRun.{take-only}
 
 -- ---- steps without a write, and silent writes
 
@@ -69,15 +71,6 @@ setReg-carries m p r v ok = record {
 
 -- ---- a word of an object
 
--- two words of objects are one only if object and place are
-same-place : (m : Image) → Laid m → (g h i j : ℕ) → isStart m g ≡ true → isStart m h ≡ true → i < 4 * size m g → j < 4 * size m h → 4 * g + i ≡ 4 * h + j → (g ≡ h) × (i ≡ j)
-same-place m d g h i j sg sh li lj e = cs (decLt g h) (decLt h g)
-  where
-    cs : Dec (g < h) → Dec (h < g) → (g ≡ h) × (i ≡ j)
-    cs (yes lt) b = absurd (omega (arith, d .apart g h sg sh lt))
-    cs (no x) (yes lt) = absurd (omega (arith, d .apart h g sh sg lt))
-    cs (no x) (no y) = (omega arith, omega arith)
-
 -- a word behind the count of links, of an object: if it is a link, then it is to a source
 pub setWord-carries : (m : Image) → Laid m → (g i v : ℕ) → isStart m g ≡ true → 2 + i < 4 * size m g → (i < links m g → (v ≡ 0 → ⊥) → Source m v) → Carries m (setWord m g (2 + i) v)
 unfolding setWord withHeap word isStart reg marked links link size
@@ -124,19 +117,9 @@ placed-carries m n i a k er em ew = record {
     by g j (inl s) l nz = let l′ : j < links m g = subst (λ x. j < x) (k .old-count g s) l in had-link j s l′ (sym (k .old-links g j s l′))
     by g j (inr e) l nz = absurd (nz (ap (λ x. link n x j) e ∙ k .new-links j (subst (λ x. j < links n x) e l)))
 
-next-keeps : (m : Image) (before g : ℕ) → ((setNext m before g) .regs ≡ m .regs) × ((setNext m before g) .marks ≡ m .marks) × ((setNext m before g) .width ≡ m .width)
-unfolding setNext setFirstRun withGeneral setWord withHeap
-next-keeps m zero g = (refl, refl, refl)
-next-keeps m (suc before) g = (refl, refl, refl)
-
-take-keeps : (m : Image) (g before b left : ℕ) → let n : Image = takeRun m g before b left in (n .regs ≡ m .regs) × (n .marks ≡ m .marks) × (n .width ≡ m .width)
-unfolding takeRun setWord withHeap
-take-keeps m g before b zero = next-keeps m before (word m g 1)
-take-keeps m g before b (suc left) = next-keeps (setWord (setWord m (g + b) 0 (suc left)) (g + b) 1 (word m g 1)) before (g + b)
-
 pub new-carries : (m : Image) (p r b c : ℕ) → Placed m (newObject m p r b c) ((roomFor m b) .run) → Carries m (newObject m p r b c)
 unfolding newObject setReg withRegs setStart withStarts setWord withHeap
 new-carries m p r b c k =
     let f : Room = roomFor m b in
-    let t = take-keeps m (f .run) (f .before) b (word m (f .run) 0 - b) in
-    placed-carries m (newObject m p r b c) (16 * p + r) (f .run) k (ap (λ l. put l (16 * p + r) (f .run)) (t .0)) (t .1) (t .2)
+    let t = (take-only m (f .run) (f .before) b (word m (f .run) 0 - b)) .sections in
+    placed-carries m (newObject m p r b c) (16 * p + r) (f .run) k (ap (λ n. put (n .regs) (16 * p + r) (f .run)) t) (ap (λ n. n .marks) t) (ap (λ n. n .width) t)

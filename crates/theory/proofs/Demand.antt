@@ -3,33 +3,30 @@ use mathlib.Core.Path.{_≡_, refl, ap, _∙_}
 use mathlib.Core.List.{List}
 use Prim.Native.Nat.{ℕ}
 use native.Mathlib.Omega.{arith}
+use borrow.Author.Tests.{not-false}
 use Rattle.model.specs.Image.{Image, reg, owed, setReg, withRegs, parts}
 use Rattle.model.specs.Undamaged.{judgeAt}
 use Rattle.model.specs.Records.{Step, finish}
 use Rattle.model.specs.Steps.{act, accept, finishDone}
 use Rattle.model.specs.Mutate.{roomFor, newObject}
 use Rattle.model.specs.Batch.{misfit, callNumber}
-use Rattle.model.proofs.Laws.{some-false, first-none}
-use borrow.Author.Tests.{not-false}
 use Rattle.model.specs.Claim.{Lent, Claim}
+use Rattle.model.specs.Cases.{bytes}
+use Rattle.model.proofs.Laws.{some-false, first-none}
 use Rattle.theory.specs.Lines.{Lines, Undamaged, Passes}
-use Rattle.theory.specs.Same.{Facts, WordsStay, NewMade}
-use Rattle.theory.proofs.Facts.{laid-of, proper-of}
-use Rattle.theory.proofs.FinishKept.{finish-does}
+use Rattle.theory.specs.Same.{WordsStay, NewMakes}
+use Rattle.theory.specs.New.{NewMade}
+use Rattle.theory.proofs.Facts.{proper-of}
+use Rattle.theory.proofs.FinishKept.{facts-of, finish-does}
 use Rattle.theory.proofs.NewKept.{new-does, new-placed}
 use Rattle.theory.proofs.Safe.{chain-start}
 use Rattle.theory.proofs.Kept.{step-passes}
 use Rattle.theory.proofs.Passing.{parts-pass, judge-use, words-round}
 use Rattle.theory.proofs.PlainHistory.{plain-history}
 use Rattle.theory.proofs.InOrder.{claim-but-plain}
-use Rattle.model.specs.Cases.{bytes}
-use Rattle.theory.specs.New
-
-plain-facts : {m : Image} → Lines m → Facts m
-plain-facts o = record { proper = proper-of o; laid = laid-of o; regs-length = o .regs-ok .sized; players-length = o .players-ok .sized }
 
 -- what an accepted new leaves, as the plain store's part asks it
-object-made : (m : Image) (s : Step) → Undamaged m → NewMade m s
+object-made : (m : Image) (s : Step) → Undamaged m → NewMakes m s
 unfolding act accept
 object-made m s u e = record {
   not-nil = λ z. omega (arith, k .filled .start-range g (k .start-new) .0);
@@ -48,7 +45,7 @@ object-made m s u e = record {
     g : ℕ
     g = (roomFor m (s .b)) .run
 
-    k : New.NewMade m (newObject m (s .who) (s .a) (s .b) (s .c)) (s .who) (s .a) (s .b) (s .c) ((roomFor m (s .b)) .run)
+    k : NewMade m (newObject m (s .who) (s .a) (s .b) (s .c)) (s .who) (s .a) (s .b) (s .c) ((roomFor m (s .b)) .run)
     k = new-does m s o e
 
 finish-stays : (m : Image) (s : Step) → Undamaged m → WordsStay m ((act m s finish) .image)
@@ -67,4 +64,4 @@ pub demand-three : (w : ℕ) (ws : List ℕ) (bs : List Lent) → judgeAt w ws �
 demand-three w ws bs e =
     claim-but-plain w ws bs e
     (plain-history w (Passes w) (step-passes w) (call-passes w) (words-round w)
-    (λ m p. plain-facts (p .is-undamaged .sound .lines)) (λ m s p. object-made m s (p .is-undamaged)) (λ m s p z. finish-stays m s (p .is-undamaged)) ws bs (judge-use w ws e))
+    (λ m p. facts-of (p .is-undamaged .sound)) (λ m s p. object-made m s (p .is-undamaged)) (λ m s p z. finish-stays m s (p .is-undamaged)) ws bs (judge-use w ws e))

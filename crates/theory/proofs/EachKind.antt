@@ -4,8 +4,8 @@ use mathlib.Core.Logic.{inl, inr}
 use mathlib.Core.Bool.{Bool, true, false, _||_}
 use Prim.Native.Nat.{ℕ, zero, suc, _*_, _-_, _<_}
 use native.Mathlib.Omega.{arith}
-use lib.Dec.{ltb, eqb}
-use borrow.Author.Tests.{ltb-false, leb-false, eqb-true, eqb-false, not-false}
+use lib.Dec.{eqb}
+use borrow.Author.Tests.{leb-false, eqb-true, eqb-false, not-false}
 use Rattle.model.specs.Base.{nth}
 use Rattle.model.specs.Image.{Image, size, links, levels, reg, owed, running, withHeap, withCards, withRegs, withPlayers, withGeneral, setWord, setState, dirtyCard, setReg, setOwed}
 use Rattle.model.specs.Records.{Step, Kind, new, load, store, barrier, handOver, dropReg, read, write, begin, scan, trace, clean, finish, isDue, unknown}
@@ -19,17 +19,13 @@ use Rattle.theory.proofs.Beginning.{scan-does, begin-does}
 use Rattle.theory.proofs.Cleaning.{clean-does}
 use Rattle.theory.proofs.Facts.{reg-value, link-value}
 use Rattle.theory.proofs.FinishKept.{finish-keeps}
-use Rattle.theory.proofs.LiveSteps.{line}
+use Rattle.theory.proofs.Steps.{line, not-above}
 use Rattle.theory.proofs.Mutating.{reg-keeps, barrier-keeps, store-keeps, write-keeps}
 use Rattle.theory.proofs.NewKept.{new-does, new-step}
 use Rattle.theory.proofs.Reaching.{Stays}
 use Rattle.theory.proofs.Tracing.{trace-does}
 
 -- ---- what an accepted step says
-
--- a number that is not above b
-not-above : (b x : ℕ) → ltb b x ≡ false → x < suc b
-not-above b x e = omega (arith, ltb-false b x e)
 
 or-none : (a b : Bool) → (a || b) ≡ false → (a ≡ false) × (b ≡ false)
 or-none true b e = false≢ (sym e)

@@ -1,17 +1,17 @@
 -- Begin and finish as steps: their numbers, what is live after a begin, and what an accepted finish keeps.
-use mathlib.Core.Path.{_≡_, refl, sym, ap, subst, _∙_}
+use mathlib.Core.Path.{_≡_, refl, sym, subst, _∙_}
 use mathlib.Core.Bool.{Bool, true, false, cond}
 use mathlib.Core.List.{[], _∷_}
-use Prim.Native.Nat.{ℕ, zero, suc, _+_, _*_, _/_, _%_}
+use Prim.Native.Nat.{ℕ, _+_, _*_, _/_, _%_}
 use native.Mathlib.Omega.{arith}
 use lib.Dec.{eqb}
 use borrow.Author.Tests.{eqb-false, lt-ltb}
 use Rattle.model.specs.Base.{nth, first}
 use Rattle.model.specs.Image.{Image, isStart, reg, running}
 use Rattle.model.specs.Undamaged.{nilOrStart}
-use Rattle.model.specs.Records.{Step, Kind, begin, finish, kindOf}
+use Rattle.model.specs.Records.{Step, begin, finish, kindOf}
 use Rattle.model.specs.Finish.{Kept}
-use Rattle.model.specs.Steps.{isNew, unnamed, offDesk, owing, noObject, pastEnd, badSize, noRoom, wrongPhase, nothingToDo, refusal, accept, act, outcome, step}
+use Rattle.model.specs.Steps.{isNew, unnamed, offDesk, owing, noObject, pastEnd, badSize, noRoom, wrongPhase, nothingToDo, refusal, accept, act, step}
 use Rattle.model.specs.Claim.{anyField, Same, Finishes}
 use Rattle.model.proofs.Laws.{every-cons, every-nil, either-make}
 use Rattle.model.proofs.Sited.{Sited}
@@ -22,18 +22,9 @@ use Rattle.theory.proofs.Safe.{chain-start, start-below, safe}
 use Rattle.theory.proofs.Live.{live-begin, live-carried}
 use Rattle.theory.proofs.Quiet.{quiet-begin}
 use Rattle.theory.proofs.Carries.{quiet-carries}
-use Rattle.theory.proofs.LiveSteps.{act-number, line}
+use Rattle.theory.proofs.Steps.{step-number, line, accepted-image}
 
 -- ---- numbers
-
-outcome-number : (m : Image) (s : Step) (n : Kind) (r : ℕ) → (outcome m s n r) .number ≡ r
-unfolding outcome
-outcome-number m s n zero = act-number m s n
-outcome-number m s n (suc r) = refl
-
-pub step-number : (m : Image) (s : Step) {n : Kind} → kindOf (s .kind) ≡ n → (step m s) .number ≡ refusal m s n
-unfolding step
-step-number m s {n} k = outcome-number m s (kindOf (s .kind)) _ ∙ ap (refusal m s) k
 
 -- of all lines, only 3 and 10 can apply
 two-lines : (a b : Bool) → first 3 (a ∷ false ∷ false ∷ false ∷ false ∷ false ∷ false ∷ b ∷ false ∷ []) ≡ cond a 3 (cond b 10 0)
@@ -49,12 +40,6 @@ begin-number m s k = step-number m s k ∙ two-lines (anyField s) (eqb (running 
 pub finish-number : (m : Image) (s : Step) → kindOf (s .kind) ≡ finish → (step m s) .number ≡ cond (anyField s) 3 (cond (eqb (running m) 0) 10 0)
 unfolding refusal unnamed offDesk owing noObject pastEnd isNew badSize noRoom wrongPhase nothingToDo anyField
 finish-number m s k = step-number m s k ∙ two-lines (anyField s) (eqb (running m) 0)
-
--- an accepted step does what its kind does
-pub accepted-image : (m : Image) (s : Step) {n : Kind} → kindOf (s .kind) ≡ n → (step m s) .number ≡ 0 → (step m s) .image ≡ (act m s n) .image
-unfolding step outcome
-accepted-image m s {n} k e =
-    ap (λ x. (outcome m s x (refusal m s x)) .image) k ∙ ap (λ r. (outcome m s n r) .image) (sym (step-number m s k) ∙ e)
 
 -- ---- begin
 
@@ -75,7 +60,7 @@ start-ok m f a h =
 facts-sited : (m : Image) → Facts m → Sited m
 unfolding reg
 facts-sited m f = record {
-  regs-length = f .regs-many;
+  regs-length = f .regs-length;
   packets-length = f .counted .packets-length;
   counts = f .counted .counts;
   reg-in = λ i h. start-ok m f _ (λ nz. subst (λ j. (nth (m .regs) j ≡ 0 → ⊥) → isStart m (nth (m .regs) j) ≡ true) (place i) (f .proper .reg-start (i / 16) (i % 16) (omega arith) (omega arith)) nz);

@@ -1,6 +1,5 @@
 -- Free granules: those of the run chain are all that no object has, and a finish adds what it says.
 use mathlib.Core.Path.{_≡_, refl, _∙_}
-use mathlib.Core.Logic.{_⊎_, inl, inr}
 use mathlib.Core.Bool.{Bool, true, false, cond}
 use mathlib.Core.List.{List, [], _∷_, _++_}
 use Prim.Native.Nat.{ℕ, zero, suc, _+_, _*_, _≤_, _<_}
@@ -10,11 +9,10 @@ use lib.ListN.{length, getD, length-append, length-drop}
 use Rattle.model.specs.Image.{Image, granules, word, isStart}
 use Rattle.model.specs.Mutate.{freeFrom, freeGranules}
 use Rattle.model.specs.Finish.{runTail, Swept, swept, sweep, finishWith}
-use Rattle.model.proofs.Laws.{bool-cases}
 use Rattle.theory.specs.Heap.{runWords, Bare, Filled, f-end, f-object, f-run, HeapFilled, HeapSized}
 use Rattle.theory.specs.Pieces.{Reads, Pieces, at-end, at-object, at-run, total, sizes, usedGranules}
 use Rattle.theory.proofs.Lists.{nth-head, length-run}
-use Rattle.theory.proofs.Walk.{word-behind, object-at}
+use Rattle.theory.proofs.Walk.{word-behind, object-at, no-start-zero}
 use Rattle.theory.proofs.Sweep.{sweep-piece, not-kept}
 use Rattle.theory.proofs.FinishHeap.{finish-starts, finish-filled, finish-words, finish-sized}
 use Rattle.theory.proofs.Pieces.{reads-behind, front, image-pieces}
@@ -67,13 +65,6 @@ chain-count m {x = suc x} (suc n) (at-run o p) h l =
     let ih = chain-count m n p (omega arith) (omega (arith, o .long)) in
     omega (arith, ih, total-past (isStart m) (word m) (suc x) (word m (suc x) 0) (o .long) (o .alone), sizes-no (isStart m) (word m) (suc x) (o .no-start))
 
-no-zero : (m : Image) → HeapFilled m → isStart m 0 ≡ false
-no-zero m o = cs (bool-cases (isStart m 0))
-  where
-    cs : (isStart m 0 ≡ true) ⊎ (isStart m 0 ≡ false) → isStart m 0 ≡ false
-    cs (inl e) = absurd (omega (arith, (o .start-range 0 e) .0))
-    cs (inr e) = e
-
 total-one : (st : ℕ → Bool) (rd : ℕ → ℕ → ℕ) → st 0 ≡ false → total (sizes st rd) 1 ≡ 0
 unfolding total
 total-one st rd e = rw e
@@ -81,7 +72,7 @@ total-one st rd e = rw e
 -- every granule but granule 0 is in a run of the chain or in an object
 pub free-count : (m : Image) → HeapFilled m → HeapSized m → freeGranules m + usedGranules m + 1 ≡ granules m
 unfolding freeGranules usedGranules
-free-count m o z = omega (arith, chain-count m (granules m) (image-pieces m o z) (omega arith) (omega arith), total-one (isStart m) (word m) (no-zero m o))
+free-count m o z = omega (arith, chain-count m (granules m) (image-pieces m o z) (omega arith) (omega arith), total-one (isStart m) (word m) (no-start-zero o))
 
 -- ---- "Value: granules freed"
 
@@ -159,8 +150,8 @@ module _ (m : Image) (keep : List Bool) (o : HeapFilled m) (z : HeapSized m) (ke
         free-count m o z,
         all-used,
         free-count ((finishWith m keep) .image) (finish-filled m keep o z kept) (finish-sized m keep o z kept),
-        total-one (isStart m) (word m) (no-zero m o),
-        total-one (λ g. getD keep g false) (word m) (not-kept (isStart m) (λ g. getD keep g false) kept 0 (no-zero m o)),
+        total-one (isStart m) (word m) (no-start-zero o),
+        total-one (λ g. getD keep g false) (word m) (not-kept (isStart m) (λ g. getD keep g false) kept 0 (no-start-zero o)),
       )
     where
       all-used : usedGranules m ≡ total (sizes (isStart m) (word m)) (granules m)

@@ -1,18 +1,15 @@
 -- What the lines of "undamaged" on the heap say, for an image whose sections have their lengths.
-use mathlib.Core.Path.{_≡_, refl, sym, _∙_}
+use mathlib.Core.Path.{_≡_, sym, _∙_}
 use mathlib.Core.Logic.{_⊎_, inl, inr}
 use mathlib.Core.Bool.{true, false}
-use mathlib.Core.List.{List}
-use Prim.Native.Nat.{ℕ, zero, suc, _*_, _/_, _%_, _^_, _≤_, _<_}
-use native.Mathlib.Nat.{zero-div}
-use native.Mathlib.Decide.{decLt}
+use Prim.Native.Nat.{ℕ, zero, suc, _*_, _/_, _≤_, _<_}
 use native.Mathlib.Omega.{arith}
-use lib.ListN.{length, List·getD-eq-default}
+use lib.ListN.{length}
 use borrow.Author.Tests.{not-true}
-use Rattle.model.specs.Base.{nth, testBit, bit}
 use Rattle.model.specs.Image.{Image, granules, isStart}
 use Rattle.model.specs.Undamaged.{zeroGranule, filled}
 use Rattle.model.proofs.Laws.{false≢, every-use}
+use Rattle.model.proofs.Bits.{bit-within}
 use Rattle.theory.specs.Heap.{HeapFilled, HeapSized}
 use Rattle.theory.proofs.Walk.{filled-use}
 
@@ -22,21 +19,6 @@ use Rattle.theory.proofs.Walk.{filled-use}
 pub bit-word : (w k g : ℕ) → (w ≡ 16) ⊎ (w ≡ 32) → g < 64 * k → g / w < 64 * k / w
 bit-word w k g (inl e) h = rw e (omega arith)
 bit-word w k g (inr e) h = rw e (omega arith)
-
--- no bit is set past the last granule
-pub bit-within : (w k : ℕ) (l : List ℕ) (g : ℕ) → (w ≡ 16) ⊎ (w ≡ 32) → length l ≡ 64 * k / w → bit w l g ≡ true → g < 64 * k
-bit-within w k l g d e q = cs (decLt (g / w) (length l))
-  where
-    off : length l ≤ g / w → bit w l g ≡ false
-    off h = unfold bit testBit nth in rw (List·getD-eq-default l 0 h, zero-div (2 ^ (g % w))) refl
-
-    near : (w ≡ 16) ⊎ (w ≡ 32) → g / w < 64 * k / w → g < 64 * k
-    near (inl x) h = let h₁ : g / 16 < 64 * k / 16 = rw x at h in omega (arith, h₁)
-    near (inr x) h = let h₁ : g / 32 < 64 * k / 32 = rw x at h in omega (arith, h₁)
-
-    cs : Dec (g / w < length l) → g < 64 * k
-    cs (yes h) = near d (rw e at h)
-    cs (no h) = false≢ (sym (off (omega arith)) ∙ q)
 
 -- ---- the heap of an image
 
@@ -52,7 +34,7 @@ heap-filled-of m d lh ls z f = record { heap-words = words; heap-filled = filled
 
     range : (g : ℕ) → isStart m g ≡ true → (1 ≤ g) × (g < granules m)
     range zero e = false≢ (sym no-zero ∙ e)
-    range (suc g) e = (omega arith, unfold granules isStart in bit-within (m .width) (m .k) (m .starts) (suc g) d ls e)
+    range (suc g) e = (omega arith, unfold granules isStart in bit-within (m .width) (64 * m .k) (m .starts) (suc g) ls e)
 
 pub heap-sized-of : (m : Image) → (m .width ≡ 16) ⊎ (m .width ≡ 32) → 1 ≤ m .k → length (m .starts) ≡ 64 * m .k / m .width → length (m .general) ≡ 8 → HeapSized m
 unfolding granules

@@ -4,41 +4,22 @@ use mathlib.Core.List.{List, [], _∷_}
 use Prim.Native.Nat.{ℕ, zero, suc}
 use Rattle.model.specs.Image.{Image, parts}
 use Rattle.model.specs.Undamaged.{judgeAt}
-use Rattle.model.specs.Records.{Step, Kind, kindOf, records}
-use Rattle.model.specs.Steps.{refusal, act, outcome, step, run, after}
+use Rattle.model.specs.Records.{Step, records}
+use Rattle.model.specs.Steps.{step, run, after}
 use Rattle.model.specs.Batch.{callNumber, events, batchWith, batchAt}
 use Rattle.theory.specs.Lines.{Undamaged, Passes}
 use Rattle.theory.proofs.EachKind.{SameShape, kind-keeps, kind-shape}
-use Rattle.theory.proofs.LiveSteps.{act-number}
+use Rattle.theory.proofs.Steps.{step-cases}
+pub use Rattle.theory.proofs.Steps.{refused-same}
 use Rattle.theory.proofs.Passing.{judge-use, judge-make}
-
--- ---- refused steps
-
--- "the others refuse one step, with value 0"
-pub refused-same : (m : Image) (s : Step) → ((step m s) .number ≡ 0 → ⊥) → ((step m s) .image ≡ m) × ((step m s) .value ≡ 0)
-unfolding step outcome
-refused-same m s nz = go (kindOf (s .kind)) (refusal m s (kindOf (s .kind))) nz
-  where
-    go : (n : Kind) (r : ℕ) → ((outcome m s n r) .number ≡ 0 → ⊥) → ((outcome m s n r) .image ≡ m) × ((outcome m s n r) .value ≡ 0)
-    go n zero z = absurd (z (act-number m s n))
-    go n (suc r) z = (refl, refl)
-
--- an image after a step: as it was, or as an accepted step of the kind leaves it
-pub step-cases : (P : Image → Type 0) (m : Image) (s : Step) → P m → ((n : Kind) → refusal m s n ≡ 0 → P ((act m s n) .image)) → P ((step m s) .image)
-unfolding step outcome
-step-cases P m s same f = go (kindOf (s .kind)) (refusal m s (kindOf (s .kind))) refl
-  where
-    go : (n : Kind) (r : ℕ) → refusal m s n ≡ r → P ((outcome m s n r) .image)
-    go n zero e = f n e
-    go n (suc r) e = same
 
 -- ---- one step
 
 pub step-keeps : (m : Image) (s : Step) → Undamaged m → Undamaged ((step m s) .image)
-step-keeps m s u = step-cases Undamaged m s u (kind-keeps m s u)
+step-keeps m s u = step-cases m s Undamaged u (λ n k. kind-keeps m s u n)
 
 pub step-shape : (m : Image) (s : Step) → Undamaged m → SameShape m ((step m s) .image)
-step-shape m s u = step-cases (SameShape m) m s (refl, refl) (kind-shape m s u)
+step-shape m s u = step-cases m s (SameShape m) (refl, refl) (λ n k. kind-shape m s u n)
 
 pub step-passes : (w : ℕ) (m : Image) (s : Step) → Passes w m → Passes w ((step m s) .image)
 step-passes w m s p =

@@ -1,3 +1,4 @@
+pub mod Steps
 pub mod Cover
 pub mod Packets
 pub mod Sections
@@ -43,7 +44,7 @@ pub mod Outside
 pub mod Room
 pub mod Carve
 pub mod PlainAccepted
-pub mod PlainQuiet
+pub mod PlainFed
 pub mod PlainList
 pub mod PlainHistory
 pub mod Linked
@@ -53,3 +54,5 @@ pub mod NewHeap
 pub mod NewMade
 pub mod InOrder
 pub mod Demand
+pub mod Numbers
+pub mod FinishRule

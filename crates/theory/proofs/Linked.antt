@@ -15,7 +15,8 @@ use Rattle.theory.specs.Cycle.{Live, Since}
 use Rattle.theory.specs.Events.{Linked, l-nil, l-cons, Parted, Steady, Fine}
 use Rattle.theory.proofs.Live.{kept-live}
 use Rattle.theory.proofs.LiveSteps.{step-live}
-use Rattle.theory.proofs.Finishes.{begin-number, finish-number, accepted-image, begin-live, finishes}
+use Rattle.theory.proofs.Finishes.{begin-number, finish-number, begin-live, finishes}
+use Rattle.theory.proofs.Steps.{accepted-image}
 
 -- ---- linked events
 

@@ -1,25 +1,23 @@
 -- Every step but an accepted finish keeps start bits and what is live.
 use mathlib.Core.Path.{_≡_, refl, sym, subst, _∙_}
 use mathlib.Core.Bool.{true, false}
-use mathlib.Core.List.{[], _∷_, List·Memᴰ}
-use Prim.Native.Nat.{ℕ, zero, suc, _+_, _*_, _-_, _<_}
+use mathlib.Core.List.{List·Memᴰ}
+use Prim.Native.Nat.{ℕ, _+_, _*_, _-_, _<_}
 use native.Mathlib.Omega.{arith}
 use lib.Dec.{ltb}
-use lib.ListN.{getD, take, drop, length-take}
-use borrow.Author.Tests.{eqb-false, leb-false, ltb-false}
+use lib.ListN.{take, drop, length-take}
+use borrow.Author.Tests.{eqb-false, leb-false}
 use Rattle.model.specs.Image.{Image, isStart, size, links, levels, reg, hand, nextLink, setWord, setOwed, withPlayers, dirtyCard, setState, withCards}
-use Rattle.model.specs.Records.{Step, Kind, new, load, store, barrier, handOver, dropReg, read, write, begin, scan, trace, clean, finish, isDue, unknown, kindOf}
-use Rattle.model.specs.Steps.{unnamed, offDesk, object, owing, noObject, pastEnd, badSize, noRoom, wrongPhase, nothingToDo, refusal, accept, finishDone, act, outcome, step}
-use Rattle.model.proofs.Laws.{first-none, some-false}
+use Rattle.model.specs.Records.{Step, Kind, new, load, store, barrier, handOver, dropReg, read, write, begin, scan, trace, clean, finish, isDue, unknown}
+use Rattle.model.specs.Steps.{offDesk, object, noObject, pastEnd, refusal, accept, act, step}
+use Rattle.model.proofs.Laws.{some-false}
 use Rattle.model.proofs.Entries.{nth-take, nth-drop}
 use Rattle.model.proofs.Found.{place}
 use Rattle.theory.specs.Cycle.{Facts, Source, in-reg, in-link, is-marked, Carries, NewPlaced, NoFinish, Live}
-use Rattle.theory.proofs.Quiet.{Next, quiet-refl, quiet-silent, quiet-begin, quiet-scan, quiet-trace, quiet-clean}
+use Rattle.theory.proofs.Quiet.{Next, quiet-refl, quiet-begin, quiet-scan, quiet-trace, quiet-clean}
 use Rattle.theory.proofs.Carries.{quiet-carries, carries-silent, setReg-carries, setWord-carries, new-carries}
 use Rattle.theory.proofs.Live.{live-carried}
-
-on-desk : (n x : ℕ) → ltb n x ≡ false → x < suc n
-on-desk n x e = omega (arith, ltb-false n x e)
+use Rattle.theory.proofs.Steps.{step-number, line, step-cases, not-above}
 
 carries-refl : (m : Image) → Carries m m
 carries-refl m = quiet-carries m m (quiet-refl m)
@@ -36,44 +34,18 @@ scan-source m p hp g k nz =
     let h : r .0 < 16 = omega (arith, r .1, length-take 16 (drop (16 * p) (m .regs))) in
     in-reg p (r .0) hp h (sym (nth-drop (16 * p) (m .regs) (r .0)) ∙ (sym (nth-take 16 (drop (16 * p) (m .regs)) (r .0) h) ∙ r .2)) nz
 
--- ---- numbers
-
-pub act-number : (m : Image) (s : Step) (n : Kind) → (act m s n) .number ≡ 0
-unfolding act accept finishDone
-act-number m s new = refl
-act-number m s load = refl
-act-number m s store = refl
-act-number m s barrier = refl
-act-number m s handOver = refl
-act-number m s dropReg = refl
-act-number m s read = refl
-act-number m s write = refl
-act-number m s begin = refl
-act-number m s scan = refl
-act-number m s trace = refl
-act-number m s clean = refl
-act-number m s finish = refl
-act-number m s isDue = refl
-act-number m s unknown = refl
-
--- line i of the numbers of an accepted step does not apply
-pub line : (m : Image) (s : Step) (n : Kind) → refusal m s n ≡ 0 → (i : ℕ)
-    → getD (unnamed s n ∷ offDesk s n ∷ owing m s n ∷ noObject m s n ∷ pastEnd m s n ∷ badSize s n ∷ noRoom m s n ∷ wrongPhase m s n ∷ nothingToDo m s n ∷ []) i false ≡ false
-unfolding refusal
-line m s n e i = first-none 2 _ e i
-
 -- ---- the kinds
 
 module _ (m : Image) (s : Step) (f : Facts m) where
   -- what a register on the desk holds
   held : (r : ℕ) → ltb 15 (s .who) ≡ false → ltb 15 r ≡ false → (object m s r ≡ 0 → ⊥) → Source m (object m s r)
   unfolding object
-  held r hp hr nz = in-reg (s .who) r (on-desk 15 (s .who) hp) (on-desk 15 r hr) refl nz
+  held r hp hr nz = in-reg (s .who) r (not-above 15 (s .who) hp) (not-above 15 r hr) refl nz
 
   -- and where it holds something, that is an object
   held-start : (r : ℕ) → ltb 15 (s .who) ≡ false → ltb 15 r ≡ false → (object m s r ≡ 0 → ⊥) → isStart m (object m s r) ≡ true
   unfolding object
-  held-start r hp hr nz = f .proper .reg-start (s .who) r (on-desk 15 (s .who) hp) (on-desk 15 r hr) nz
+  held-start r hp hr nz = f .proper .reg-start (s .who) r (not-above 15 (s .who) hp) (not-above 15 r hr) nz
 
   load-carries : refusal m s load ≡ 0 → Carries m ((act m s load) .image)
   unfolding act accept offDesk noObject pastEnd
@@ -114,19 +86,19 @@ module _ (m : Image) (s : Step) (f : Facts m) where
 
   barrier-carries : Carries m ((act m s barrier) .image)
   unfolding act accept setOwed withPlayers dirtyCard setState withCards
-  barrier-carries = quiet-carries m _ (quiet-silent m _ _ _ _ _)
+  barrier-carries = carries-silent m m _ _ _ _ _ (carries-refl m)
 
   scan-carries : refusal m s scan ≡ 0 → Carries m ((act m s scan) .image)
   unfolding act accept offDesk
-  scan-carries e = let d = some-false _ (line m s scan e 1) in quiet-carries m _ (quiet-scan m (s .who) (s .a) (scan-source m (s .a) (on-desk 15 (s .a) (d 1))))
+  scan-carries e = let d = some-false _ (line m s scan e 1) in quiet-carries m _ (quiet-scan m (s .who) (s .a) (scan-source m (s .a) (not-above 15 (s .a) (d 1))))
 
   trace-carries : refusal m s trace ≡ 0 → Carries m ((act m s trace) .image)
   unfolding act accept offDesk
-  trace-carries e = quiet-carries m _ (quiet-trace m (s .who) (next-source m f (s .who) (on-desk 7 (s .who) (line m s trace e 1))))
+  trace-carries e = quiet-carries m _ (quiet-trace m (s .who) (next-source m f (s .who) (not-above 7 (s .who) (line m s trace e 1))))
 
   clean-carries : refusal m s clean ≡ 0 → Carries m ((act m s clean) .image)
   unfolding act accept offDesk
-  clean-carries e = quiet-carries m _ (quiet-clean m (s .who) (next-source m f (s .who) (on-desk 7 (s .who) (line m s clean e 1))))
+  clean-carries e = quiet-carries m _ (quiet-clean m (s .who) (next-source m f (s .who) (not-above 7 (s .who) (line m s clean e 1))))
 
   act-carries : NewPlaced m s → (n : Kind) → refusal m s n ≡ 0 → (n ≡ finish → ⊥) → Carries m ((act m s n) .image)
   unfolding act accept
@@ -149,16 +121,7 @@ module _ (m : Image) (s : Step) (f : Facts m) where
   -- ---- every step but an accepted finish
 
   pub step-carries : NewPlaced m s → NoFinish m s → Carries m ((step m s) .image)
-  unfolding step
-  step-carries np nf = go (refusal m s (kindOf (s .kind))) refl nf
-    where
-      go : (r : ℕ) → refusal m s (kindOf (s .kind)) ≡ r → (kindOf (s .kind) ≡ finish → (outcome m s (kindOf (s .kind)) r) .number ≡ 0 → ⊥) → Carries m ((outcome m s (kindOf (s .kind)) r) .image)
-      go zero e nf′ = unfold outcome in act-carries np (kindOf (s .kind)) e (λ k. nf′ k (act-number m s (kindOf (s .kind))))
-      go (suc r) e nf′ = unfold outcome in carries-refl m
-
-  -- start bits stay
-  pub step-stays : NewPlaced m s → NoFinish m s → (g : ℕ) → isStart m g ≡ true → isStart ((step m s) .image) g ≡ true
-  step-stays np nf = (step-carries np nf) .starts-stay
+  step-carries np nf = step-cases m s (Carries m) (carries-refl m) (λ n k e. act-carries np n e (λ q. nf (k ∙ q) (step-number m s k ∙ e)))
 
   -- what is live stays so
   pub step-live : NewPlaced m s → NoFinish m s → (S : ℕ → Type 0) → Live S m → Live S ((step m s) .image)

@@ -18,11 +18,11 @@ use Rattle.theory.specs.Heap.{HeapFilled}
 use Rattle.theory.specs.Lines.{NilOr, GeneralOk, HeapOk, Start, Lines, Undamaged}
 use Rattle.theory.specs.New.{reheaped, NewMade}
 use Rattle.theory.proofs.Facts.{some-card, laid-of, link-value, start-of, heap-filled-of, heap-sized-of}
-use Rattle.theory.proofs.LiveSteps.{line}
+use Rattle.theory.proofs.Steps.{line, not-above}
 use Rattle.theory.proofs.Mutating.{reg-keeps, is-start}
 use Rattle.theory.proofs.NewMade.{new-made}
 use Rattle.theory.proofs.Replaced.{nil-mono, reheaped-keeps}
-use Rattle.theory.proofs.Walk.{filled-make}
+use Rattle.theory.proofs.Walk.{filled-make, no-start-zero}
 
 module _ {m n : Image} {p r b c g : ℕ} (u : Undamaged m) (k : NewMade m n p r b c g) (fit : c ≤ 4 * b - 2) where
   o : Lines m
@@ -64,13 +64,6 @@ module _ {m n : Image} {p r b c g : ℕ} (u : Undamaged m) (k : NewMade m n p r 
           let j : 2 + i ≡ 1 + suc i = omega arith in
           rw (j, word-stays h (suc i) a d, ← j) (nil-mono still (word m h (2 + i)) (link-value o h i a d))
 
-  none-at-zero : bit (m .width) (n .starts) 0 ≡ false
-  none-at-zero = go (bool-cases (bit (m .width) (n .starts) 0))
-    where
-      go : (bit (m .width) (n .starts) 0 ≡ true) ⊎ (bit (m .width) (n .starts) 0 ≡ false) → bit (m .width) (n .starts) 0 ≡ false
-      go (inl s) = absurd (omega (arith, k .filled .start-range 0 (new-start 0 ∙ s) .0))
-      go (inr s) = s
-
   still-filled : filled made ≡ true
   unfolding granules setReg withRegs
   still-filled = filled-make made (omega (arith, some-card o)) made-filled
@@ -81,7 +74,7 @@ module _ {m n : Image} {p r b c g : ℕ} (u : Undamaged m) (k : NewMade m n p r 
     sized = made-filled .heap-words;
     starts-sized = k .starts-length ∙ o .heap-ok .starts-sized;
     blank = λ i h. k .granule-zero i h ∙ o .heap-ok .blank i h;
-    unused = none-at-zero;
+    unused = no-start-zero made-filled;
     within = λ h s. made-filled .start-range h s .1;
     filled = still-filled;
     links-ok = link-ok;
@@ -156,4 +149,4 @@ pub new-step : (m : Image) (s : Step) → Undamaged m → refusal m s new ≡ 0 
 unfolding act accept offDesk owing owes
 new-step m s u e =
     let d = some-false _ (line m s new e 1) in
-    new-keeps u (new-does m s (u .sound .lines) e) (good-size m s (u .sound .lines) e .2) (omega (arith, ltb-false 15 (s .who) (d 0))) (omega (arith, ltb-false 15 (s .a) (d 1))) (eqb-true _ _ (not-false _ (line m s new e 2)))
+    new-keeps u (new-does m s (u .sound .lines) e) (good-size m s (u .sound .lines) e .2) (not-above 15 (s .who) (d 0)) (not-above 15 (s .a) (d 1)) (eqb-true _ _ (not-false _ (line m s new e 2)))

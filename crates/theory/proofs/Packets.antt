@@ -6,9 +6,9 @@ use Prim.Native.Nat.{ℕ, suc, _+_, _*_, _-_, _≤_, _<_}
 use native.Mathlib.Decide.{ℕ-discrete}
 use native.Mathlib.Omega.{arith}
 use lib.ListN.{length}
-use Rattle.theory.specs.Lines.{countIn, entryIn, Enters, PacketsOk}
 use Rattle.model.specs.Base.{nth, put}
 use Rattle.model.proofs.Laws.{nth-put-same, nth-put-other, length-put}
+use Rattle.theory.specs.Lines.{countIn, entryIn, Enters, PacketsOk}
 
 -- x is v where C holds, else o
 abbrev pub Wrote : Type 0 → ℕ → ℕ → ℕ → Type 0

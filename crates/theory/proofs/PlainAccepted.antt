@@ -12,11 +12,13 @@ use Rattle.model.specs.Steps.{isNew, offDesk, badSize, object, noObject, pastEn
 use Rattle.model.specs.Plain.{Object, made, PlainStore, putLink, Value, as-is, PlainDone, byPlayerKind, holding, plainRefusal, plainAccept, plainAct, plainOutcome, feeds, objectAt, upd, named, reading}
 use Rattle.model.specs.Claim.{Chain, chain-link}
 use Rattle.model.proofs.Laws.{false≢, some-false}
-use Rattle.theory.specs.Same.{Names, SameStore, Related, Facts, KeptWords, ObjectMade, NewMade, event, Admitted}
+use Rattle.theory.specs.Same.{Names, SameStore, Related, KeptWords, ObjectMade, NewMakes, event, Admitted}
+use Rattle.theory.specs.Cycle.{Facts}
 use Rattle.theory.proofs.PlainLaws.{upd-same, names-more, names-new, same-kept}
 use Rattle.theory.proofs.PlainWrites.{same-setReg, same-stored, same-written, same-setOwed}
 use Rattle.theory.proofs.PlainNew.{same-new}
-use Rattle.theory.proofs.PlainAlike.{low, admitted, in-register, held-chain, same-number}
+use Rattle.theory.proofs.PlainAlike.{admitted, in-register, held-chain, same-number}
+use Rattle.theory.proofs.Steps.{not-above}
 
 abbrev replied : PlainStore → ℕ → Value → PlainDone
 replied q r v = record { plain = q; reply = record { number = r; value = v } }
@@ -81,11 +83,11 @@ module _ (m : Image) (f : Facts m) (s : Step) (q : PlainStore) (name : ℕ → O
       off : eqb (suc r) 0 ≡ false
       off = ne-eqb (suc r) 0 (λ e. omega arith)
 
-  new-alike : NewMade m s → refusal m s new ≡ 0 → Alike new
+  new-alike : NewMakes m s → refusal m s new ≡ 0 → Alike new
   unfolding act accept plainAct plainAccept named reading offDesk
   new-alike made-by z k a = record {
     names-after = rw k (names-new ns g (o .not-nil));
-    same-after = rw k (same-new m _ f (s .who) (s .a) (s .b) (s .c) g (low (s .who) (some-false _ (a .on-desk) 0)) (low (s .a) (some-false _ (a .on-desk) 1)) (size-fits s (a .good-size)) o name i ns q S);
+    same-after = rw k (same-new m _ f (s .who) (s .a) (s .b) (s .c) g (not-above 15 (s .who) (some-false _ (a .on-desk) 0)) (not-above 15 (s .a) (some-false _ (a .on-desk) 1)) (size-fits s (a .good-size)) o name i ns q S);
     same-reply = rw (k, object-at (upd name g (made i)) (suc i) g (names-new ns g (o .not-nil)), upd-same name g (made i));
   }
     where
@@ -99,7 +101,7 @@ module _ (m : Image) (f : Facts m) (s : Step) (q : PlainStore) (name : ℕ → O
   unfolding act accept plainAct plainAccept named reading offDesk noObject pastEnd
   load-alike k a = record {
     names-after = rw k (names-more ns);
-    same-after = rw (k, e) (same-setReg m f (s .who) (s .a) l hp (low (s .a) (some-false _ (a .on-desk) 1)) name q S (λ nz. chain-link g (s .c) cg lc refl nz));
+    same-after = rw (k, e) (same-setReg m f (s .who) (s .a) l hp (not-above 15 (s .a) (some-false _ (a .on-desk) 1)) name q S (λ nz. chain-link g (s .c) cg lc refl nz));
     same-reply = rw (k, object-at name i l ns, e);
   }
     where
@@ -110,10 +112,10 @@ module _ (m : Image) (f : Facts m) (s : Step) (q : PlainStore) (name : ℕ → O
       l = link m g (s .c)
 
       hp : s .who < 16
-      hp = low (s .who) (some-false _ (a .on-desk) 0)
+      hp = not-above 15 (s .who) (some-false _ (a .on-desk) 0)
 
       hb : s .b < 16
-      hb = low (s .b) (some-false _ (a .on-desk) 2)
+      hb = not-above 15 (s .b) (some-false _ (a .on-desk) 2)
 
       cg : Chain m g
       cg = reach-of (s .b) hp hb (eqb-false _ _ (a .has-object))
@@ -129,13 +131,13 @@ module _ (m : Image) (f : Facts m) (s : Step) (q : PlainStore) (name : ℕ → O
   store-alike k a = number-reply store k refl refl _ 0 _ 0 refl (rw (in-reg (s .a) hp ha, in-reg (s .c) hp hc, ← nz) (same-setOwed m₁ len (s .who) (suc (g / 64)) hp name _ s₁))
     where
       hp : s .who < 16
-      hp = low (s .who) (some-false _ (a .on-desk) 0)
+      hp = not-above 15 (s .who) (some-false _ (a .on-desk) 0)
 
       ha : s .a < 16
-      ha = low (s .a) (some-false _ (a .on-desk) 1)
+      ha = not-above 15 (s .a) (some-false _ (a .on-desk) 1)
 
       hc : s .c < 16
-      hc = low (s .c) (some-false _ (a .on-desk) 2)
+      hc = not-above 15 (s .c) (some-false _ (a .on-desk) 2)
 
       g : ℕ
       g = object m s (s .a)
@@ -157,7 +159,7 @@ module _ (m : Image) (f : Facts m) (s : Step) (q : PlainStore) (name : ℕ → O
 
   barrier-alike : Alike barrier
   unfolding act accept plainAct plainAccept offDesk
-  barrier-alike k a = number-reply barrier k refl refl _ 0 _ 0 refl (same-setOwed m₁ len (s .who) 0 (low (s .who) (a .on-desk)) name q (same-kept m f m₁ kept name q S))
+  barrier-alike k a = number-reply barrier k refl refl _ 0 _ 0 refl (same-setOwed m₁ len (s .who) 0 (not-above 15 (s .who) (a .on-desk)) name q (same-kept m f m₁ kept name q S))
     where
       m₁ : Image
       m₁ = dirtyCard m (owed m (s .who) - 1)
@@ -171,22 +173,22 @@ module _ (m : Image) (f : Facts m) (s : Step) (q : PlainStore) (name : ℕ → O
   hand-alike : Alike handOver
   unfolding act accept plainAct plainAccept offDesk
   hand-alike k a =
-      let hp : s .who < 16 = low (s .who) (some-false _ (a .on-desk) 0) in
-      let ha : s .a < 16 = low (s .a) (some-false _ (a .on-desk) 1) in
+      let hp : s .who < 16 = not-above 15 (s .who) (some-false _ (a .on-desk) 0) in
+      let ha : s .a < 16 = not-above 15 (s .a) (some-false _ (a .on-desk) 1) in
       number-reply handOver k refl refl _ 0 _ 0 refl
-      (rw (in-reg (s .a) hp ha) (same-setReg m f (s .b) (s .c) (object m s (s .a)) (low (s .b) (some-false _ (a .on-desk) 2)) (low (s .c) (some-false _ (a .on-desk) 3)) name q S (reach-of (s .a) hp ha)))
+      (rw (in-reg (s .a) hp ha) (same-setReg m f (s .b) (s .c) (object m s (s .a)) (not-above 15 (s .b) (some-false _ (a .on-desk) 2)) (not-above 15 (s .c) (some-false _ (a .on-desk) 3)) name q S (reach-of (s .a) hp ha)))
 
   drop-alike : Alike dropReg
   unfolding act accept plainAct plainAccept offDesk
   drop-alike k a =
       number-reply dropReg k refl refl _ 0 _ 0 refl
-      (rw (← ns .name-nil) (same-setReg m f (s .who) (s .a) 0 (low (s .who) (some-false _ (a .on-desk) 0)) (low (s .a) (some-false _ (a .on-desk) 1)) name q S (λ nz. absurd (nz refl))))
+      (rw (← ns .name-nil) (same-setReg m f (s .who) (s .a) 0 (not-above 15 (s .who) (some-false _ (a .on-desk) 0)) (not-above 15 (s .a) (some-false _ (a .on-desk) 1)) name q S (λ nz. absurd (nz refl))))
 
   read-alike : Alike read
   unfolding act accept plainAct plainAccept offDesk noObject pastEnd
   read-alike k a =
-      let hp : s .who < 16 = low (s .who) (some-false _ (a .on-desk) 0) in
-      let ha : s .a < 16 = low (s .a) (some-false _ (a .on-desk) 1) in
+      let hp : s .who < 16 = not-above 15 (s .who) (some-false _ (a .on-desk) 0) in
+      let ha : s .a < 16 = not-above 15 (s .a) (some-false _ (a .on-desk) 1) in
       let g : ℕ = object m s (s .a) in
       number-reply read k refl refl m _ q _
       (sym (ap (λ o. q .levelOf o (s .b)) (in-reg (s .a) hp ha) ∙ S .same-level g (s .b) (reach-of (s .a) hp ha (eqb-false _ _ (a .has-object))) (leb-false _ _ (a .not-past))))
@@ -195,13 +197,13 @@ module _ (m : Image) (f : Facts m) (s : Step) (q : PlainStore) (name : ℕ → O
   write-alike : Alike write
   unfolding act accept plainAct plainAccept offDesk noObject pastEnd
   write-alike k a =
-      let hp : s .who < 16 = low (s .who) (some-false _ (a .on-desk) 0) in
-      let ha : s .a < 16 = low (s .a) (some-false _ (a .on-desk) 1) in
+      let hp : s .who < 16 = not-above 15 (s .who) (some-false _ (a .on-desk) 0) in
+      let ha : s .a < 16 = not-above 15 (s .a) (some-false _ (a .on-desk) 1) in
       let g : ℕ = object m s (s .a) in
       number-reply write k refl refl _ 0 _ 0 refl
       (rw (in-reg (s .a) hp ha) (same-written m f g (s .b) (s .c) (reach-of (s .a) hp ha (eqb-false _ _ (a .has-object))) (leb-false _ _ (a .not-past)) name (ns .name-one) q S))
 
-  accepted-alike : NewMade m s → (n : Kind) → feeds n 0 ≡ true → refusal m s n ≡ 0 → kindOf (s .kind) ≡ n → Related name i (event m s (act m s n)) (plainAct q s i n)
+  accepted-alike : NewMakes m s → (n : Kind) → feeds n 0 ≡ true → refusal m s n ≡ 0 → kindOf (s .kind) ≡ n → Related name i (event m s (act m s n)) (plainAct q s i n)
   unfolding feeds
   accepted-alike o new e z k = new-alike o z k (admitted m s new z)
   accepted-alike o load e z k = load-alike k (admitted m s load z)
@@ -220,7 +222,7 @@ module _ (m : Image) (f : Facts m) (s : Step) (q : PlainStore) (name : ℕ → O
   accepted-alike o unknown e z k = false≢ e
 
   -- a player's step, but for a new answered 9
-  pub fed-alike : NewMade m s → (n : Kind) → feeds n 0 ≡ true → (refusal m s n ≡ 9 → ⊥) → kindOf (s .kind) ≡ n → Related name i (event m s (outcome m s n (refusal m s n))) (plainOutcome q s i n (plainRefusal q s n))
+  pub fed-alike : NewMakes m s → (n : Kind) → feeds n 0 ≡ true → (refusal m s n ≡ 9 → ⊥) → kindOf (s .kind) ≡ n → Related name i (event m s (outcome m s n (refusal m s n))) (plainOutcome q s i n (plainRefusal q s n))
   fed-alike o n e ne k = subst (λ t. Related name i (event m s (outcome m s n (refusal m s n))) (plainOutcome q s i n t)) (same-number m s q name i ns S n e ne) (go (refusal m s n) refl)
     where
       go : (r : ℕ) → refusal m s n ≡ r → Related name i (event m s (outcome m s n r)) (plainOutcome q s i n r)

@@ -1,13 +1,10 @@
 -- An image and a plain store that agree give a player's step the same number, but for 9.
 use mathlib.Core.Path.{_≡_, refl, sym, ap, _∙_}
-use mathlib.Core.Logic.{_⊎_, inl, inr}
 use mathlib.Core.Bool.{Bool, true, false, not, _&&_, _||_}
-use mathlib.Core.List.{List, [], _∷_}
-use Prim.Native.Nat.{ℕ, zero, suc, _+_, _≤_, _<_}
-use native.Mathlib.Omega.{arith}
-use lib.Dec.{eqb, ltb, leb}
-use lib.ListN.{getD, set}
-use borrow.Author.Tests.{eqb-false, ltb-false}
+use mathlib.Core.List.{[], _∷_}
+use Prim.Native.Nat.{ℕ, _<_}
+use lib.Dec.{eqb, leb}
+use borrow.Author.Tests.{eqb-false}
 use Rattle.model.specs.Base.{first}
 use Rattle.model.specs.Image.{Image, links, levels, owed}
 use Rattle.model.specs.Records.{Step, Kind, new, load, store, barrier, handOver, dropReg, read, write, begin, scan, trace, clean, finish, isDue, unknown}
@@ -15,49 +12,12 @@ use Rattle.model.specs.Mutate.{roomFor}
 use Rattle.model.specs.Steps.{isNew, unnamed, offDesk, badSize, object, owes, owing, noObject, pastEnd, noRoom, wrongPhase, nothingToDo, refusal}
 use Rattle.model.specs.Plain.{Object, isNil, PlainStore, holding, plainOwing, plainNoObject, plainLevels, plainPastEnd, plainNothing, plainRefusal, feeds}
 use Rattle.model.specs.Claim.{Chain, chain-reg}
-use Rattle.model.proofs.Laws.{false≢, some-false, first-none}
+use Rattle.model.proofs.Laws.{false≢, some-false, first-off, first-cons, first-passes}
 use Rattle.theory.specs.Same.{Names, SameStore, SameLines, Admitted}
 use Rattle.theory.proofs.PlainLaws.{nil-name}
+use Rattle.theory.proofs.Steps.{not-above, line}
 
 -- ---- tables of lines
-
--- a line taken off, where it is not the one that is given
-first-off : (n : ℕ) (l : List Bool) (i : ℕ) → (first n l ≡ n + i → ⊥) → first n l ≡ first n (set l i false)
-unfolding first
-first-off n [] i ne = refl
-first-off n (true ∷ l) zero ne = absurd (ne (omega arith))
-first-off n (true ∷ l) (suc i) ne = refl
-first-off n (false ∷ l) zero ne = refl
-first-off n (false ∷ l) (suc i) ne = first-off (suc n) l i (λ e. ne (omega arith))
-
--- the tables agree on a line, and on the rest where it does not apply
-first-cons : (n : ℕ) (b b′ : Bool) (l l′ : List Bool) → b ≡ b′ → (b ≡ false → first (suc n) l ≡ first (suc n) l′) → first n (b ∷ l) ≡ first n (b′ ∷ l′)
-unfolding first
-first-cons n true b′ l l′ e h = ap (λ z. first n (z ∷ l′)) e
-first-cons n false b′ l l′ e h = h refl ∙ ap (λ z. first n (z ∷ l′)) e
-
-first-low : (n : ℕ) (l : List Bool) → (first n l ≡ 0) ⊎ (n ≤ first n l)
-unfolding first
-first-low n [] = inl refl
-first-low n (true ∷ l) = inr (omega arith)
-first-low n (false ∷ l) = more (first-low (suc n) l)
-  where
-    more : (first (suc n) l ≡ 0) ⊎ (suc n ≤ first (suc n) l) → (first (suc n) l ≡ 0) ⊎ (n ≤ first (suc n) l)
-    more (inl e) = inl e
-    more (inr h) = inr (omega arith)
-
--- the line that is given passes
-first-passes : (n : ℕ) (l : List Bool) (i : ℕ) → first (suc n) l ≡ suc n + i → getD l i false ≡ true
-unfolding first
-first-passes n [] i e = absurd (omega arith)
-first-passes n (true ∷ l) zero e = refl
-first-passes n (true ∷ l) (suc i) e = absurd (omega arith)
-first-passes n (false ∷ l) zero e = absurd (past (first-low (suc (suc n)) l))
-  where
-    past : (first (suc (suc n)) l ≡ 0) ⊎ (suc (suc n) ≤ first (suc (suc n)) l) → ⊥
-    past (inl z) = omega arith
-    past (inr z) = omega arith
-first-passes n (false ∷ l) (suc i) e = first-passes (suc n) l i (omega arith)
 
 lines-number : (u b phase off w x y z w′ x′ y′ z′ : Bool) → SameLines phase off w x y z w′ x′ y′ z′
     → first 3 (u ∷ off ∷ w ∷ x ∷ y ∷ b ∷ false ∷ phase ∷ z ∷ []) ≡ first 3 (u ∷ off ∷ w′ ∷ x′ ∷ y′ ∷ b ∷ false ∷ false ∷ z′ ∷ [])
@@ -74,13 +34,8 @@ lines-number u b phase off w x y z w′ x′ y′ z′ l =
 
 -- ---- accepted steps
 
--- a player or register on the desk
-pub low : (x : ℕ) → ltb 15 x ≡ false → x < 16
-low x e = omega (arith, ltb-false 15 x e)
-
 pub admitted : (m : Image) (s : Step) (n : Kind) → refusal m s n ≡ 0 → Admitted m s n
-unfolding refusal
-admitted m s n e = record { on-desk = first-none 2 _ e 1; has-object = first-none 2 _ e 3; not-past = first-none 2 _ e 4; good-size = first-none 2 _ e 5 }
+admitted m s n e = record { on-desk = line m s n e 1; has-object = line m s n e 3; not-past = line m s n e 4; good-size = line m s n e 5 }
 
 -- only a new is answered 9
 pub not-nine : (m : Image) (s : Step) (n : Kind) → isNew n ≡ false → refusal m s n ≡ 9 → ⊥
@@ -146,16 +101,16 @@ module _ (m : Image) (s : Step) (q : PlainStore) (name : ℕ → Object) (i : �
 
   lines-of : (n : Kind) → feeds n 0 ≡ true → LinesOf n
   unfolding wrongPhase offDesk owing noObject pastEnd nothingToDo plainOwing plainNoObject plainPastEnd plainNothing feeds
-  lines-of new e = bare-lines _ _ _ (λ d. owes-alike (s .who) (low (s .who) (some-false _ d 0)))
-  lines-of load e = object-lines _ (s .b) (s .c) (links m) (q .linkCount) (λ d. (low (s .who) (some-false _ d 0), low (s .b) (some-false _ d 2))) (links-alike (s .b))
-  lines-of store e = object-lines _ (s .a) (s .b) (links m) (q .linkCount) (λ d. (low (s .who) (some-false _ d 0), low (s .a) (some-false _ d 1))) (links-alike (s .a))
-  lines-of barrier e = barrier-lines _ (low (s .who))
+  lines-of new e = bare-lines _ _ _ (λ d. owes-alike (s .who) (not-above 15 (s .who) (some-false _ d 0)))
+  lines-of load e = object-lines _ (s .b) (s .c) (links m) (q .linkCount) (λ d. (not-above 15 (s .who) (some-false _ d 0), not-above 15 (s .b) (some-false _ d 2))) (links-alike (s .b))
+  lines-of store e = object-lines _ (s .a) (s .b) (links m) (q .linkCount) (λ d. (not-above 15 (s .who) (some-false _ d 0), not-above 15 (s .a) (some-false _ d 1))) (links-alike (s .a))
+  lines-of barrier e = barrier-lines _ (not-above 15 (s .who))
   lines-of handOver e =
       bare-lines _ _ _
-      (λ d. ap (λ z. z || owes m s (s .b)) (owes-alike (s .who) (low (s .who) (some-false _ d 0))) ∙ ap (λ z. q .owing (s .who) || z) (owes-alike (s .b) (low (s .b) (some-false _ d 2))))
-  lines-of dropReg e = bare-lines _ _ _ (λ d. owes-alike (s .who) (low (s .who) (some-false _ d 0)))
-  lines-of read e = object-lines _ (s .a) (s .b) (levels m) (plainLevels q s) (λ d. (low (s .who) (some-false _ d 0), low (s .a) (some-false _ d 1))) (levels-alike (s .a))
-  lines-of write e = object-lines _ (s .a) (s .b) (levels m) (plainLevels q s) (λ d. (low (s .who) (some-false _ d 0), low (s .a) (some-false _ d 1))) (levels-alike (s .a))
+      (λ d. ap (λ z. z || owes m s (s .b)) (owes-alike (s .who) (not-above 15 (s .who) (some-false _ d 0))) ∙ ap (λ z. q .owing (s .who) || z) (owes-alike (s .b) (not-above 15 (s .b) (some-false _ d 2))))
+  lines-of dropReg e = bare-lines _ _ _ (λ d. owes-alike (s .who) (not-above 15 (s .who) (some-false _ d 0)))
+  lines-of read e = object-lines _ (s .a) (s .b) (levels m) (plainLevels q s) (λ d. (not-above 15 (s .who) (some-false _ d 0), not-above 15 (s .a) (some-false _ d 1))) (levels-alike (s .a))
+  lines-of write e = object-lines _ (s .a) (s .b) (levels m) (plainLevels q s) (λ d. (not-above 15 (s .who) (some-false _ d 0), not-above 15 (s .a) (some-false _ d 1))) (levels-alike (s .a))
   lines-of begin e = false≢ e
   lines-of scan e = false≢ e
   lines-of trace e = false≢ e

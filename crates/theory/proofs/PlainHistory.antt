@@ -8,7 +8,8 @@ use Rattle.model.specs.Steps.{refusal, act, step, run, after}
 use Rattle.model.specs.Batch.{Batch, callNumber, events, batchWith, batchAt}
 use Rattle.model.specs.Plain.{SameAnswers}
 use Rattle.model.specs.Claim.{Lent, eventsOf, history}
-use Rattle.theory.specs.Same.{Facts, WordsStay, NewMade, Runs, runs-none, runs-more}
+use Rattle.theory.specs.Same.{WordsStay, NewMakes, Runs, runs-none, runs-more}
+use Rattle.theory.specs.Cycle.{Facts}
 use Rattle.theory.proofs.PlainList.{plain-store-runs}
 
 -- Ok: the image is undamaged, and its words are of w bits
@@ -37,7 +38,7 @@ module _ (w : ℕ) (Ok : Image → Type 0)
 
   module _
       (facts : (m : Image) → Ok m → Facts m)
-      (new-made : (m : Image) (s : Step) → Ok m → NewMade m s)
+      (new-made : (m : Image) (s : Step) → Ok m → NewMakes m s)
       (finish-stays : (m : Image) (s : Step) → Ok m → refusal m s finish ≡ 0 → WordsStay m ((act m s finish) .image)) where
     pub plain-history : (ws : List ℕ) (bs : List Lent) → Ok (parts w ws) → SameAnswers (parts w ws) (history w ws bs)
     plain-history ws bs o = plain-store-runs Ok step-ok facts new-made finish-stays (parts w ws) (history w ws bs) (history-runs ws bs) o

@@ -7,11 +7,12 @@ use native.Mathlib.Decide.{ℕ-discrete}
 use native.Mathlib.Omega.{arith}
 use lib.Dec.{eqb}
 use borrow.Author.Tests.{eq-eqb, ne-eqb}
-use Rattle.model.specs.Image.{Image, word, isStart, size, links, link, levels, level, reg, owed}
+use Rattle.model.specs.Image.{Image, word, size, links, link, levels, level, reg, owed}
 use Rattle.model.specs.Plain.{Object, old, made, sameObject, isNil, PlainStore, upd, updObject, ofImage, plainOf}
 use Rattle.model.specs.Claim.{Chain, chain-reg, chain-link}
-use Rattle.theory.specs.Heap.{Proper}
-use Rattle.theory.specs.Same.{Names, Agrees, SameStore, Facts, WordsStay, KeptWords}
+use Rattle.theory.specs.Same.{Names, Agrees, SameStore, WordsStay, KeptWords}
+use Rattle.theory.specs.Cycle.{Facts}
+use Rattle.theory.proofs.Safe.{chain-least, chain-start}
 
 -- ---- one value of a function replaced
 
@@ -141,18 +142,9 @@ nil-name {name} n g = go (ℕ-discrete g 0)
 
 -- ---- chains
 
--- what a chain reaches is in every set that holds what registers hold and what members link to
-pub chain-least : (m : Image) (P : ℕ → Type 0) → ((p r : ℕ) → p < 16 → r < 16 → (reg m p r ≡ 0 → ⊥) → P (reg m p r))
-    → ((g i : ℕ) → P g → i < links m g → (link m g i ≡ 0 → ⊥) → P (link m g i)) → {a : ℕ} → Chain m a → P a
-chain-least m P regs more (chain-reg p r hp hr e nz) = subst P e (regs p r hp hr (λ z. nz (sym e ∙ z)))
-chain-least m P regs more (chain-link g i c l e nz) = subst P e (more g i (chain-least m P regs more c) l (λ z. nz (sym e ∙ z)))
-
 -- a register or link that holds what y is
 pub moved : {x y : ℕ} (P : ℕ → Type 0) → x ≡ y → ((y ≡ 0 → ⊥) → P y) → (x ≡ 0 → ⊥) → P x
 moved P e h nz = subst P (sym e) (h (λ z. nz (e ∙ z)))
-
-pub chain-start : (m : Image) → Proper m → {a : ℕ} → Chain m a → isStart m a ≡ true
-chain-start m o c = chain-least m (λ a. isStart m a ≡ true) (o .reg-start) (o .link-start) c
 
 -- an object in reach has its size, number of links and links inside
 pub in-object : (m : Image) → Facts m → (g : ℕ) → Chain m g → links m g + 2 ≤ 4 * size m g

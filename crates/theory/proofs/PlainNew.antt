@@ -9,8 +9,10 @@ use Rattle.model.specs.Image.{Image, word, size, links, link, levels, level, re
 use Rattle.model.specs.Plain.{Object, old, made, PlainStore, upd, updObject, putReg, putObject}
 use Rattle.model.specs.Claim.{Chain, chain-reg, chain-link}
 use Rattle.model.proofs.Laws.{false≢}
-use Rattle.theory.specs.Same.{Names, Agrees, SameStore, Facts, ObjectMade}
-use Rattle.theory.proofs.PlainLaws.{upd-same, upd-other, updObject-same, updObject-other, name-fresh, chain-least, chain-start, level-inside, agrees-narrow, agrees-either, agrees-renew, head-stays, link-stays, level-stays, links-in-reach}
+use Rattle.theory.specs.Same.{Names, Agrees, SameStore, ObjectMade}
+use Rattle.theory.specs.Cycle.{Facts}
+use Rattle.theory.proofs.Safe.{chain-least, chain-start}
+use Rattle.theory.proofs.PlainLaws.{upd-same, upd-other, updObject-same, updObject-other, name-fresh, level-inside, agrees-narrow, agrees-either, agrees-renew, head-stays, link-stays, level-stays, links-in-reach}
 use Rattle.theory.proofs.PlainWrites.{held-after, regs-agree}
 
 module _ (m m′ : Image) (f : Facts m) (p r b c g : ℕ) (hp : p < 16) (hr : r < 16) (hc : c + 2 ≤ 4 * b) (o : ObjectMade m m′ p r b c g) where

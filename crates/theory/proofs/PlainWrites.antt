@@ -3,7 +3,7 @@ use mathlib.Core.Path.{_≡_, refl, sym, ap, subst, _∙_}
 use mathlib.Core.Logic.{_⊎_, inl, inr}
 use mathlib.Core.Bool.{true, not}
 use Prim.Native.Nat.{ℕ, _+_, _*_, _≤_, _<_}
-use native.Mathlib.Decide.{ℕ-discrete, decLt}
+use native.Mathlib.Decide.{ℕ-discrete}
 use native.Mathlib.Omega.{arith}
 use lib.Dec.{eqb}
 use lib.ListN.{length}
@@ -12,8 +12,11 @@ use Rattle.model.specs.Image.{Image, word, isStart, size, links, link, levels, 
 use Rattle.model.specs.Plain.{Object, PlainStore, upd, putReg, putLink, putLevel, putOwing}
 use Rattle.model.specs.Claim.{Chain, chain-reg, chain-link}
 use Rattle.model.proofs.Laws.{nth-put-same, nth-put-other}
-use Rattle.theory.specs.Same.{SameStore, Facts}
-use Rattle.theory.proofs.PlainLaws.{both, upd-same, upd-other, upd-at, updObject-at, chain-least, moved, chain-start, in-object, level-inside, agrees-narrow, count-stays, agrees-renew}
+use Rattle.theory.specs.Same.{SameStore}
+use Rattle.theory.specs.Cycle.{Facts}
+use Rattle.theory.proofs.Safe.{chain-least, chain-start}
+use Rattle.theory.proofs.PlainLaws.{both, upd-same, upd-other, upd-at, updObject-at, moved, in-object, level-inside, agrees-narrow, count-stays, agrees-renew}
+use Rattle.theory.proofs.Walk.{same-place}
 
 -- ---- a register: load, hand, drop
 
@@ -66,15 +69,6 @@ module _ (m : Image) (f : Facts m) where
   start-of : (g : ℕ) → Chain m g → isStart m g ≡ true
   start-of g c = chain-start m (f .proper) c
 
-  -- two words of objects are one only if object and place are
-  same-place : (g h i j : ℕ) → Chain m g → Chain m h → i < 4 * size m g → j < 4 * size m h → 4 * g + i ≡ 4 * h + j → (g ≡ h) × (i ≡ j)
-  same-place g h i j cg ch li lj e = go (decLt g h) (decLt h g)
-    where
-      go : Dec (g < h) → Dec (h < g) → (g ≡ h) × (i ≡ j)
-      go (yes lt) d = absurd (omega (arith, f .laid .apart g h (start-of g cg) (start-of h ch) lt))
-      go (no x) (yes lt) = absurd (omega (arith, f .laid .apart h g (start-of h ch) (start-of g cg) lt))
-      go (no x) (no y) = (omega arith, omega arith)
-
   module _ (g x v : ℕ) (cg : Chain m g) (behind : 2 ≤ x) (hx : x < 4 * size m g) where
     word-here : (h j : ℕ) → (h ≡ g) × (j ≡ x) → word (setWord m g x v) h j ≡ v
     unfolding setWord withHeap word
@@ -84,7 +78,7 @@ module _ (m : Image) (f : Facts m) where
 
     word-there : (h j : ℕ) → Chain m h → j < 4 * size m h → ((h ≡ g) × (j ≡ x) → ⊥) → word (setWord m g x v) h j ≡ word m h j
     unfolding setWord withHeap word
-    word-there h j ch hj ne = nth-put-other (m .heap) (4 * g + x) (4 * h + j) v (λ e. ne (same-place h g j x ch cg hj hx e))
+    word-there h j ch hj ne = nth-put-other (m .heap) (4 * g + x) (4 * h + j) v (λ e. ne (same-place m (f .laid) h g j x (start-of h ch) (start-of g cg) hj hx e))
 
     head-stays : (h j : ℕ) → Chain m h → j < 2 → word (setWord m g x v) h j ≡ word m h j
     head-stays h j ch l = word-there h j ch (omega (arith, in-object m f h ch)) (λ e. omega (arith, e .1))

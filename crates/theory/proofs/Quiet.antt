@@ -1,20 +1,21 @@
--- The collector's steps leave heap, start bits and registers as they are, and mark only what they reach.
+-- The collector's steps but finish leave heap, start bits, registers and owed cards as they are, and mark only what they reach.
 use mathlib.Core.Path.{_≡_, refl, sym, subst, _∙_}
 use mathlib.Core.Logic.{_⊎_, inl, inr}
 use mathlib.Core.Bool.{Bool, true, false, cond}
 use mathlib.Core.List.{List, [], _∷_, List·Memᴰ, List·Memᴰ·head, List·Memᴰ·tail}
-use Prim.Native.Nat.{ℕ, zero, suc, _*_, _-_, _/_, _≤_}
+use Prim.Native.Nat.{ℕ, zero, suc, _+_, _*_, _-_, _/_}
 use native.Mathlib.Decide.{ℕ-discrete}
 use native.Mathlib.Omega.{arith}
 use lib.Dec.{eqb, ltb}
 use lib.ListN.{getD, take, drop}
 use borrow.Author.Tests.{eqb-false, not-true}
-use Rattle.model.specs.Base.{some, first, bit, setBit}
-use Rattle.model.specs.Image.{Image, word, isStart, marked, links, link, reg, output, hand, nextLink, handCard, nextGranule, input, entry, count, dirty, setMark, setState, setTracer, setScanned, dirtyCard, withMarks, withCards, withPackets, withTracers, withPlayers, withGeneral, fields-open}
+use Rattle.model.specs.Base.{some, bit, setBit}
+use Rattle.model.specs.Image.{Image, word, isStart, marked, links, link, reg, owed, hand, nextLink, handCard, nextGranule, input, entry, count, dirty, setMark, setState, setTracer, setScanned, withMarks, withCards, withPackets, withTracers, withPlayers, withGeneral, fields-open}
 use Rattle.model.specs.Collect.{append, pop, takeOutput, enter, reach, reachAll, scanPlayer, beginCycle, putHand, takeObject, traceHand, traceInput, tracePool, traceOutput, traceLine, traceStep, putCard, nextMarked, cleanTo, cleanCard, lowestDirty, takeCard, cleanLine, cleanStep}
-use Rattle.model.proofs.Laws.{some-false}
+use Rattle.model.proofs.Laws.{some-false, nth-put-other, first-passes}
 use Rattle.model.proofs.Bits.{setBit-other}
 use Rattle.theory.specs.Cycle.{Quiet}
+use Rattle.theory.proofs.Reaching.{enter-cases}
 
 -- the image with other cards, packets, tracers, players and general words
 abbrev pub silent : Image → (cs ps ts ls gs : List ℕ) → Image
@@ -24,27 +25,16 @@ silent m cs ps ts ls gs = record { width = m .width; k = m .k; heap = m .heap; s
 abbrev pub Next : (ℕ → Type 0) → Image → ℕ → Type 0
 Next P m t = (hand m t ≡ 0 → ⊥) → (link m (hand m t) (nextLink m t) ≡ 0 → ⊥) → P (link m (hand m t) (nextLink m t))
 
--- the first line passed where its number is given
-first-past : (n m : ℕ) (l : List Bool) → first (suc n) l ≡ suc m → n ≤ m
-unfolding first
-first-past n m [] e = absurd (omega arith)
-first-past n m (true ∷ l) e = omega arith
-first-past n m (false ∷ l) e = omega (arith, first-past (suc n) m l e)
-
-first-line : (n : ℕ) (b : Bool) (l : List Bool) → first (suc n) (b ∷ l) ≡ suc n → b ≡ true
-unfolding first
-first-line n true l e = refl
-first-line n false l e = absurd (omega (arith, first-past (suc n) n l e))
-
 module _ {P : ℕ → Type 0} where
   pub quiet-refl : (m : Image) → Quiet P m m
-  quiet-refl m = record { same-word = λ g i. refl; same-start = λ g. refl; same-reg = λ p r. refl; new-marks = λ g k. inl k }
+  quiet-refl m = record { same-word = λ g i. refl; same-start = λ g. refl; same-reg = λ p r. refl; same-owed = λ p. refl; new-marks = λ g k. inl k }
 
   pub quiet-trans : {l m n : Image} → Quiet P l m → Quiet P m n → Quiet P l n
   quiet-trans {l} {m} x y = record {
     same-word = λ g i. y .same-word g i ∙ x .same-word g i;
     same-start = λ g. y .same-start g ∙ x .same-start g;
     same-reg = λ p r. y .same-reg p r ∙ x .same-reg p r;
+    same-owed = λ p. y .same-owed p ∙ x .same-owed p;
     new-marks = λ g k. two g (y .new-marks g k);
   }
     where
@@ -56,31 +46,26 @@ module _ {P : ℕ → Type 0} where
   quiet-cond true p q = p
   quiet-cond false p q = q
 
-  pub quiet-silent : (m : Image) (cs ps ts ls gs : List ℕ) → Quiet P m (silent m cs ps ts ls gs)
-  unfolding word isStart reg marked
-  quiet-silent m cs ps ts ls gs = record { same-word = λ g i. refl; same-start = λ g. refl; same-reg = λ p r. refl; new-marks = λ g k. inl k }
+  quiet-silent : (m : Image) (cs ps ts gs : List ℕ) → Quiet P m (silent m cs ps ts (m .players) gs)
+  unfolding word isStart reg owed marked
+  quiet-silent m cs ps ts gs = record { same-word = λ g i. refl; same-start = λ g. refl; same-reg = λ p r. refl; same-owed = λ p. refl; new-marks = λ g k. inl k }
 
   -- ---- reach
 
   quiet-mark : (m : Image) (g : ℕ) → P g → Quiet P m (setMark m g)
-  unfolding word isStart reg marked setMark withMarks
-  quiet-mark m g ok = record { same-word = λ h i. refl; same-start = λ h. refl; same-reg = λ p r. refl; new-marks = λ h k. by h k (ℕ-discrete h g) }
+  unfolding word isStart reg owed marked setMark withMarks
+  quiet-mark m g ok = record { same-word = λ h i. refl; same-start = λ h. refl; same-reg = λ p r. refl; same-owed = λ p. refl; new-marks = λ h k. by h k (ℕ-discrete h g) }
     where
       by : (h : ℕ) → bit (m .width) (setBit (m .width) (m .marks) g) h ≡ true → Dec (h ≡ g) → (bit (m .width) (m .marks) h ≡ true) ⊎ P h
       by h k (yes e) = inr (subst P (sym e) ok)
       by h k (no ne) = inl (sym (setBit-other (m .width) (m .marks) g h ne) ∙ k)
 
   quiet-enter : (m : Image) (t g : ℕ) → Quiet P m (enter m t g)
-  unfolding enter fields-open append
-  quiet-enter m t g = go (output m t)
-    where
-      go : (x : ℕ) → Quiet P m (elim x [ zero ↦ dirtyCard m (g / 64) | suc p ↦ append m p g ])
-      go zero = quiet-silent m _ _ _ _ _
-      go (suc p) = quiet-silent m _ _ _ _ _
+  quiet-enter m t g = enter-cases (Quiet P m) m t g (unfold fields-open in quiet-silent m _ _ _ _) (λ p e. unfold append withPackets in quiet-silent m _ _ _ _)
 
   quiet-output : (m : Image) (t : ℕ) → Quiet P m (takeOutput m t)
   unfolding takeOutput setTracer withTracers
-  quiet-output m t = quiet-silent m _ _ _ _ _
+  quiet-output m t = quiet-silent m _ _ _ _
 
   -- what is reached, if it is an object at all, passes
   pub quiet-reach : (m : Image) (t g : ℕ) → ((g ≡ 0 → ⊥) → P g) → Quiet P m (reach m t g)
@@ -100,15 +85,19 @@ module _ {P : ℕ → Type 0} where
 
   pub quiet-begin : (m : Image) → Quiet P m (beginCycle m)
   unfolding beginCycle withCards withGeneral
-  quiet-begin m = quiet-silent m _ _ _ _ _
+  quiet-begin m = quiet-silent m _ _ _ _
+
+  quiet-scanned : (m : Image) (p : ℕ) → Quiet P m (setScanned m p)
+  unfolding setScanned withPlayers word isStart reg owed marked
+  quiet-scanned m p = record { same-word = λ g i. refl; same-start = λ g. refl; same-reg = λ q r. refl; same-owed = λ q. nth-put-other (m .players) (2 * p + 1) (2 * q) 1 (λ e. omega arith); new-marks = λ g k. inl k }
 
   pub quiet-scan : (m : Image) (t p : ℕ) → ((g : ℕ) → List·Memᴰ g (take 16 (drop (16 * p) (m .regs))) → (g ≡ 0 → ⊥) → P g) → Quiet P m (scanPlayer m t p)
-  unfolding scanPlayer setScanned withPlayers
-  quiet-scan m t p ok = let r : Image = reachAll m t (take 16 (drop (16 * p) (m .regs))) in quiet-trans (quiet-reachAll m t _ ok) (quiet-silent r _ _ _ _ _)
+  unfolding scanPlayer
+  quiet-scan m t p ok = quiet-trans (quiet-reachAll m t _ ok) (quiet-scanned _ p)
 
   quiet-hand : (m : Image) (t g i : ℕ) → Quiet P m (putHand m t g i)
   unfolding putHand setTracer withTracers
-  quiet-hand m t g i = quiet-silent m _ _ _ _ _
+  quiet-hand m t g i = quiet-silent m _ _ _ _
 
   quiet-take : (m : Image) (t g : ℕ) → Quiet P m (takeObject m t g)
   unfolding takeObject
@@ -122,10 +111,10 @@ module _ {P : ℕ → Type 0} where
 
   quiet-traceInput : (m : Image) (t : ℕ) → Quiet P m (traceInput m t)
   unfolding traceInput
-  quiet-traceInput m t = quiet-cond (dirty m (entry m (input m t - 1) (count m (input m t - 1) - 1) / 64)) (quiet-pop (input m t - 1)) (quiet-trans (quiet-pop (input m t - 1)) (quiet-take (pop m (input m t - 1)) t _))
+  quiet-traceInput m t = quiet-cond (dirty m (entry m (input m t - 1) (count m (input m t - 1) - 1) / 64)) (unfold pop fields-open in quiet-silent m _ _ _ _) (quiet-trans (quiet-pop (input m t - 1)) (quiet-take (pop m (input m t - 1)) t _))
     where
       quiet-pop : (p : ℕ) → Quiet P m (pop m p)
-      quiet-pop p = unfold pop withPackets in quiet-silent m _ _ _ _ _
+      quiet-pop p = unfold pop withPackets in quiet-silent m _ _ _ _
 
   pub quiet-trace : (m : Image) (t : ℕ) → Next P m t → Quiet P m (traceStep m t)
   unfolding traceStep traceLine tracePool traceOutput setTracer withTracers
@@ -133,10 +122,10 @@ module _ {P : ℕ → Type 0} where
     where
       go : (x : ℕ) → traceLine m t ≡ x → Quiet P m (getD (m ∷ traceHand m t ∷ traceInput m t ∷ tracePool m t ∷ traceOutput m t ∷ []) x m)
       go zero e = quiet-refl m
-      go (suc zero) e = quiet-traceHand m t ok (eqb-false _ _ (not-true _ (first-line 0 _ _ e)))
+      go (suc zero) e = quiet-traceHand m t ok (eqb-false _ _ (not-true _ (first-passes 0 _ 0 e)))
       go (suc (suc zero)) e = quiet-traceInput m t
-      go (suc (suc (suc zero))) e = quiet-silent m _ _ _ _ _
-      go (suc (suc (suc (suc zero)))) e = quiet-silent m _ _ _ _ _
+      go (suc (suc (suc zero))) e = quiet-silent m _ _ _ _
+      go (suc (suc (suc (suc zero)))) e = quiet-silent m _ _ _ _
       go (suc (suc (suc (suc (suc x))))) e = quiet-refl m
 
   quiet-cleanCard : (m : Image) (t : ℕ) → Quiet P m (cleanCard m t)
@@ -144,10 +133,10 @@ module _ {P : ℕ → Type 0} where
   quiet-cleanCard m t = go (nextMarked m (64 * handCard m t - nextGranule m t) (nextGranule m t))
     where
       card : (c n : ℕ) → Quiet P m (putCard m t c n)
-      card c n = unfold putCard setTracer withTracers in quiet-silent m _ _ _ _ _
+      card c n = unfold putCard setTracer withTracers in quiet-silent m _ _ _ _
 
       go : (x : ℕ) → Quiet P m (cleanTo m t x)
-      go zero = unfold cleanTo in card 0 0
+      go zero = unfold cleanTo putCard fields-open in quiet-silent m _ _ _ _
       go (suc g) = unfold cleanTo in quiet-trans (card (handCard m t) (suc g)) (quiet-take _ t g)
 
   pub quiet-clean : (m : Image) (t : ℕ) → Next P m t → Quiet P m (cleanStep m t)
@@ -156,7 +145,7 @@ module _ {P : ℕ → Type 0} where
     where
       go : (x : ℕ) → cleanLine m t ≡ x → Quiet P m (getD (m ∷ traceHand m t ∷ cleanCard m t ∷ takeCard m t (lowestDirty m - 1) ∷ []) x m)
       go zero e = quiet-refl m
-      go (suc zero) e = quiet-traceHand m t ok (eqb-false _ _ (not-true _ (first-line 0 _ _ e)))
+      go (suc zero) e = quiet-traceHand m t ok (eqb-false _ _ (not-true _ (first-passes 0 _ 0 e)))
       go (suc (suc zero)) e = quiet-cleanCard m t
-      go (suc (suc (suc zero))) e = quiet-silent m _ _ _ _ _
+      go (suc (suc (suc zero))) e = quiet-silent m _ _ _ _
       go (suc (suc (suc (suc x)))) e = quiet-refl m

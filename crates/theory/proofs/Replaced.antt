@@ -11,10 +11,11 @@ use Rattle.model.specs.Image.{Image, granules, word, marked, links, link, state
 use Rattle.model.specs.Finish.{scannedOff}
 use Rattle.model.specs.Steps.{run}
 use Rattle.model.proofs.Laws.{false≢, nth-put-same, nth-put-other, length-put}
+use Rattle.model.proofs.Bits.{no-bit}
 use Rattle.theory.specs.Cover.{Covered, owes-by, to-nil, to-marked, is-coming, is-owed}
 use Rattle.theory.specs.Lines.{PacketsOk, TracersOk, NilOr, GeneralOk, HeapOk, Start, Marked, Lines, Undamaged, none}
 use Rattle.theory.specs.New.{reheaped}
-use Rattle.theory.proofs.Beginning.{zeros-nth, length-zeros, running-ok, no-bit}
+use Rattle.theory.proofs.Beginning.{zeros-nth, length-zeros, running-ok}
 use Rattle.theory.proofs.Covering.{same-coming}
 use Rattle.theory.proofs.Sections.{tracers-mono}
 
@@ -29,7 +30,7 @@ off-length [] = refl
 off-length (o ∷ []) = refl
 off-length (o ∷ s ∷ l) = ap (λ n. suc (suc n)) (off-length l)
 
-off-owed : (l : List ℕ) (p : ℕ) → nth (scannedOff l) (2 * p) ≡ nth l (2 * p)
+pub off-owed : (l : List ℕ) (p : ℕ) → nth (scannedOff l) (2 * p) ≡ nth l (2 * p)
 unfolding scannedOff nth
 off-owed [] p = refl
 off-owed (o ∷ []) p = refl

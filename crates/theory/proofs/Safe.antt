@@ -1,20 +1,25 @@
--- Safety: with Cover, a finish keeps what a chain from a register reaches.
-use mathlib.Core.Path.{_≡_, refl, sym, ap, subst, _∙_}
+-- Chains, and safety: with Cover, a finish keeps what a chain from a register reaches.
+use mathlib.Core.Path.{_≡_, refl, sym, subst, _∙_}
 use mathlib.Core.Logic.{_⊎_, inl, inr}
 use mathlib.Core.Bool.{true, false}
 use Prim.Native.Nat.{ℕ, _<_}
 use native.Mathlib.Omega.{arith}
-use Rattle.model.specs.Image.{Image, granules, isStart, marked, links, link}
+use Rattle.model.specs.Image.{Image, granules, isStart, marked, links, link, reg}
 use Rattle.model.specs.Finish.{Due, due-entered, due-in-hand, due-dirty, due-card-in-hand, found-reg, found-link, found-due, Kept, kept-marked, kept-found}
 use Rattle.model.specs.Claim.{Chain, chain-reg, chain-link}
 use Rattle.model.proofs.Laws.{false≢, bool-cases}
 use Rattle.theory.specs.Heap.{Proper, Laid}
 use Rattle.theory.specs.Cover.{Coming, on-dirty, on-entry, on-hand, on-card, owes-by, Covered, to-nil, to-marked, is-coming, is-owed, Cover}
 
+-- what a chain reaches is in every set that holds what registers hold and what members link to
+pub chain-least : (m : Image) (P : ℕ → Type 0) → ((p r : ℕ) → p < 16 → r < 16 → (reg m p r ≡ 0 → ⊥) → P (reg m p r))
+    → ((g i : ℕ) → P g → i < links m g → (link m g i ≡ 0 → ⊥) → P (link m g i)) → {a : ℕ} → Chain m a → P a
+chain-least m P regs more (chain-reg p r hp hr e nz) = subst P e (regs p r hp hr (λ z. nz (sym e ∙ z)))
+chain-least m P regs more (chain-link g i c l e nz) = subst P e (more g i (chain-least m P regs more c) l (λ z. nz (sym e ∙ z)))
+
 -- a chain reaches objects
 pub chain-start : (m : Image) → Proper m → {a : ℕ} → Chain m a → isStart m a ≡ true
-chain-start m o (chain-reg p r hp hr e nz) = ap (isStart m) (sym e) ∙ o .reg-start p r hp hr (λ z. nz (sym e ∙ z))
-chain-start m o (chain-link g i c l e nz) = ap (isStart m) (sym e) ∙ o .link-start g i (chain-start m o c) l (λ z. nz (sym e ∙ z))
+chain-start m o c = chain-least m (λ a. isStart m a ≡ true) (o .reg-start) (o .link-start) c
 
 -- objects lie below the last granule
 pub start-below : (m : Image) → Laid m → (g : ℕ) → isStart m g ≡ true → g < granules m

@@ -8,12 +8,12 @@ use native.Mathlib.Decide.{ℕ-discrete}
 use native.Mathlib.Omega.{arith}
 use lib.ListN.{length}
 use lib.Seq.{set-comm}
-use Rattle.theory.specs.Lines.{Pair, Pairs, HeldOk, TracersOk, CardsOk, PlayersOk, NilOr, RegsOk, MarksOk, none, one}
-use Rattle.theory.proofs.Packets.{Wrote, nth-put}
 use Rattle.model.specs.Base.{nth, put, bit, setBit}
 use Rattle.model.specs.Image.{dirtyState}
 use Rattle.model.proofs.Bits.{setBit-other}
 use Rattle.model.proofs.Laws.{nth-put-same, nth-put-other, length-put}
+use Rattle.theory.specs.Lines.{Pair, Pairs, HeldOk, TracersOk, CardsOk, PlayersOk, NilOr, RegsOk, MarksOk, none, one}
+use Rattle.theory.proofs.Packets.{Wrote, nth-put}
 
 -- ---- tracers
 

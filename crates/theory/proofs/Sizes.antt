@@ -1,36 +1,18 @@
 -- The sizes of the sections of an image that fits, and that an image with the lines fits.
-use mathlib.Core.Path.{_≡_, refl, ap, _∙_, sym}
-use mathlib.Core.Logic.{_⊎_, inl, inr}
-use mathlib.Core.Bool.{true}
-use mathlib.Core.List.{List, map}
-use Prim.Native.Nat.{ℕ, _≤_, _*_, _/_, _%_, _^_, _<_}
-use native.Mathlib.Nat.{zero-div}
-use native.Mathlib.Decide.{decLt}
+use mathlib.Core.Path.{_≡_, refl, ap, _∙_}
+use mathlib.Core.Logic.{_⊎_}
+use mathlib.Core.List.{map}
+use Prim.Native.Nat.{ℕ, _≤_, _*_}
 use native.Mathlib.Omega.{arith}
 use lib.ListN.{length, getD}
-use Rattle.model.specs.Base.{testBit, bit}
 use Rattle.model.specs.Image.{lengths, mostCards, Image, sections}
-use Rattle.model.proofs.Laws.{false≢}
 use Rattle.model.proofs.Words.{Fits, width-cases}
+use Rattle.model.proofs.Bits.{bit-within}
 use Rattle.theory.specs.Lines.{Sizes, Lines}
 use Rattle.theory.proofs.Facts.{some-card}
 use Rattle.theory.proofs.HeapOf.{bit-word}
-use Rattle.theory.proofs.Judged.{nth-out}
 
 -- ---- sizes from lengths
-
--- a bit that is set is in a word
-bit-in : (w : ℕ) (ws : List ℕ) (g : ℕ) → bit w ws g ≡ true → g / w < length ws
-unfolding bit testBit
-bit-in w ws g e = go (decLt (g / w) (length ws))
-  where
-    go : Dec (g / w < length ws) → g / w < length ws
-    go (yes h) = h
-    go (no h) = false≢ (sym (unfold bit testBit in (rw (nth-out ws (g / w) (omega arith), zero-div (2 ^ (g % w))) refl)) ∙ e)
-
-below-granules : (w k g : ℕ) → (w ≡ 16) ⊎ (w ≡ 32) → g / w < 64 * k / w → g < 64 * k
-below-granules w k g (inl e) h = let h′ : g / 16 < 64 * k / 16 = rw e at h in omega arith
-below-granules w k g (inr e) h = let h′ : g / 32 < 64 * k / 32 = rw e at h in omega arith
 
 pub fits-sizes : (m : Image) → Fits m → Sizes m
 unfolding sections lengths
@@ -38,8 +20,8 @@ fits-sizes m f = record {
   heap-size = here 0 ∙ omega arith;
   starts-size = here 1;
   marks-size = here 2;
-  starts-in = λ g e. below-granules (m .width) (m .k) g w (rw (here 1) at (bit-in (m .width) (m .starts) g e));
-  marks-in = λ g e. below-granules (m .width) (m .k) g w (rw (here 2) at (bit-in (m .width) (m .marks) g e));
+  starts-in = λ g e. bit-within (m .width) (64 * m .k) (m .starts) g (here 1) e;
+  marks-in = λ g e. bit-within (m .width) (64 * m .k) (m .marks) g (here 2) e;
   marks-room = λ g h. rw (here 2) (bit-word (m .width) (m .k) g w h);
   cards-size = here 3;
   regs-size = here 4;

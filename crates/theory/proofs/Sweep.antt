@@ -118,10 +118,6 @@ module _ (st keep : ℕ → Bool) (kept : (g : ℕ) → keep g ≡ true → st g
       go : SweptOk keep (g + suc m) (length rest) (sweep st keep n (g + suc m) rest) → SweptOk keep g (suc (length (runTail m next ++ rest))) (swept st g (suc m) (runWords m next) (keep g) (sweep st keep n (g + suc m) rest))
       go ok = unfold swept in rw (not-kept g e, ← len) (freed-ok g (suc m) (length rest) _ _ (omega arith) (not-kept g e) ba ok)
 
-  -- the swept heap is as long
-  pub sweep-length : {g next : ℕ} {run : Bool} {ws : List ℕ} (n : ℕ) → Filled st g ws next run → length ws < 4 * n → length (sweptWords (sweep st keep n g ws)) ≡ length ws
-  sweep-length {g} {ws = ws} n f l = length-swept (sweep st keep n g ws) ∙ (sweep-ok n f l) .long
-
   -- ---- word i of a kept object at h stays
 
   pub sweep-stays : {g next : ℕ} {run : Bool} {ws : List ℕ} (n : ℕ) → Filled st g ws next run → length ws < 4 * n → (h i : ℕ) → g ≤ h → 4 * h < 4 * g + length ws → keep h ≡ true → i < 4 * nth ws (4 * (h - g))

@@ -2,8 +2,8 @@
 use mathlib.Core.Path.{_≡_, refl, _∙_}
 use Prim.Native.Nat.{ℕ, zero, suc, _+_, _*_, _≤_, _<_}
 use native.Mathlib.Omega.{arith}
-use borrow.Author.Tests.{ne-eqb}
 use lib.ListN.{length}
+use borrow.Author.Tests.{ne-eqb}
 use Rattle.model.specs.Base.{nth, put}
 use Rattle.model.specs.Image.{Image, word, firstRun, withHeap, withGeneral, setWord, setFirstRun}
 use Rattle.model.specs.Mutate.{setNext, takeRun}

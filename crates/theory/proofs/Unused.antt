@@ -7,10 +7,10 @@ use native.Mathlib.Decide.{ℕ-discrete, decLt}
 use native.Mathlib.Omega.{arith}
 use Rattle.model.specs.Base.{nth}
 use Rattle.model.specs.Image.{Image, granules, word, isStart, size}
+use Rattle.model.proofs.Laws.{false≢}
 use Rattle.theory.specs.Heap.{HeapFilled, HeapSized}
 use Rattle.theory.specs.Pieces.{at-end, at-object, at-run, ObjectIn, RunIn, PiecesIn, RunApart, Clear, Unused, InRun}
 use Rattle.theory.proofs.Pieces.{behind-run, image-pieces}
-use Rattle.model.proofs.Laws.{false≢}
 
 module _ (m : Image) where
   pub clear-object : (x : ℕ) → ObjectIn m x → Clear m x → Clear m (x + word m x 0)

@@ -19,7 +19,7 @@ use Rattle.theory.proofs.Facts.{start-pos, laid-of, heap-filled-of, som
 use Rattle.theory.proofs.Lines.{put-heap}
 use Rattle.theory.proofs.Lists.{nth-head, length-run, head-behind}
 use Rattle.theory.proofs.Packets.{Wrote, nth-put}
-use Rattle.theory.proofs.Walk.{fill-make}
+use Rattle.theory.proofs.Walk.{fill-make, same-place}
 
 put-left : (l r : List ℕ) (i v : ℕ) → i < length l → put (l ++ r) i v ≡ put l i v ++ r
 unfolding put
@@ -77,12 +77,7 @@ filled-put {st} {g} (f-run n next rest q ba f) h x v p t a l = go (λ a b c d. f
 
 -- a word of an object past its first two is the first or second word or a link of an object only as that link
 inner : (m : Image) → Laid m → (g h x y : ℕ) → isStart m g ≡ true → isStart m h ≡ true → 2 ≤ x → x < 4 * size m g → y < 2 + links m h → 4 * h + y ≡ 4 * g + x → (h ≡ g) × (y ≡ x)
-inner m L g h x y sg sh hx hx′ hy e = go (decLt g h) (decLt h g)
-  where
-    go : Dec (g < h) → Dec (h < g) → (h ≡ g) × (y ≡ x)
-    go (yes lt) d = absurd (omega (arith, L .apart g h sg sh lt, L .inside g sg))
-    go (no a) (yes lt) = absurd (omega (arith, L .apart h g sh sg lt, L .inside h sh))
-    go (no a) (no b) = (omega arith, omega arith)
+inner m L g h x y sg sh hx hx′ hy e = same-place m L h g y x sh sg (omega (arith, L .inside h sh)) hx′ e
 
 module _ {m : Image} (o : Lines m) (g x v : ℕ) (sg : isStart m g ≡ true) (hx : 2 ≤ x) (hx′ : x < 4 * size m g) where
   L : Laid m

@@ -4,7 +4,7 @@ use mathlib.Core.Logic.{_⊎_}
 use mathlib.Core.Bool.{true, false}
 use Prim.Native.Nat.{ℕ, _*_, _<_}
 use lib.ListN.{length, getD}
-use Rattle.model.specs.Image.{Image, word, isStart, marked, size, links, link, reg, hand, nextLink, running}
+use Rattle.model.specs.Image.{Image, word, isStart, marked, size, links, link, reg, owed, hand, nextLink, running}
 use Rattle.model.specs.Finish.{keptSet}
 use Rattle.model.specs.Records.{Step, new, finish, kindOf}
 use Rattle.model.specs.Mutate.{roomFor, newObject}
@@ -13,12 +13,13 @@ use Rattle.model.specs.Claim.{Chain}
 use Rattle.theory.specs.Heap.{Proper, Laid}
 use Rattle.theory.specs.Cover.{Counted}
 
--- what an undamaged image has, as far as this part needs it
+-- what an undamaged image has, as far as the claim over lists of steps needs it
 pub record Facts (m : Image) : Type 0 where
   pub proper : Proper m
   pub laid : Laid m
   pub counted : Counted m
-  pub regs-many : length (m .regs) ≡ 256
+  pub regs-length : length (m .regs) ≡ 256
+  pub players-length : length (m .players) ≡ 32
   pub hand-ok : (t : ℕ) → t < 8 → (hand m t ≡ 0 → ⊥) → (marked m (hand m t) ≡ true) × (nextLink m t < links m (hand m t))
   pub idle : (running m ≡ 1 → ⊥) → (g : ℕ) → marked m g ≡ false
 
@@ -43,11 +44,12 @@ pub record Carries (m n : Image) : Type 0 where
   pub links-from : (g i : ℕ) → isStart n g ≡ true → i < links n g → (link n g i ≡ 0 → ⊥) → LinkFrom m g (link n g i)
   pub marks-from : (g : ℕ) → marked n g ≡ true → Source m g
 
--- heap, start bits and registers are as they were; what is newly marked passes
+-- heap, start bits, registers and owed cards are as they were; what is newly marked passes
 pub record Quiet (P : ℕ → Type 0) (m n : Image) : Type 0 where
   pub same-word : (g i : ℕ) → word n g i ≡ word m g i
   pub same-start : (g : ℕ) → isStart n g ≡ isStart m g
   pub same-reg : (p r : ℕ) → reg n p r ≡ reg m p r
+  pub same-owed : (p : ℕ) → owed n p ≡ owed m p
   pub new-marks : (g : ℕ) → marked n g ≡ true → (marked m g ≡ true) ⊎ P g
 
 -- what an accepted new at granule a leaves of start bits and links

@@ -8,3 +8,4 @@ pub mod Events
 pub mod Sweep
 pub mod Finish
 pub mod New
+pub mod Numbers

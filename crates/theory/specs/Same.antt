@@ -1,16 +1,14 @@
--- An image and a plain store agree; what a step leaves of that; what an undamaged image gives for it.
+-- An image and a plain store agree; what a step leaves of that.
 use mathlib.Core.Path.{_≡_}
 use mathlib.Core.Bool.{Bool, false, not}
 use mathlib.Core.List.{List, [], _++_}
 use Prim.Native.Nat.{ℕ, suc, _+_, _*_, _<_}
 use lib.Dec.{eqb}
-use lib.ListN.{length}
 use Rattle.model.specs.Image.{Image, word, isStart, size, links, link, levels, level, reg, owed, setReg}
 use Rattle.model.specs.Records.{Step, Kind, new}
 use Rattle.model.specs.Steps.{Done, Event, offDesk, badSize, noObject, pastEnd, refusal, act, run, after}
 use Rattle.model.specs.Plain.{Object, old, made, PlainStore, PlainDone, named, reading}
 use Rattle.model.specs.Claim.{Chain}
-use Rattle.theory.specs.Heap.{Laid, Proper}
 
 -- ---- the relation
 
@@ -60,14 +58,6 @@ pub record Admitted (m : Image) (s : Step) (n : Kind) : Type 0 where
   pub not-past : pastEnd m s n ≡ false
   pub good-size : badSize s n ≡ false
 
--- ---- what an undamaged image has
-
-pub record Facts (m : Image) : Type 0 where
-  pub proper : Proper m
-  pub laid : Laid m
-  pub regs-length : length (m .regs) ≡ 256
-  pub players-length : length (m .players) ≡ 32
-
 -- ---- what steps leave
 
 -- the words of what a chain reaches are as they were
@@ -92,17 +82,8 @@ pub record ObjectMade (m m′ : Image) (p r b c g : ℕ) : Type 0 where
   pub made-kept : WordsStay m m′
 
 -- what an accepted new leaves
-abbrev pub NewMade : Image → Step → Type 0
-NewMade m s = refusal m s new ≡ 0 → ObjectMade m ((act m s new) .image) (s .who) (s .a) (s .b) (s .c) ((act m s new) .value)
-
--- heap, starts, registers and owed cards are as they were
-pub record Quiet (m m′ : Image) : Type 0 where
-  pub quiet-width : m′ .width ≡ m .width
-  pub quiet-k : m′ .k ≡ m .k
-  pub quiet-heap : m′ .heap ≡ m .heap
-  pub quiet-starts : m′ .starts ≡ m .starts
-  pub quiet-regs : m′ .regs ≡ m .regs
-  pub quiet-owed : (p : ℕ) → owed m′ p ≡ owed m p
+abbrev pub NewMakes : Image → Step → Type 0
+NewMakes m s = refusal m s new ≡ 0 → ObjectMade m ((act m s new) .image) (s .who) (s .a) (s .b) (s .c) ((act m s new) .value)
 
 -- ---- lists of steps
 

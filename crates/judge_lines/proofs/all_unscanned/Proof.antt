@@ -6,9 +6,6 @@ use Prim.Native.Nat.{_-_}
 use borrow.Author.Needs.{needs}
 use Rattle.judge_lines.proofs.all_unscanned.Statement.{statement}
 use Rattle.judge_lines.proofs.all_unscanned.Tie as tie
-use Rattle.judge_lines.proofs.all_unscanned.Reads as reads
-use Rattle.judge_lines.proofs.all_unscanned.Lts as lts
-use Rattle.judge_lines.proofs.is_unscanned.Reads as is-unscanned-reads
 
 abbrev Inv-loop : tie.InvT-loop
 Inv-loop im k ok₀ i₀ ok i = Passed (16) (unscanned (narrow k im)) ok i

@@ -6,9 +6,6 @@ use Prim.Native.Nat.{_-_}
 use borrow.Author.Needs.{needs}
 use Rattle.judge_lines.proofs.cards_ok.Statement.{statement}
 use Rattle.judge_lines.proofs.cards_ok.Tie as tie
-use Rattle.judge_lines.proofs.cards_ok.Reads as reads
-use Rattle.judge_lines.proofs.cards_ok.Lts as lts
-use Rattle.judge_lines.proofs.card_ok.Reads as card-ok-reads
 
 abbrev Inv-loop : tie.InvT-loop
 Inv-loop im k ok₀ i₀ ok i = Passed (k) (cardOk (narrow k im)) ok i

@@ -6,9 +6,6 @@ use Rattle.model.specs.Image.{running}
 use Rattle.model.specs.Undamaged.{generalOk}
 use Rattle.judge_lines.proofs.general_ok.Statement.{statement}
 use Rattle.judge_lines.proofs.general_ok.Tie as tie
-use Rattle.judge_lines.proofs.general_ok.Reads as reads
-use Rattle.judge_lines.proofs.general_ok.Lts as lts
-use Rattle.judge_lines.proofs.spares_ok.Reads as spares-ok-reads
 
 running-requires : tie.Need-running-requires
 running-requires c κs = search needs

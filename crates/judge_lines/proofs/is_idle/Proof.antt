@@ -5,12 +5,6 @@ use Rattle.model.specs.Base.{every}
 use Rattle.image.proofs.Stretches.{zero-marks, zero-packets, zero-tracers}
 use Rattle.judge_lines.proofs.is_idle.Statement.{statement}
 use Rattle.judge_lines.proofs.is_idle.Tie as tie
-use Rattle.judge_lines.proofs.is_idle.Reads as reads
-use Rattle.judge_lines.proofs.is_idle.Lts as lts
-use Rattle.judge_lines.proofs.all_unscanned.Reads as all-unscanned-reads
-use Rattle.judge_lines.proofs.bare.zero_marks.Reads as zero-marks-reads
-use Rattle.judge_lines.proofs.bare.zero_packets.Reads as zero-packets-reads
-use Rattle.judge_lines.proofs.bare.zero_tracers.Reads as zero-tracers-reads
 
 zero-marks-requires : tie.Need-zero-marks-requires
 zero-marks-requires c κs = search needs

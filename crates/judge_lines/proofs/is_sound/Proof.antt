@@ -2,15 +2,6 @@ use borrow.Author.Needs.{needs}
 use Rattle.judge_lines.proofs.Idle.{sound-still, sound-cycle}
 use Rattle.judge_lines.proofs.is_sound.Statement.{statement}
 use Rattle.judge_lines.proofs.is_sound.Tie as tie
-use Rattle.judge_lines.proofs.is_sound.Reads as reads
-use Rattle.judge_lines.proofs.is_sound.Lts as lts
-use Rattle.judge_lines.proofs.cards_ok.Reads as cards-ok-reads
-use Rattle.judge_lines.proofs.cycle_ok.Reads as cycle-ok-reads
-use Rattle.judge_lines.proofs.general_ok.Reads as general-ok-reads
-use Rattle.judge_lines.proofs.heap.heap_ok.Reads as heap-ok-reads
-use Rattle.judge_lines.proofs.heap.regs_ok.Reads as regs-ok-reads
-use Rattle.judge_lines.proofs.is_idle.Reads as is-idle-reads
-use Rattle.judge_lines.proofs.players_ok.Reads as players-ok-reads
 
 heap-ok-requires : tie.Need-heap-ok-requires
 heap-ok-requires c κs = search needs

@@ -4,9 +4,6 @@ use Rattle.model.specs.Image.{scanned}
 use mathlib.Core.Path.{refl}
 use Rattle.judge_lines.proofs.is_unscanned.Statement.{statement}
 use Rattle.judge_lines.proofs.is_unscanned.Tie as tie
-use Rattle.judge_lines.proofs.is_unscanned.Reads as reads
-use Rattle.judge_lines.proofs.is_unscanned.Lts as lts
-use Rattle.image.proofs.scanned.Reads as scanned-reads
 
 scanned-requires : tie.Need-scanned-requires
 scanned-requires c κs = search needs

@@ -6,9 +6,6 @@ use Prim.Native.Nat.{_-_}
 use borrow.Author.Needs.{needs}
 use Rattle.judge_lines.proofs.players_ok.Statement.{statement}
 use Rattle.judge_lines.proofs.players_ok.Tie as tie
-use Rattle.judge_lines.proofs.players_ok.Reads as reads
-use Rattle.judge_lines.proofs.players_ok.Lts as lts
-use Rattle.judge_lines.proofs.player_ok.Reads as player-ok-reads
 
 abbrev Inv-loop : tie.InvT-loop
 Inv-loop im k ok₀ i₀ ok i = Passed (16) (playerOk (narrow k im)) ok i

@@ -6,9 +6,6 @@ use Prim.Native.Nat.{_-_}
 use borrow.Author.Needs.{needs}
 use Rattle.judge_lines.proofs.spares_ok.Statement.{statement}
 use Rattle.judge_lines.proofs.spares_ok.Tie as tie
-use Rattle.judge_lines.proofs.spares_ok.Reads as reads
-use Rattle.judge_lines.proofs.spares_ok.Lts as lts
-use Rattle.judge_lines.proofs.spare_ok.Reads as spare-ok-reads
 
 abbrev Inv-loop : tie.InvT-loop
 Inv-loop im k ok₀ i₀ ok i = Passed (6) (spareOk (narrow k im)) ok i

@@ -6,9 +6,6 @@ use Prim.Native.Nat.{_-_}
 use borrow.Author.Needs.{needs}
 use Rattle.judge.proofs.cover.all_late.Statement.{statement}
 use Rattle.judge.proofs.cover.all_late.Tie as tie
-use Rattle.judge.proofs.cover.all_late.Reads as reads
-use Rattle.judge.proofs.cover.all_late.Lts as lts
-use Rattle.judge.proofs.cover.is_late.Reads as is-late-reads
 
 abbrev Inv-loop : tie.InvT-loop
 Inv-loop im k g n ok₀ i₀ ok i = Passed (n) (late (narrow k im) g) ok i

@@ -6,9 +6,6 @@ use Prim.Native.Nat.{_-_}
 use borrow.Author.Needs.{needs}
 use Rattle.judge.proofs.cover.all_plain.Statement.{statement}
 use Rattle.judge.proofs.cover.all_plain.Tie as tie
-use Rattle.judge.proofs.cover.all_plain.Reads as reads
-use Rattle.judge.proofs.cover.all_plain.Lts as lts
-use Rattle.judge.proofs.cover.is_plain.Reads as is-plain-reads
 
 abbrev Inv-loop : tie.InvT-loop
 Inv-loop im k g n ok₀ i₀ ok i = Passed (n) (plain (narrow k im) g) ok i

@@ -2,11 +2,6 @@ use borrow.Author.Needs.{needs}
 use Rattle.judge.proofs.Covering.{coming-dirty, coming-card, coming-entered}
 use Rattle.judge.proofs.cover.is_coming.Statement.{statement}
 use Rattle.judge.proofs.cover.is_coming.Tie as tie
-use Rattle.judge.proofs.cover.is_coming.Reads as reads
-use Rattle.judge.proofs.cover.is_coming.Lts as lts
-use Rattle.judge.proofs.cover.granule_to_come.Reads as granule-to-come-reads
-use Rattle.judge.proofs.cover.is_dirty.Reads as is-dirty-reads
-use Rattle.judge_lines.proofs.packets.is_entered.Reads as is-entered-reads
 
 is-dirty-requires : tie.Need-is-dirty-requires
 is-dirty-requires c κs = search needs

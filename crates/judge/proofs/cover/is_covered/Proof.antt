@@ -9,9 +9,6 @@ use native.Mathlib.Omega.{arith}
 use borrow.Author.Needs.{needs}
 use Rattle.judge.proofs.cover.is_covered.Statement.{statement}
 use Rattle.judge.proofs.cover.is_covered.Tie as tie
-use Rattle.judge.proofs.cover.is_covered.Reads as reads
-use Rattle.judge.proofs.cover.is_covered.Lts as lts
-use Rattle.judge.proofs.cover.sixteen_covered.Reads as sixteen-covered-reads
 
 abbrev Inv-loop : tie.InvT-loop
 Inv-loop im k ok₀ i₀ ok i = Passed (4 * k) (wordwise (objectCovered (narrow k im))) ok i

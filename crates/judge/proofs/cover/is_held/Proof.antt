@@ -4,9 +4,6 @@ use Rattle.model.specs.Image.{reg}
 use mathlib.Core.Path.{refl}
 use Rattle.judge.proofs.cover.is_held.Statement.{statement}
 use Rattle.judge.proofs.cover.is_held.Tie as tie
-use Rattle.judge.proofs.cover.is_held.Reads as reads
-use Rattle.judge.proofs.cover.is_held.Lts as lts
-use Rattle.image.proofs.reg.Reads as reg-reads
 
 reg-requires : tie.Need-reg-requires
 reg-requires c κs = search needs

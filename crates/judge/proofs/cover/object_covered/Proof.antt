@@ -2,12 +2,6 @@ use borrow.Author.Needs.{needs}
 use Rattle.judge.proofs.Covering.{cov-unmarked, room-of, cov-plain, cov-coming, cov-late}
 use Rattle.judge.proofs.cover.object_covered.Statement.{statement}
 use Rattle.judge.proofs.cover.object_covered.Tie as tie
-use Rattle.judge.proofs.cover.object_covered.Reads as reads
-use Rattle.judge.proofs.cover.object_covered.Lts as lts
-use Rattle.image.proofs.bits.is_marked.Reads as is-marked-reads
-use Rattle.judge.proofs.cover.all_late.Reads as all-late-reads
-use Rattle.judge.proofs.cover.all_plain.Reads as all-plain-reads
-use Rattle.judge.proofs.cover.is_coming.Reads as is-coming-reads
 
 is-marked-requires : tie.Need-is-marked-requires
 is-marked-requires c κs = search needs

@@ -3,10 +3,6 @@ use Rattle.judge.proofs.Covering.{word-skip}
 use Rattle.judge_lines.specs.Tests.{wordwise}
 use Rattle.judge.proofs.cover.sixteen_covered.Statement.{statement}
 use Rattle.judge.proofs.cover.sixteen_covered.Tie as tie
-use Rattle.judge.proofs.cover.sixteen_covered.Reads as reads
-use Rattle.judge.proofs.cover.sixteen_covered.Lts as lts
-use Rattle.image.proofs.mark_word.Reads as mark-word-reads
-use Rattle.judge.proofs.cover.word_covered.Reads as word-covered-reads
 
 mark-word-requires : tie.Need-mark-word-requires
 mark-word-requires c κs = search needs

@@ -7,9 +7,6 @@ use Prim.Native.Nat.{_-_}
 use borrow.Author.Needs.{needs}
 use Rattle.judge.proofs.cover.word_covered.Statement.{statement}
 use Rattle.judge.proofs.cover.word_covered.Tie as tie
-use Rattle.judge.proofs.cover.word_covered.Reads as reads
-use Rattle.judge.proofs.cover.word_covered.Lts as lts
-use Rattle.judge.proofs.cover.object_covered.Reads as object-covered-reads
 
 abbrev Inv-loop : tie.InvT-loop
 Inv-loop im k w ok₀ i₀ ok i = Passed (16) (atWord (objectCovered (narrow k im)) w) ok i

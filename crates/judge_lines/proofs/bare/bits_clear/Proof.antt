@@ -5,8 +5,6 @@ use lib.Bits.{and-mask}
 use lib.Pow.{pow-pos}
 use Rattle.judge_lines.proofs.bare.bits_clear.Statement.{statement}
 use Rattle.judge_lines.proofs.bare.bits_clear.Tie as tie
-use Rattle.judge_lines.proofs.bare.bits_clear.Reads as reads
-use Rattle.judge_lines.proofs.bare.bits_clear.Lts as lts
 
 shr-result : tie.Need-shr-result
 shr-result c = search needs

@@ -3,11 +3,6 @@ use Rattle.model.specs.Image.{count}
 use borrow.Author.Needs.{needs}
 use Rattle.judge_lines.proofs.bare.is_clear.Statement.{statement}
 use Rattle.judge_lines.proofs.bare.is_clear.Tie as tie
-use Rattle.judge_lines.proofs.bare.is_clear.Reads as reads
-use Rattle.judge_lines.proofs.bare.is_clear.Lts as lts
-use Rattle.image.proofs.start_word.Reads as start-word-reads
-use Rattle.judge_lines.proofs.bare.bits_clear.Reads as bits-clear-reads
-use Rattle.judge_lines.proofs.bare.least.Reads as least-reads
 
 abbrev Inv-loop : tie.InvT-loop
 Inv-loop im k from count a₀ n₀ a n = Rest k im from count a n

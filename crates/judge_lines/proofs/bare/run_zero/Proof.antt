@@ -3,9 +3,6 @@ use Rattle.judge_lines.proofs.Stretch.{run-zero}
 use Rattle.model.specs.Base.{zeros}
 use Rattle.judge_lines.proofs.bare.run_zero.Statement.{statement}
 use Rattle.judge_lines.proofs.bare.run_zero.Tie as tie
-use Rattle.judge_lines.proofs.bare.run_zero.Reads as reads
-use Rattle.judge_lines.proofs.bare.run_zero.Lts as lts
-use Rattle.judge_lines.proofs.bare.zeros.Reads as zeros-reads
 
 mul-a : tie.Need-mul-a
 mul-a c = search needs

@@ -2,9 +2,6 @@ use borrow.Author.Needs.{needs}
 use Rattle.judge_lines.proofs.Sections.{marks-zero}
 use Rattle.judge_lines.proofs.bare.zero_marks.Statement.{statement}
 use Rattle.judge_lines.proofs.bare.zero_marks.Tie as tie
-use Rattle.judge_lines.proofs.bare.zero_marks.Reads as reads
-use Rattle.judge_lines.proofs.bare.zero_marks.Lts as lts
-use Rattle.judge_lines.proofs.bare.zeros.Reads as zeros-reads
 
 mul-a : tie.Need-mul-a
 mul-a c = search needs

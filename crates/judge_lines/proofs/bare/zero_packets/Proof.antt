@@ -2,9 +2,6 @@ use borrow.Author.Needs.{needs}
 use Rattle.judge_lines.proofs.Sections.{packets-zero}
 use Rattle.judge_lines.proofs.bare.zero_packets.Statement.{statement}
 use Rattle.judge_lines.proofs.bare.zero_packets.Tie as tie
-use Rattle.judge_lines.proofs.bare.zero_packets.Reads as reads
-use Rattle.judge_lines.proofs.bare.zero_packets.Lts as lts
-use Rattle.judge_lines.proofs.bare.zeros.Reads as zeros-reads
 
 mul-a : tie.Need-mul-a
 mul-a c = search needs

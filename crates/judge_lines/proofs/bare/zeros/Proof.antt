@@ -9,8 +9,6 @@ use borrow.Author.Needs.{needs}
 use lib.ListN.{length}
 use Rattle.judge_lines.proofs.bare.zeros.Statement.{statement}
 use Rattle.judge_lines.proofs.bare.zeros.Tie as tie
-use Rattle.judge_lines.proofs.bare.zeros.Reads as reads
-use Rattle.judge_lines.proofs.bare.zeros.Lts as lts
 
 abbrev Inv-loop : tie.InvT-loop
 Inv-loop s bad₀ i₀ bad i = Gathered (length s) (isZero s) bad i

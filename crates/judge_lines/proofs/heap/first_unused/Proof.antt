@@ -5,10 +5,6 @@ use Rattle.model.specs.Base.{every}
 use Rattle.model.specs.Undamaged.{zeroGranule}
 use Rattle.judge_lines.proofs.heap.first_unused.Statement.{statement}
 use Rattle.judge_lines.proofs.heap.first_unused.Tie as tie
-use Rattle.judge_lines.proofs.heap.first_unused.Reads as reads
-use Rattle.judge_lines.proofs.heap.first_unused.Lts as lts
-use Rattle.image.proofs.bits.is_start.Reads as is-start-reads
-use Rattle.judge_lines.proofs.heap.first_zeros.Reads as first-zeros-reads
 
 first-zeros-requires : tie.Need-first-zeros-requires
 first-zeros-requires c κs = search needs

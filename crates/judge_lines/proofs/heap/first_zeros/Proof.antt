@@ -6,9 +6,6 @@ use Prim.Native.Nat.{_-_}
 use borrow.Author.Needs.{needs}
 use Rattle.judge_lines.proofs.heap.first_zeros.Statement.{statement}
 use Rattle.judge_lines.proofs.heap.first_zeros.Tie as tie
-use Rattle.judge_lines.proofs.heap.first_zeros.Reads as reads
-use Rattle.judge_lines.proofs.heap.first_zeros.Lts as lts
-use Rattle.judge_lines.proofs.heap.first_zero.Reads as first-zero-reads
 
 abbrev Inv-loop : tie.InvT-loop
 Inv-loop im k ok₀ i₀ ok i = Passed (4) (firstZero (narrow k im)) ok i

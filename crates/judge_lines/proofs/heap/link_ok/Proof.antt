@@ -4,9 +4,6 @@ use Rattle.judge_lines.proofs.Cases.{nil-or-start}
 use Rattle.model.specs.Image.{link}
 use Rattle.judge_lines.proofs.heap.link_ok.Statement.{statement}
 use Rattle.judge_lines.proofs.heap.link_ok.Tie as tie
-use Rattle.judge_lines.proofs.heap.link_ok.Reads as reads
-use Rattle.judge_lines.proofs.heap.link_ok.Lts as lts
-use Rattle.judge_lines.proofs.heap.nil_or_start.Reads as nil-or-start-reads
 
 add-word : tie.Need-add-word
 add-word c = search needs

@@ -6,9 +6,6 @@ use Prim.Native.Nat.{_-_}
 use borrow.Author.Needs.{needs}
 use Rattle.judge_lines.proofs.heap.links_ok.Statement.{statement}
 use Rattle.judge_lines.proofs.heap.links_ok.Tie as tie
-use Rattle.judge_lines.proofs.heap.links_ok.Reads as reads
-use Rattle.judge_lines.proofs.heap.links_ok.Lts as lts
-use Rattle.judge_lines.proofs.heap.link_ok.Reads as link-ok-reads
 
 abbrev Inv-loop : tie.InvT-loop
 Inv-loop im k g n ok₀ i₀ ok i = Passed (n) (linkOk (narrow k im) g) ok i

@@ -2,9 +2,6 @@ use borrow.Author.Needs.{needs}
 use Rattle.judge_lines.proofs.Walk.{next-object, next-run}
 use Rattle.judge_lines.proofs.heap.next_run.Statement.{statement}
 use Rattle.judge_lines.proofs.heap.next_run.Tie as tie
-use Rattle.judge_lines.proofs.heap.next_run.Reads as reads
-use Rattle.judge_lines.proofs.heap.next_run.Lts as lts
-use Rattle.image.proofs.bits.is_start.Reads as is-start-reads
 
 is-start-requires : tie.Need-is-start-requires
 is-start-requires c κs = search needs

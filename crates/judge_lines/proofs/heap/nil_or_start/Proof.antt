@@ -2,9 +2,6 @@ use borrow.Author.Needs.{needs}
 use Rattle.judge_lines.proofs.Cases.{nil-or-start}
 use Rattle.judge_lines.proofs.heap.nil_or_start.Statement.{statement}
 use Rattle.judge_lines.proofs.heap.nil_or_start.Tie as tie
-use Rattle.judge_lines.proofs.heap.nil_or_start.Reads as reads
-use Rattle.judge_lines.proofs.heap.nil_or_start.Lts as lts
-use Rattle.judge_lines.proofs.heap.start_at.Reads as start-at-reads
 
 start-at-requires : tie.Need-start-at-requires
 start-at-requires c κs = search needs

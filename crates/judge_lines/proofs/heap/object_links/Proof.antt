@@ -2,10 +2,6 @@ use borrow.Author.Needs.{needs}
 use Rattle.judge_lines.proofs.Cases.{links-object, links-run, room-use}
 use Rattle.judge_lines.proofs.heap.object_links.Statement.{statement}
 use Rattle.judge_lines.proofs.heap.object_links.Tie as tie
-use Rattle.judge_lines.proofs.heap.object_links.Reads as reads
-use Rattle.judge_lines.proofs.heap.object_links.Lts as lts
-use Rattle.image.proofs.bits.is_start.Reads as is-start-reads
-use Rattle.judge_lines.proofs.heap.links_ok.Reads as links-ok-reads
 
 is-start-requires : tie.Need-is-start-requires
 is-start-requires c κs = search needs

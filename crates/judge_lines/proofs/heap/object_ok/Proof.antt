@@ -3,9 +3,6 @@ use Rattle.judge_lines.proofs.Walk.{object-head, object-no, object-yes}
 use native.Mathlib.Omega.{arith}
 use Rattle.judge_lines.proofs.heap.object_ok.Statement.{statement}
 use Rattle.judge_lines.proofs.heap.object_ok.Tie as tie
-use Rattle.judge_lines.proofs.heap.object_ok.Reads as reads
-use Rattle.judge_lines.proofs.heap.object_ok.Lts as lts
-use Rattle.judge_lines.proofs.bare.is_clear.Reads as is-clear-reads
 
 word-requires : tie.Need-word-requires
 word-requires c κs = search needs

@@ -2,11 +2,6 @@ use borrow.Author.Needs.{needs}
 use Rattle.judge_lines.proofs.Walk.{piece-object, piece-run}
 use Rattle.judge_lines.proofs.heap.piece_ok.Statement.{statement}
 use Rattle.judge_lines.proofs.heap.piece_ok.Tie as tie
-use Rattle.judge_lines.proofs.heap.piece_ok.Reads as reads
-use Rattle.judge_lines.proofs.heap.piece_ok.Lts as lts
-use Rattle.image.proofs.bits.is_start.Reads as is-start-reads
-use Rattle.judge_lines.proofs.heap.object_ok.Reads as object-ok-reads
-use Rattle.judge_lines.proofs.heap.run_ok.Reads as run-ok-reads
 
 is-start-requires : tie.Need-is-start-requires
 is-start-requires c κs = search needs

@@ -3,10 +3,6 @@ use Rattle.judge_lines.proofs.Cases.{nil-or-start}
 use Rattle.model.specs.Undamaged.{regOk}
 use Rattle.judge_lines.proofs.heap.reg_ok.Statement.{statement}
 use Rattle.judge_lines.proofs.heap.reg_ok.Tie as tie
-use Rattle.judge_lines.proofs.heap.reg_ok.Reads as reads
-use Rattle.judge_lines.proofs.heap.reg_ok.Lts as lts
-use Rattle.image.proofs.reg_word.Reads as reg-word-reads
-use Rattle.judge_lines.proofs.heap.nil_or_start.Reads as nil-or-start-reads
 
 reg-word-requires : tie.Need-reg-word-requires
 reg-word-requires c κs = search needs

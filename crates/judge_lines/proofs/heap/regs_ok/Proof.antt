@@ -6,9 +6,6 @@ use Prim.Native.Nat.{_-_}
 use borrow.Author.Needs.{needs}
 use Rattle.judge_lines.proofs.heap.regs_ok.Statement.{statement}
 use Rattle.judge_lines.proofs.heap.regs_ok.Tie as tie
-use Rattle.judge_lines.proofs.heap.regs_ok.Reads as reads
-use Rattle.judge_lines.proofs.heap.regs_ok.Lts as lts
-use Rattle.judge_lines.proofs.heap.reg_ok.Reads as reg-ok-reads
 
 abbrev Inv-loop : tie.InvT-loop
 Inv-loop im k ok₀ i₀ ok i = Passed (256) (regOk (narrow k im)) ok i

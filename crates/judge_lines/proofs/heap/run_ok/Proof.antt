@@ -4,10 +4,6 @@ use native.Mathlib.Omega.{arith}
 use Rattle.model.specs.Steps.{run}
 use Rattle.judge_lines.proofs.heap.run_ok.Statement.{statement}
 use Rattle.judge_lines.proofs.heap.run_ok.Tie as tie
-use Rattle.judge_lines.proofs.heap.run_ok.Reads as reads
-use Rattle.judge_lines.proofs.heap.run_ok.Lts as lts
-use Rattle.judge_lines.proofs.bare.is_clear.Reads as is-clear-reads
-use Rattle.judge_lines.proofs.bare.run_zero.Reads as run-zero-reads
 
 word-requires : tie.Need-word-requires
 word-requires c κs = search needs

@@ -2,10 +2,6 @@ use borrow.Author.Needs.{needs}
 use Rattle.judge_lines.proofs.Cases.{start-at}
 use Rattle.judge_lines.proofs.heap.start_at.Statement.{statement}
 use Rattle.judge_lines.proofs.heap.start_at.Tie as tie
-use Rattle.judge_lines.proofs.heap.start_at.Reads as reads
-use Rattle.judge_lines.proofs.heap.start_at.Lts as lts
-use Rattle.image.proofs.bits.is_start.Reads as is-start-reads
-use Rattle.judge_lines.proofs.bare.least.Reads as least-reads
 
 mul-least : tie.Need-mul-least
 mul-least c = search needs

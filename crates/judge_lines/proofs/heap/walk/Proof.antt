@@ -6,12 +6,6 @@ use Prim.Native.Nat.{_*_, _-_}
 use borrow.Author.Needs.{needs}
 use Rattle.judge_lines.proofs.heap.walk.Statement.{statement}
 use Rattle.judge_lines.proofs.heap.walk.Tie as tie
-use Rattle.judge_lines.proofs.heap.walk.Reads as reads
-use Rattle.judge_lines.proofs.heap.walk.Lts as lts
-use Rattle.image.proofs.bits.is_start.Reads as is-start-reads
-use Rattle.judge_lines.proofs.heap.next_run.Reads as next-run-reads
-use Rattle.judge_lines.proofs.heap.object_links.Reads as object-links-reads
-use Rattle.judge_lines.proofs.heap.piece_ok.Reads as piece-ok-reads
 
 abbrev Inv-loop : tie.InvT-loop
 Inv-loop im k first g₀ next₀ run₀ good₀ g next run good = Walk k im g next run good

@@ -9,10 +9,6 @@ use borrow.Author.Needs.{needs}
 use Rattle.model.specs.Cases.{ok}
 use Rattle.judge_lines.proofs.marks.marks_ok.Statement.{statement}
 use Rattle.judge_lines.proofs.marks.marks_ok.Tie as tie
-use Rattle.judge_lines.proofs.marks.marks_ok.Reads as reads
-use Rattle.judge_lines.proofs.marks.marks_ok.Lts as lts
-use Rattle.image.proofs.mark_word.Reads as mark-word-reads
-use Rattle.image.proofs.start_word.Reads as start-word-reads
 
 abbrev Inv-loop : tie.InvT-loop
 Inv-loop im k bad₀ i₀ bad i = Gathered (4 * k) (wordwise (markOk (narrow k im))) bad i

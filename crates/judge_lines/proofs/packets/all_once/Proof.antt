@@ -4,9 +4,6 @@ use Prim.Native.Nat.{_-_}
 use borrow.Author.Needs.{needs}
 use Rattle.judge_lines.proofs.packets.all_once.Statement.{statement}
 use Rattle.judge_lines.proofs.packets.all_once.Tie as tie
-use Rattle.judge_lines.proofs.packets.all_once.Reads as reads
-use Rattle.judge_lines.proofs.packets.all_once.Lts as lts
-use Rattle.judge_lines.proofs.packets.packet_once.Reads as packet-once-reads
 
 abbrev Inv-loop : tie.InvT-loop
 Inv-loop im k seen₀ ok₀ p₀ seen ok p = Through k im seen₀ ok p seen

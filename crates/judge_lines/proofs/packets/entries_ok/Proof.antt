@@ -6,9 +6,6 @@ use Prim.Native.Nat.{_-_}
 use borrow.Author.Needs.{needs}
 use Rattle.judge_lines.proofs.packets.entries_ok.Statement.{statement}
 use Rattle.judge_lines.proofs.packets.entries_ok.Tie as tie
-use Rattle.judge_lines.proofs.packets.entries_ok.Reads as reads
-use Rattle.judge_lines.proofs.packets.entries_ok.Lts as lts
-use Rattle.judge_lines.proofs.packets.entry_ok.Reads as entry-ok-reads
 
 abbrev Inv-loop : tie.InvT-loop
 Inv-loop im k p ok₀ i₀ ok i = Passed (30) (entryAt (narrow k im) p) ok i

@@ -4,8 +4,6 @@ use borrow.Author.Needs.{needs}
 use lib.ListN.{length}
 use Rattle.judge_lines.proofs.packets.has.Statement.{statement}
 use Rattle.judge_lines.proofs.packets.has.Tie as tie
-use Rattle.judge_lines.proofs.packets.has.Reads as reads
-use Rattle.judge_lines.proofs.packets.has.Lts as lts
 
 abbrev Inv-loop : tie.InvT-loop
 Inv-loop s g found₀ i₀ found i = Met s g found i

@@ -3,10 +3,6 @@ use Rattle.judge_lines.proofs.Searched.{in-packet, few}
 use native.Mathlib.Omega.{arith}
 use Rattle.judge_lines.proofs.packets.in_packet.Statement.{statement}
 use Rattle.judge_lines.proofs.packets.in_packet.Tie as tie
-use Rattle.judge_lines.proofs.packets.in_packet.Reads as reads
-use Rattle.judge_lines.proofs.packets.in_packet.Lts as lts
-use Rattle.image.proofs.packet_word.Reads as packet-word-reads
-use Rattle.judge_lines.proofs.packets.has.Reads as has-reads
 
 mul-packet-word : tie.Need-mul-packet-word
 mul-packet-word c = search needs

@@ -3,9 +3,6 @@ use Prim.Native.Nat.{_-_}
 use borrow.Author.Needs.{needs}
 use Rattle.judge_lines.proofs.packets.is_entered.Statement.{statement}
 use Rattle.judge_lines.proofs.packets.is_entered.Tie as tie
-use Rattle.judge_lines.proofs.packets.is_entered.Reads as reads
-use Rattle.judge_lines.proofs.packets.is_entered.Lts as lts
-use Rattle.judge_lines.proofs.packets.in_packet.Reads as in-packet-reads
 
 abbrev Inv-loop : tie.InvT-loop
 Inv-loop im k g found₀ p₀ found p = Reached k im g found p

@@ -7,10 +7,6 @@ use borrow.Author.Needs.{needs}
 use native.Mathlib.Omega.{arith}
 use Rattle.judge_lines.proofs.packets.packet_once.Statement.{statement}
 use Rattle.judge_lines.proofs.packets.packet_once.Tie as tie
-use Rattle.judge_lines.proofs.packets.packet_once.Reads as reads
-use Rattle.judge_lines.proofs.packets.packet_once.Lts as lts
-use Rattle.image.proofs.packet_word.Reads as packet-word-reads
-use Rattle.judge_lines.proofs.packets.first_time.Reads as first-time-reads
 
 abbrev Inv-loop : tie.InvT-loop
 Inv-loop im k p seen₀ n ok₀ e₀ seen ok e = Along (packetEntries (narrow k im) p) n seen₀ ok e seen

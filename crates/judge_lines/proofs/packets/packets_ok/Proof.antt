@@ -6,9 +6,6 @@ use Prim.Native.Nat.{_-_}
 use borrow.Author.Needs.{needs}
 use Rattle.judge_lines.proofs.packets.packets_ok.Statement.{statement}
 use Rattle.judge_lines.proofs.packets.packets_ok.Tie as tie
-use Rattle.judge_lines.proofs.packets.packets_ok.Reads as reads
-use Rattle.judge_lines.proofs.packets.packets_ok.Lts as lts
-use Rattle.judge_lines.proofs.packets.packet_ok.Reads as packet-ok-reads
 
 abbrev Inv-loop : tie.InvT-loop
 Inv-loop im k ok₀ i₀ ok i = Passed (32) (packetAt (narrow k im)) ok i

@@ -6,9 +6,6 @@ use Prim.Native.Nat.{_-_}
 use borrow.Author.Needs.{needs}
 use Rattle.judge_lines.proofs.tracers.all_apart.Statement.{statement}
 use Rattle.judge_lines.proofs.tracers.all_apart.Tie as tie
-use Rattle.judge_lines.proofs.tracers.all_apart.Reads as reads
-use Rattle.judge_lines.proofs.tracers.all_apart.Lts as lts
-use Rattle.judge_lines.proofs.tracers.is_apart.Reads as is-apart-reads
 
 abbrev Inv-loop : tie.InvT-loop
 Inv-loop im k x ok₀ i₀ ok i = Passed (x) (apart (narrow k im) x) ok i

@@ -6,9 +6,6 @@ use Prim.Native.Nat.{_-_}
 use borrow.Author.Needs.{needs}
 use Rattle.judge_lines.proofs.tracers.held_ok.Statement.{statement}
 use Rattle.judge_lines.proofs.tracers.held_ok.Tie as tie
-use Rattle.judge_lines.proofs.tracers.held_ok.Reads as reads
-use Rattle.judge_lines.proofs.tracers.held_ok.Lts as lts
-use Rattle.judge_lines.proofs.tracers.held_once.Reads as held-once-reads
 
 abbrev Inv-loop : tie.InvT-loop
 Inv-loop im k ok₀ i₀ ok i = Passed (16) (heldOnce (narrow k im)) ok i

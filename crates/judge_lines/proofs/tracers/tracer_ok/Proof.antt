@@ -5,11 +5,6 @@ use Rattle.model.specs.Image.{hand, nextLink, handCard, nextGranule}
 use Rattle.model.specs.Undamaged.{tracerOk}
 use Rattle.judge_lines.proofs.tracers.tracer_ok.Statement.{statement}
 use Rattle.judge_lines.proofs.tracers.tracer_ok.Tie as tie
-use Rattle.judge_lines.proofs.tracers.tracer_ok.Reads as reads
-use Rattle.judge_lines.proofs.tracers.tracer_ok.Lts as lts
-use Rattle.image.proofs.tracer_word.Reads as tracer-word-reads
-use Rattle.judge_lines.proofs.tracers.hand_card_ok.Reads as hand-card-ok-reads
-use Rattle.judge_lines.proofs.tracers.hand_ok.Reads as hand-ok-reads
 
 mul-tracer-word : tie.Need-mul-tracer-word
 mul-tracer-word c = search needs

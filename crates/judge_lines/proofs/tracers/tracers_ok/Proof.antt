@@ -6,9 +6,6 @@ use Prim.Native.Nat.{_-_}
 use borrow.Author.Needs.{needs}
 use Rattle.judge_lines.proofs.tracers.tracers_ok.Statement.{statement}
 use Rattle.judge_lines.proofs.tracers.tracers_ok.Tie as tie
-use Rattle.judge_lines.proofs.tracers.tracers_ok.Reads as reads
-use Rattle.judge_lines.proofs.tracers.tracers_ok.Lts as lts
-use Rattle.judge_lines.proofs.tracers.tracer_ok.Reads as tracer-ok-reads
 
 abbrev Inv-loop : tie.InvT-loop
 Inv-loop im k ok₀ i₀ ok i = Passed (8) (tracerOk (narrow k im)) ok i
