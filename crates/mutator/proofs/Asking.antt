@@ -5,9 +5,10 @@ use mathlib.Core.Bool.{true, false}
 use Prim.Native.Nat.{ℕ, _≤_, _<_}
 use lib.Dec.{leb}
 use borrow.Author.Tests.{le-leb, lt-leb, eq-eqb, ne-eqb}
+use Rattle.model.specs.Base.{some}
 use Rattle.model.specs.Image.{Image, granules, isStart, owed, image, imageOf}
 use Rattle.model.specs.Records.{Step, Kind}
-use Rattle.model.specs.Steps.{isNew, badSize, noRoom, owes, owing, noObject, pastEnd, act, step, offDesk}
+use Rattle.model.specs.Steps.{offDesk, isNew, badSize, noRoom, owes, owing, noObject, pastEnd, act, step}
 use Rattle.theory.specs.Heap.{ObjectAt}
 use Rattle.theory.specs.Lines.{NilOr, Start, Sound}
 use Rattle.theory.proofs.Walk.{object-at}
@@ -20,7 +21,6 @@ use Rattle.mutator.specs.Held.{heldOf, Ready}
 use Rattle.mutator.specs.Asks.{Asks, AsksObject, Inside}
 use Rattle.mutator.proofs.Held.{off-says, owes-says, ready, under}
 use Rattle.mutator.proofs.Numbers.{off-desk, still-owing, no-object, past-end, accepted}
-use Rattle.model.specs.Base.{some}
 use mathlib.Core.List.{List}
 
 -- ---- the player and the register
@@ -33,8 +33,8 @@ module _ {m : Image} {s : Step} {n : Kind} {r : ℕ} (q : Asks m s n r) where
   unfolding owes
   held-owing h = let o = owes-says m (s .who) r h in still-owing m s n (q .is-kind) (q .named) (q .desk ∙ o .0) (q .debt (o .1))
 
-  pub on-desk : (g : ℕ) → Ready m (s .who) r g → Rattle.model.specs.Steps.offDesk s n ≡ false
-  unfolding Rattle.model.specs.Base.some
+  pub on-desk : (g : ℕ) → Ready m (s .who) r g → offDesk s n ≡ false
+  unfolding some
   on-desk g h = q .desk ∙ rw (under (s .who) (h .player), under r (h .register))
 
 owes-none : (m : Image) (s : Step) → owed m (s .who) ≡ 0 → owes m s (s .who) ≡ false

@@ -1,5 +1,5 @@
 -- What a player's register holds: each answer from the facts as the code finds them, and what each answer says.
-use mathlib.Core.Path.{_≡_, refl, sym, ap, _∙_}
+use mathlib.Core.Path.{_≡_, refl, sym}
 use mathlib.Core.Bool.{Bool, true, false, not, _||_}
 use mathlib.Core.List.{[], _∷_}
 use Prim.Native.Nat.{ℕ, _≤_, _<_}
@@ -43,9 +43,6 @@ module _ (m : Image) (p r : ℕ) where
       held-holds h g eg = rw (under p hp, under r hr, ← eo, eq-eqb o 0 h, ← eg)
 
 -- ---- what each answer says
-
-abbrev off : ℕ → ℕ → Bool
-off p r = some (ltb 15 p ∷ ltb 15 r ∷ [])
 
 said-off : (f o : Bool) (g : ℕ) → heldBy f o g ≡ Off → f ≡ true
 unfolding heldBy

@@ -3,7 +3,6 @@ use borrow.Author.Needs.{needs}
 use Rattle.mutator.specs.Asks.{Inside}
 use Rattle.mutator.proofs.Asking.{held-nil, held-inside}
 use Rattle.mutator.proofs.LevelWords.{write-asks, write-past, write-done, level-inside}
-use Rattle.model.specs.Image.{links, levels}
 use Rattle.image.specs.Answer.{asked}
 use Rattle.image.specs.Sized.{narrow}
 use Prim.Native.Nat.{_+_, _*_, _<_}

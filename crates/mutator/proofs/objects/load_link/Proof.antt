@@ -4,7 +4,6 @@ use Rattle.mutator.specs.Asks.{Inside}
 use Rattle.mutator.proofs.Asking.{held-nil, held-inside}
 use Rattle.mutator.proofs.Held.{ready}
 use Rattle.mutator.proofs.Loading.{load-asks, load-past, load-done}
-use Rattle.model.specs.Image.{links}
 use Rattle.image.specs.Sized.{narrow}
 use Prim.Native.Nat.{_<_}
 use native.Mathlib.Omega.{arith}

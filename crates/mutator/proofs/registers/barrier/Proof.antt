@@ -1,6 +1,5 @@
 use borrow.Author.Needs.{needs}
 use Rattle.mutator.proofs.Passing.{owed-exists, barrier-unknown, barrier-off, barrier-nothing, barrier-done}
-use Rattle.model.specs.Image.{owed}
 use native.Mathlib.Omega.{arith}
 use Rattle.mutator.proofs.registers.barrier.Statement.{statement}
 use Rattle.mutator.proofs.registers.barrier.Tie as tie

@@ -3,7 +3,6 @@ use Rattle.mutator.proofs.Asking.{held-off, held-owing}
 use Rattle.mutator.proofs.Passing.{hand-player, hand-register, hand-asks, hand-owing, hand-done}
 use Rattle.image.specs.Answer.{asked}
 use mathlib.Core.Path.{sym, _∙_}
-use Rattle.model.specs.Image.{owed}
 use Rattle.mutator.proofs.registers.hand.Statement.{statement}
 use Rattle.mutator.proofs.registers.hand.Tie as tie
 
