@@ -4,3 +4,5 @@ pub mod Stretches
 pub mod Sizes
 pub mod Masks
 pub mod BitWords
+pub mod FreshStore
+pub mod Rooms

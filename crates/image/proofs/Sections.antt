@@ -1,14 +1,15 @@
 -- Each section of an image of 16-bit words: its place among the words, and its words read and written there.
-use mathlib.Core.Path.{_≡_, sym, ap}
+use mathlib.Core.Path.{_≡_, sym, ap, _∙_, refl}
 use mathlib.Core.List.{List, []}
-use Prim.Native.Nat.{ℕ, _+_, _*_, _<_}
+use Prim.Native.Nat.{ℕ, _+_, _*_, _<_, _≤_}
 use native.Mathlib.Nat.{zero-add}
 use native.Mathlib.Omega.{arith}
-use lib.ListN.{getD, set}
+use lib.ListN.{getD, set, length}
 use Rattle.model.specs.Base.{nth, put}
-use Rattle.model.specs.Image.{lengths, split, image, imageOf, withHeap, withStarts, withMarks, withCards, withRegs, withPackets, withTracers, withPlayers, withGeneral}
-use Rattle.image.specs.Sized.{narrow}
-use Rattle.image.proofs.Split.{place, split-get, split-put}
+use Rattle.model.specs.Image.{mostCards, lengths, split, image, imageOf, withHeap, withStarts, withMarks, withCards, withRegs, withPackets, withTracers, withPlayers, withGeneral, sections, words, granules}
+use Rattle.image.specs.Sized.{narrow, Sized, Lengths}
+use Rattle.image.proofs.Split.{place, split-get, split-put, split-length}
+use Rattle.model.proofs.Words.{Fits, total, join-split, split-lengths}
 
 -- ---- for all sections at once
 
@@ -95,3 +96,51 @@ module _ (k : ℕ) (ws : List ℕ) (i v : ℕ) where
   pub put-general : i < 8 → narrow k (put ws (265 * k + 1376 + i) v) ≡ withGeneral (narrow k ws) (put (narrow k ws .general) i v)
   unfolding narrow imageOf image lengths split withGeneral
   put-general h = put-section k ws 8 i (265 * k + 1376 + i) (omega arith) (omega arith) v
+
+-- ---- all sections together
+
+module _ (k : ℕ) (ws : List ℕ) (z : Sized k ws) where
+  whole : length ws ≡ total (lengths 16 k)
+  unfolding lengths
+  whole = omega (arith, z .long)
+
+  pub words-narrow : words (narrow k ws) ≡ ws
+  unfolding narrow imageOf image words sections lengths split
+  words-narrow = join-split (lengths 16 k) ws whole
+
+  -- the sections have their lengths
+  pub narrow-fits : Fits (narrow k ws)
+  unfolding narrow imageOf image sections lengths split mostCards
+  narrow-fits = record { some-card = z .low; few-cards = z .high; section-lengths = split-lengths (lengths 16 k) ws whole }
+
+  pub narrow-lengths : Lengths k (narrow k ws)
+  unfolding narrow imageOf image lengths split
+  narrow-lengths =
+      let n : (s : ℕ) → place (lengths 16 k) s + getD (lengths 16 k) s 0 ≤ length ws → length (getD (split (lengths 16 k) ws) s []) ≡ getD (lengths 16 k) s 0 = split-length (lengths 16 k) ws in
+      record {
+        heap-length = n 0 (omega (arith, z .long));
+        starts-length = omega (arith, n 1 (omega (arith, z .long)));
+        marks-length = omega (arith, n 2 (omega (arith, z .long)));
+        cards-length = n 3 (omega (arith, z .long));
+        regs-length = n 4 (omega (arith, z .long));
+        packets-length = n 5 (omega (arith, z .long));
+        tracers-length = n 6 (omega (arith, z .long));
+        players-length = n 7 (omega (arith, z .long));
+        general-length = n 8 (omega (arith, z .long));
+      }
+
+-- the words are known by their image
+pub narrow-inj : (k : ℕ) (ws vs : List ℕ) → Sized k ws → Sized k vs → narrow k ws ≡ narrow k vs → ws ≡ vs
+narrow-inj k ws vs z y e = sym (words-narrow k ws z) ∙ (ap words e ∙ words-narrow k vs y)
+
+pub granules-narrow : (k : ℕ) (ws : List ℕ) → granules (narrow k ws) ≡ 64 * k
+unfolding granules narrow imageOf image
+granules-narrow k ws = refl
+
+pub cards-narrow : (k : ℕ) (ws : List ℕ) → narrow k ws .k ≡ k
+unfolding narrow imageOf image
+cards-narrow k ws = refl
+
+pub width-narrow : (k : ℕ) (ws : List ℕ) → narrow k ws .width ≡ 16
+unfolding narrow imageOf image
+width-narrow k ws = refl

@@ -1,19 +1,17 @@
 -- Bits of bit words, for any width.
 use mathlib.Core.Path.{_≡_, refl, sym, ap, subst, _∙_}
-use mathlib.Core.Logic.{_⊎_, inl, inr}
-use mathlib.Core.Bool.{Bool, true, false, not, cond, _&&_, _||_}
-use mathlib.Core.List.{List, [], _∷_}
-use Prim.Native.Nat.{ℕ, zero, suc, _+_, _*_, _-_, _/_, _%_, _^_, _≤_, _<_}
-use native.Mathlib.Nat.{add-div-right, add-mul-div-right, pow-suc, div-add-mod', mod-lt, add-comm, zero-div}
+use mathlib.Core.Bool.{Bool, true, false, cond}
+use mathlib.Core.List.{List}
+use Prim.Native.Nat.{ℕ, zero, suc, _+_, _-_, _/_, _%_, _^_, _≤_, _<_, zero-le, suc-le-suc}
+use native.Mathlib.Nat.{add-div-right, add-mul-div-right, pow-suc, div-add-mod', zero-div, div-zero, div-mul-le-self, le-div-iff-mul-le}
 use native.Mathlib.Decide.{ℕ-discrete, decLt}
 use native.Mathlib.Omega.{arith}
-use lib.Dec.{T, leb, ltb, eqb}
-use lib.ListN.{length, getD, set, replicate}
-use lib.Seq.{getD-set-same, getD-set-other, set-out}
+use lib.Dec.{eqb}
+use lib.ListN.{length, replicate}
 use lib.Pow.{pow-pos, pow-add, shr-shr}
-use borrow.Author.Tests.{eqb-true, eqb-false, eq-eqb, ne-eqb}
+use borrow.Author.Tests.{eqb-false, eq-eqb}
 use Rattle.model.specs.Base.{nth, put, testBit, withBit, bit, setBit, addBits}
-use Rattle.model.proofs.Laws.{bool-cases, nth-put-same, nth-put-other, put-out, length-put, false≢}
+use Rattle.model.proofs.Laws.{false≢, nth-out, nth-replicate, nth-put-same, nth-put-other, put-out, length-put}
 
 below-bit : (x i d : ℕ) → (x + 2 ^ (suc d + i)) / 2 ^ i % 2 ≡ x / 2 ^ i % 2
 below-bit x i d = rw (pow-add 2 (suc d) i, add-mul-div-right x (2 ^ suc d) (pow-pos i), pow-suc 2 d) (omega arith)
@@ -93,7 +91,7 @@ length-addBits w p (suc n) l = go (p n) ∙ length-addBits w p n l
     go true = length-put r _ _
     go false = refl
 
-addBits-past : (w : ℕ) (p : ℕ → Bool) (n : ℕ) (l : List ℕ) (g : ℕ) → n ≤ g → bit w (addBits w p n l) g ≡ bit w l g
+pub addBits-past : (w : ℕ) (p : ℕ → Bool) (n : ℕ) (l : List ℕ) (g : ℕ) → n ≤ g → bit w (addBits w p n l) g ≡ bit w l g
 unfolding addBits
 addBits-past w p zero l g h = refl
 addBits-past w p (suc n) l g h = go (p n) ∙ addBits-past w p n l g (omega arith)
@@ -125,11 +123,28 @@ addBits-bit w p (suc n) l g h k z = cs (λ lt. addBits-bit w p n l g lt (λ i j.
     cs ih (yes e) = rw e (here (p n) refl)
     cs ih (no ne) = up (p n) ne ∙ ih (omega arith)
 
+-- ---- bits that are not set
+
+-- where all words are 0
+pub no-bit : (w : ℕ) (ws : List ℕ) → ((i : ℕ) → nth ws i ≡ 0) → (g : ℕ) → bit w ws g ≡ false
+unfolding bit testBit
+no-bit w ws z g = rw (z (g / w), zero-div (2 ^ (g % w))) refl
+
 pub bit-zeros : (w n g : ℕ) → bit w (replicate n 0) g ≡ false
-unfolding bit testBit nth
-bit-zeros w n g = rw (zero-at n (g / w), zero-div (2 ^ (g % w))) refl
+bit-zeros w n g = no-bit w (replicate n 0) (nth-replicate n) g
+
+-- behind n where the words end there
+pub bit-past : (w n : ℕ) (ws : List ℕ) (g : ℕ) → length ws ≡ n / w → n ≤ g → bit w ws g ≡ false
+unfolding bit testBit
+bit-past w n ws g e h = rw (nth-out ws (g / w) (subst (λ x. x ≤ g / w) (sym e) (below w)), zero-div (2 ^ (g % w))) refl
   where
-    zero-at : (n i : ℕ) → getD {A = ℕ} (replicate n 0) i 0 ≡ 0
-    zero-at zero i = refl
-    zero-at (suc n) zero = refl
-    zero-at (suc n) (suc i) = zero-at n i
+    below : (w : ℕ) → n / w ≤ g / w
+    below zero = rw (div-zero n) zero-le
+    below (suc v) = (le-div-iff-mul-le {k = suc v} (suc-le-suc zero-le)) .1 (omega (arith, div-mul-le-self n (suc v), h))
+
+pub bit-within : (w n : ℕ) (ws : List ℕ) (g : ℕ) → length ws ≡ n / w → bit w ws g ≡ true → g < n
+bit-within w n ws g e q = go (decLt g n)
+  where
+    go : Dec (g < n) → g < n
+    go (yes h) = h
+    go (no h) = false≢ (sym (bit-past w n ws g e (omega arith)) ∙ q)

@@ -1,6 +1,6 @@
 -- The table of cases holds, by computation.
 use mathlib.Core.Path.{_≡_, refl}
-use mathlib.Core.List.{List, map}
+use mathlib.Core.List.{map}
 use Rattle.model.specs.Batch.{model-open}
 use Rattle.model.specs.Cases.{Row, cases, cases-open}
 

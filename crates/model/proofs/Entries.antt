@@ -1,17 +1,18 @@
--- The entries of packets by packet and place.
+-- Pieces of a list, members of a list and the entries of packets, by place.
 use mathlib.Core.Path.{_≡_, refl, sym, ap, _∙_}
 use mathlib.Core.Logic.{_⊎_, inl, inr}
-use mathlib.Core.Bool.{Bool, true, false, _||_}
+use mathlib.Core.Bool.{Bool, true, _||_}
 use mathlib.Core.List.{List, [], _∷_, _++_}
-use Prim.Native.Nat.{ℕ, zero, suc, _+_, _*_, _-_, _≤_, _<_}
+use Prim.Native.Nat.{ℕ, zero, suc, _+_, _*_, _≤_, _<_}
+use native.Mathlib.Nat.{mul-zero, mul-suc, add-comm}
 use native.Mathlib.Omega.{arith}
 use lib.Dec.{eqb}
 use lib.ListN.{length, getD, take, drop, length-take, length-drop}
-use lib.Seq.{getD-drop, getD-take}
+use lib.Seq.{drop-drop, getD-drop, getD-take}
 use borrow.Author.Tests.{eqb-true, eq-eqb}
-use Rattle.model.specs.Base.{nth, elem}
+use Rattle.model.specs.Base.{nth, elem, eachPiece}
 use Rattle.model.specs.Image.{entriesOf}
-use Rattle.model.proofs.Laws.{false≢, or-split, or-left, or-right}
+use Rattle.model.proofs.Laws.{false≢, and-split, and-join, or-split, or-left, or-right}
 
 pub nth-drop : (n : ℕ) (l : List ℕ) (i : ℕ) → nth (drop n l) i ≡ nth l (n + i)
 unfolding nth
@@ -20,6 +21,28 @@ nth-drop n l i = getD-drop n l i 0
 pub nth-take : (n : ℕ) (l : List ℕ) (i : ℕ) → i < n → nth (take n l) i ≡ nth l i
 unfolding nth
 nth-take n l i h = getD-take n l i 0 h
+
+-- ---- each of the pieces of a list
+
+piece-first : (s : ℕ) (ws : List ℕ) → take s (drop (s * 0) ws) ≡ take s ws
+piece-first s ws = rw (mul-zero s) refl
+
+piece-next : (s i : ℕ) (ws : List ℕ) → take s (drop (s * suc i) ws) ≡ take s (drop (s * i) (drop s ws))
+piece-next s i ws = rw (mul-suc s i, add-comm (s * i) s, drop-drop (s * i) s ws) refl
+
+pub eachPiece-make : (s n : ℕ) (p : List ℕ → Bool) (ws : List ℕ) → ((i : ℕ) → i < n → p (take s (drop (s * i) ws)) ≡ true) → eachPiece s n p ws ≡ true
+unfolding eachPiece
+eachPiece-make s zero p ws f = refl
+eachPiece-make s (suc n) p ws f =
+    and-join (p (take s ws)) (eachPiece s n p (drop s ws)) (ap p (sym (piece-first s ws)) ∙ f zero (omega arith))
+    (eachPiece-make s n p (drop s ws) (λ i h. ap p (sym (piece-next s i ws)) ∙ f (suc i) (omega arith)))
+
+-- piece i of those that each pass
+pub eachPiece-use : (s n : ℕ) (p : List ℕ → Bool) (ws : List ℕ) → eachPiece s n p ws ≡ true → (i : ℕ) → i < n → p (take s (drop (s * i) ws)) ≡ true
+unfolding eachPiece
+eachPiece-use s zero p ws e i h = absurd (omega arith)
+eachPiece-use s (suc n) p ws e zero h = ap p (piece-first s ws) ∙ (and-split (p (take s ws)) _ e) .0
+eachPiece-use s (suc n) p ws e (suc i) h = ap p (piece-next s i ws) ∙ eachPiece-use s n p (drop s ws) ((and-split (p (take s ws)) _ e) .1) i (omega arith)
 
 -- ---- members of a list by place
 

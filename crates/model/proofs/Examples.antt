@@ -1,10 +1,9 @@
 -- What the worked images give, by computation.
 use mathlib.Core.Path.{_≡_, refl}
 use mathlib.Core.Bool.{true}
-use Prim.Native.Nat.{ℕ}
 use Rattle.model.specs.Image.{parts}
 use Rattle.model.specs.Undamaged.{sound}
-use Rattle.model.specs.Batch.{Finished, judgeOf, finishOf, model-open}
+use Rattle.model.specs.Batch.{judgeOf, finishOf, model-open}
 use Rattle.model.specs.Cases.{oneCard, cases-open}
 use Rattle.model.specs.Examples.{linkBehind, owedByOne, owedAndHeld, allFreed, examples-open}
 

@@ -70,7 +70,7 @@ table-in (suc n) f zero e = omega arith
 table-in (suc n) f (suc i) e = suc-le-suc (table-in n (λ j. f (suc j)) i e)
 
 -- members of a list by place
-place : (a : ℕ) (l : List ℕ) → Mem a l → (i : ℕ) × (i < length l) × (nth l i ≡ a)
+pub place : (a : ℕ) (l : List ℕ) → Mem a l → (i : ℕ) × (i < length l) × (nth l i ≡ a)
 unfolding nth
 place a (x ∷ l) (List·Memᴰ·head e) = (0, omega arith, sym e)
 place a (x ∷ l) (List·Memᴰ·tail h) = let r = place a l h in (suc (r .0), suc-le-suc (r .1), r .2)
@@ -206,17 +206,17 @@ found-start m s {a} (found-reg p r hp hr e nz) = start-of m a (subst (λ x. nilO
 found-start m s {a} (found-link g i q u l e nz) = let o = found-start m s q in start-of m a (subst (λ x. nilOrStart m x ≡ true) e (s .link-in g i (o .0) (o .1) l)) nz
 found-start m s {a} (found-due g i hg k d l e nz) = start-of m a (subst (λ x. nilOrStart m x ≡ true) e (s .link-in g i hg (s .mark-start g hg k) l)) nz
 
-set-found : (m : Image) → Sited m → (a : ℕ) → In (foundSet m) a → Found m a
+pub set-found : (m : Image) → Sited m → (a : ℕ) → In (foundSet m) a → Found m a
 unfolding foundSet
 set-found m s a h = reached-found m s (reached-sound (granules m) (follows m) (seeds m) a h)
 
-found-set : (m : Image) → Sited m → (a : ℕ) → Found m a → In (foundSet m) a
+pub found-set : (m : Image) → Sited m → (a : ℕ) → Found m a → In (foundSet m) a
 unfolding foundSet
 found-set m s a f = reached-complete (granules m) (follows m) (seeds m) (λ c k. (found-start m s (reached-found m s k)) .0) a (found-reached m s f)
 
 -- ---- the kept set
 
-set-kept : (m : Image) → Sited m → (g : ℕ) → In (keptSet m) g → (isStart m g ≡ true) × Kept m g
+pub set-kept : (m : Image) → Sited m → (g : ℕ) → In (keptSet m) g → (isStart m g ≡ true) × Kept m g
 unfolding keptSet
 set-kept m s g h =
     let l : g < granules m = table-in (granules m) _ g h in
@@ -227,7 +227,7 @@ set-kept m s g h =
     go (inl k) = kept-marked k
     go (inr k) = kept-found (set-found m s g k)
 
-kept-set : (m : Image) → Sited m → (g : ℕ) → isStart m g ≡ true → Kept m g → In (keptSet m) g
+pub kept-set : (m : Image) → Sited m → (g : ℕ) → isStart m g ≡ true → Kept m g → In (keptSet m) g
 unfolding keptSet
 kept-set m s g h k = table-below (granules m) _ g (s .start-in g h) ∙ and-join (isStart m g) _ h (go k)
   where

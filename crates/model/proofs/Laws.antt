@@ -2,13 +2,13 @@
 use mathlib.Core.Path.{_≡_, refl, sym, ap, subst, _∙_}
 use mathlib.Core.Logic.{_⊎_, inl, inr}
 use mathlib.Core.Bool.{Bool, true, false, not, cond, _&&_, _||_}
-use mathlib.Core.List.{List, [], _∷_, _++_, map}
-use Prim.Native.Nat.{ℕ, zero, suc, _+_, _≤_, _<_, zero-le, suc-le-suc}
-use native.Mathlib.Nat.{not-suc-le-zero, le-of-suc-le-suc}
+use mathlib.Core.List.{List, [], _∷_}
+use Prim.Native.Nat.{ℕ, zero, suc, _+_, _≤_, _<_}
+use native.Mathlib.Nat.{not-suc-le-zero}
 use native.Mathlib.Decide.{ℕ-discrete}
 use native.Mathlib.Omega.{arith}
-use lib.Dec.{T, leb, ltb, eqb}
-use lib.ListN.{getD, length, set, length-set}
+use lib.Dec.{T}
+use lib.ListN.{getD, set, replicate, length, length-set, List·getD-eq-default}
 use lib.Seq.{getD-set-same, getD-set-other, set-out}
 use Rattle.model.specs.Base.{first, nth, put, every, some, either, implies, all, any, best}
 
@@ -130,6 +130,28 @@ some-make [] i e = e
 some-make (b ∷ l) zero e = or-left b (some l) e
 some-make (b ∷ l) (suc i) e = or-right b (some l) (some-make l i e)
 
+pub some-false : (l : List Bool) → some l ≡ false → (i : ℕ) → getD l i false ≡ false
+unfolding some
+some-false [] e i = refl
+some-false (true ∷ l) e i = false≢ (sym e)
+some-false (false ∷ l) e zero = refl
+some-false (false ∷ l) e (suc i) = some-false l e i
+
+-- ---- words of a list
+
+-- past the end they are 0
+pub nth-out : (l : List ℕ) (i : ℕ) → length l ≤ i → nth l i ≡ 0
+unfolding nth
+nth-out l i h = List·getD-eq-default l 0 h
+
+pub nth-replicate : (n i : ℕ) → nth (replicate n 0) i ≡ 0
+unfolding nth
+nth-replicate zero i = refl
+nth-replicate (suc n) zero = refl
+nth-replicate (suc n) (suc i) = nth-replicate n i
+
+-- ---- words after a write
+
 pub nth-put-same : (l : List ℕ) (i v : ℕ) → i < length l → nth (put l i v) i ≡ v
 unfolding nth put
 nth-put-same l i v h = getD-set-same l i v 0 h
@@ -145,6 +167,8 @@ put-out l i v h = set-out l i v h
 pub length-put : (l : List ℕ) (i v : ℕ) → length (put l i v) ≡ length l
 unfolding put
 length-put l i v = length-set l i v
+
+-- ---- choices
 
 -- what `best` gives passes
 pub best-ok : (better : ℕ → ℕ → Bool) (ok : ℕ → Bool) (n p : ℕ) → best better ok n ≡ suc p → (p < n) × (ok p ≡ true)
@@ -168,12 +192,27 @@ best-ok better ok (suc n) p e = go (best-ok better ok n) (best better ok n) refl
     go ih zero a r = end (ok n) refl r
     go ih (suc q) a r = more ih q a (ok n && better n q) refl r
 
-pub some-false : (l : List Bool) → some l ≡ false → (i : ℕ) → getD l i false ≡ false
-unfolding some
-some-false [] e i = refl
-some-false (true ∷ l) e i = false≢ (sym e)
-some-false (false ∷ l) e zero = refl
-some-false (false ∷ l) e (suc i) = some-false l e i
+-- and where it gives nothing, none passes
+pub best-none : (better : ℕ → ℕ → Bool) (ok : ℕ → Bool) (n : ℕ) → best better ok n ≡ 0 → (i : ℕ) → i < n → ok i ≡ false
+unfolding best
+best-none better ok zero e i h = absurd (omega arith)
+best-none better ok (suc n) e i h = go (λ a l. best-none better ok n a i l) (best better ok n) refl e (ℕ-discrete i n)
+  where
+    last : (b : Bool) → cond b (suc n) 0 ≡ 0 → b ≡ false
+    last true r = absurd (omega arith)
+    last false r = refl
+
+    never : (b : Bool) (q : ℕ) → cond b (suc n) (suc q) ≡ 0 → ok i ≡ false
+    never true q r = absurd (omega arith)
+    never false q r = absurd (omega arith)
+
+    go : (best better ok n ≡ 0 → i < n → ok i ≡ false) → (x : ℕ) → best better ok n ≡ x
+        → _≡_ {A = ℕ} (elim x [ zero ↦ cond (ok n) (suc n) 0 | suc b ↦ cond (ok n && better n b) (suc n) (suc b) ]) 0 → Dec (i ≡ n) → ok i ≡ false
+    go ih zero a r (yes q) = rw q (last (ok n) r)
+    go ih zero a r (no q) = ih a (omega arith)
+    go ih (suc b) a r d = never (ok n && better n b) b r
+
+-- ---- the first line of a table that passes
 
 -- no line passed
 pub first-none : (n : ℕ) (l : List Bool) → first (suc n) l ≡ 0 → (i : ℕ) → getD l i false ≡ false
@@ -182,3 +221,41 @@ first-none n [] e i = refl
 first-none n (true ∷ l) e i = absurd (omega arith)
 first-none n (false ∷ l) e zero = refl
 first-none n (false ∷ l) e (suc i) = first-none (suc n) l e i
+
+-- a line taken off, where it is not the one that is given
+pub first-off : (n : ℕ) (l : List Bool) (i : ℕ) → (first n l ≡ n + i → ⊥) → first n l ≡ first n (set l i false)
+unfolding first
+first-off n [] i ne = refl
+first-off n (true ∷ l) zero ne = absurd (ne (omega arith))
+first-off n (true ∷ l) (suc i) ne = refl
+first-off n (false ∷ l) zero ne = refl
+first-off n (false ∷ l) (suc i) ne = first-off (suc n) l i (λ e. ne (omega arith))
+
+-- the tables agree on a line, and on the rest where it does not apply
+pub first-cons : (n : ℕ) (b b′ : Bool) (l l′ : List Bool) → b ≡ b′ → (b ≡ false → first (suc n) l ≡ first (suc n) l′) → first n (b ∷ l) ≡ first n (b′ ∷ l′)
+unfolding first
+first-cons n true b′ l l′ e h = ap (λ z. first n (z ∷ l′)) e
+first-cons n false b′ l l′ e h = h refl ∙ ap (λ z. first n (z ∷ l′)) e
+
+pub first-low : (n : ℕ) (l : List Bool) → (first n l ≡ 0) ⊎ (n ≤ first n l)
+unfolding first
+first-low n [] = inl refl
+first-low n (true ∷ l) = inr (omega arith)
+first-low n (false ∷ l) = more (first-low (suc n) l)
+  where
+    more : (first (suc n) l ≡ 0) ⊎ (suc n ≤ first (suc n) l) → (first (suc n) l ≡ 0) ⊎ (n ≤ first (suc n) l)
+    more (inl e) = inl e
+    more (inr h) = inr (omega arith)
+
+-- the line that is given passes
+pub first-passes : (n : ℕ) (l : List Bool) (i : ℕ) → first (suc n) l ≡ suc n + i → getD l i false ≡ true
+unfolding first
+first-passes n [] i e = absurd (omega arith)
+first-passes n (true ∷ l) zero e = refl
+first-passes n (true ∷ l) (suc i) e = absurd (omega arith)
+first-passes n (false ∷ l) zero e = absurd (past (first-low (suc (suc n)) l))
+  where
+    past : (first (suc (suc n)) l ≡ 0) ⊎ (suc (suc n) ≤ first (suc (suc n)) l) → ⊥
+    past (inl z) = omega arith
+    past (inr z) = omega arith
+first-passes n (false ∷ l) (suc i) e = first-passes (suc n) l i (omega arith)

@@ -1,34 +1,41 @@
 -- An image is its words, and words of fitting length are an image: both round trips.
-use mathlib.Core.Path.{_≡_, refl, sym, ap, subst, _∙_}
+use mathlib.Core.Path.{_≡_, refl, sym, ap, _∙_}
 use mathlib.Core.Logic.{_⊎_, inl, inr}
 use mathlib.Core.Bool.{Bool, true, false, cond}
-use mathlib.Core.List.{List, [], _∷_, _++_, map}
-use Prim.Native.Nat.{ℕ, zero, suc, _+_, _*_, _-_, _/_, _≤_}
+use mathlib.Core.List.{List, [], _∷_, map}
+use Prim.Native.Nat.{ℕ, _+_, _≤_}
 use native.Mathlib.Omega.{arith}
 use lib.Dec.{eqb}
-use lib.ListN.{length, take, drop, length-drop, length-append, take-append-drop}
-use lib.Seq.{take-at, drop-at}
+use lib.ListN.{length, drop, length-drop, length-append, take-append-drop}
+use lib.Seq.{take-at, drop-at, length-take-le}
 use borrow.Author.Tests.{eqb-true, eq-eqb, leb-true, le-leb}
 use Rattle.model.specs.Image.{Image, lengths, imageLength, mostCards, cardsOf, fits, split, join, sections, image, imageOf, parts, words}
 use Rattle.model.proofs.Laws.{every-use, every-cons, every-nil}
 
-total : List ℕ → ℕ
+-- ---- lists cut and joined
+
+abbrev pub total : List ℕ → ℕ
 total [] = 0
 total (n ∷ ns) = n + total ns
 
-split-join : (ls : List (List ℕ)) → split (map length ls) (join ls) ≡ ls
+pub split-join : (ls : List (List ℕ)) → split (map length ls) (join ls) ≡ ls
 unfolding split join
 split-join [] = refl
 split-join (l ∷ ls) = rw (take-at l (join ls) (length l) refl, drop-at l (join ls) (length l) refl) (ap (λ r. l ∷ r) (split-join ls))
 
-join-split : (ns ws : List ℕ) → length ws ≡ total ns → join (split ns ws) ≡ ws
-unfolding split join total
+pub join-split : (ns ws : List ℕ) → length ws ≡ total ns → join (split ns ws) ≡ ws
+unfolding split join
 join-split [] [] e = refl
 join-split [] (w ∷ ws) e = absurd (omega arith)
 join-split (n ∷ ns) ws e = rw (join-split ns (drop n ws) (rw (length-drop n ws) (omega arith))) (take-append-drop n ws)
 
-length-join : (ls : List (List ℕ)) → length (join ls) ≡ total (map length ls)
-unfolding join total
+pub split-lengths : (ns ws : List ℕ) → length ws ≡ total ns → map length (split ns ws) ≡ ns
+unfolding split
+split-lengths [] ws e = refl
+split-lengths (n ∷ ns) ws e = λ i. (length-take-le n ws (omega arith) i ∷ split-lengths ns (drop n ws) (omega (arith, length-drop n ws)) i)
+
+pub length-join : (ls : List (List ℕ)) → length (join ls) ≡ total (map length ls)
+unfolding join
 length-join [] = refl
 length-join (l ∷ ls) = omega (arith, length-append l (join ls), length-join ls)
 
@@ -50,8 +57,8 @@ unfolding cardsOf imageLength
 cards-length w k (inl e) = rw e (omega arith)
 cards-length w k (inr e) = rw e (omega arith)
 
-total-lengths : (w k : ℕ) → total (lengths w k) ≡ imageLength w k
-unfolding total lengths imageLength
+pub total-lengths : (w k : ℕ) → total (lengths w k) ≡ imageLength w k
+unfolding lengths imageLength
 total-lengths w k = omega arith
 
 -- ---- the round trips
@@ -61,6 +68,15 @@ pub record Fits (m : Image) : Type 0 where
   pub some-card : 1 ≤ m .k
   pub few-cards : m .k ≤ mostCards (m .width)
   pub section-lengths : map length (sections m) ≡ lengths (m .width) (m .k)
+
+-- words of fitting length are an image that fits
+pub parts-fit : (w : ℕ) (ws : List ℕ) → fits w (length ws) ≡ true → Fits (parts w ws)
+unfolding parts imageOf image sections split lengths fits
+parts-fit w ws e = record {
+  some-card = leb-true _ _ (every-use _ e 0);
+  few-cards = leb-true _ _ (every-use _ e 1);
+  section-lengths = split-lengths (lengths w (cardsOf w (length ws))) ws (eqb-true _ _ (every-use _ e 2) ∙ sym (total-lengths w (cardsOf w (length ws))));
+}
 
 pub length-words : (m : Image) → Fits m → length (words m) ≡ imageLength (m .width) (m .k)
 unfolding words

@@ -1,11 +1,11 @@
 -- Calls: fresh, judge, batch and the finish alone on words, at the width of 16 bits and at any; `model-open` opens all that they compute with.
-use mathlib.Core.Bool.{Bool, true, false, not}
+use mathlib.Core.Bool.{Bool, not}
 use mathlib.Core.List.{List, [], _∷_}
-use Prim.Native.Nat.{ℕ, zero, suc, _+_, _*_, _/_, _%_}
+use Prim.Native.Nat.{ℕ, zero, suc, _*_, _/_, _%_}
 use lib.Dec.{eqb}
 use lib.ListN.{length}
 use Rattle.model.specs.Base.{some, first}
-use Rattle.model.specs.Image.{Image, fits, parts, words}
+use Rattle.model.specs.Image.{fits, parts, words}
 use Rattle.model.specs.Undamaged
 use Rattle.model.specs.Undamaged.{undamaged, Made, freshAt, judgeAt}
 use Rattle.model.specs.Records

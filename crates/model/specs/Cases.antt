@@ -1,9 +1,8 @@
 -- The cases that document 01 marks to be proved, as rows of one table: what is computed, and what document 01 says of it.
-use mathlib.Core.List.{List, [], _∷_, _++_, map}
-use Prim.Native.Nat.{ℕ, suc, _+_, _*_, _/_, _%_}
+use mathlib.Core.List.{List, [], _∷_, _++_}
+use Prim.Native.Nat.{ℕ, _*_, _/_, _%_}
 use lib.ListN.{length, replicate}
 use Rattle.model.specs.Image.{imageLength}
-use Rattle.model.specs.Undamaged.{Made}
 use Rattle.model.specs.Batch.{Batch, freshOf, judgeOf, batchOf}
 
 -- a record: kind, player or tracer, a, b, c

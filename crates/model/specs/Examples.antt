@@ -1,6 +1,6 @@
 -- Worked images that the starred cases do not reach: a finish on an image without Cover, Cover and its two players, runs joined.
-use mathlib.Core.List.{List, [], _∷_, _++_}
-use Prim.Native.Nat.{ℕ, _+_, _*_}
+use mathlib.Core.List.{List, [], _∷_}
+use Prim.Native.Nat.{ℕ, _*_}
 use lib.ListN.{length, replicate}
 use Rattle.model.specs.Base.{put}
 use Rattle.model.specs.Batch.{Batch, batchOf}

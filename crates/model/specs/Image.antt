@@ -1,8 +1,8 @@
 -- The image: its sections, the words that they are cut from, and their parts by name, read and written.
-use mathlib.Core.Bool.{Bool, true, false, not, cond, _&&_, _||_}
+use mathlib.Core.Bool.{Bool, cond}
 use mathlib.Core.List.{List, [], _∷_, _++_}
-use Prim.Native.Nat.{ℕ, zero, suc, _+_, _*_, _-_, _/_, _%_}
-use lib.Dec.{leb, ltb, eqb}
+use Prim.Native.Nat.{ℕ, zero, suc, _+_, _*_, _-_, _/_}
+use lib.Dec.{leb, eqb}
 use lib.ListN.{length, getD, take, drop}
 use Rattle.model.specs.Base
 use Rattle.model.specs.Base.{nth, put, every, bit, setBit, some}

@@ -1,8 +1,7 @@
 -- What the steps of players do that is more than one word: new, with the run that it is placed in.
-use mathlib.Core.Bool.{Bool, true, false, cond}
-use mathlib.Core.List.{List, [], _∷_}
-use Prim.Native.Nat.{ℕ, zero, suc, _+_, _*_, _-_}
-use lib.Dec.{leb, eqb}
+use mathlib.Core.Bool.{true, false}
+use Prim.Native.Nat.{ℕ, zero, suc, _+_, _-_}
+use lib.Dec.{leb}
 use Rattle.model.specs.Image.{Image, granules, word, firstRun, setWord, setStart, setReg, setFirstRun}
 
 -- a run, and the run before it in the chain; 0: there is none

@@ -1,13 +1,13 @@
 -- The plain store, which never frees: its state, its step, and how the real answers are read against its own.
 use mathlib.Core.Path.{_≡_}
-use mathlib.Core.Bool.{Bool, true, false, not, cond, _&&_, _||_}
+use mathlib.Core.Bool.{Bool, true, false, not, cond, _||_}
 use mathlib.Core.List.{List, [], _∷_}
-use Prim.Native.Nat.{ℕ, zero, suc, _+_, _*_, _-_}
+use Prim.Native.Nat.{ℕ, zero, suc, _*_, _-_}
 use lib.Dec.{leb, eqb}
 use Rattle.model.specs.Base.{first}
 use Rattle.model.specs.Image.{Image, size, links, link, level, reg, owed}
 use Rattle.model.specs.Records.{Step, Kind, new, load, store, barrier, handOver, dropReg, read, write, begin, scan, trace, clean, finish, isDue, unknown, kindOf}
-use Rattle.model.specs.Steps.{Done, Event, unnamed, offDesk, badSize}
+use Rattle.model.specs.Steps.{Event, unnamed, offDesk, badSize}
 
 -- ---- the state
 
@@ -199,13 +199,18 @@ plainRun q (f ∷ fs) = let d : PlainDone = plainStep q (f .request) (f .place) 
 unfoldable pub named : (ℕ → Object) → ℕ → Event → ℕ → Object
 named name i e = cond (byPlayerKind false (eqb (e .done .number) 0) false false false false false false false (kindOf (e .request .kind))) (upd name (e .done .value) (made i)) name
 
--- "the value g of an accepted new or load is compared as the object ..; 0 as nil. Other values, and all numbers, must be equal as they are."
+-- "0 as nil"
+unfoldable pub objectAt : (ℕ → Object) → ℕ → Object
+objectAt name zero = old 0
+objectAt name (suc g) = name (suc g)
+
+-- "the value g of an accepted new or load is compared as the object .. Other values, and all numbers, must be equal as they are."
 unfoldable pub reading : (ℕ → Object) → Event → Reply
 reading name e =
     let n : Bool = eqb (e .done .number) 0 in
     record {
       number = e .done .number;
-      value = cond (byPlayerKind false n n false false false false false false (kindOf (e .request .kind))) (as-object (name (e .done .value))) (as-is (e .done .value));
+      value = cond (byPlayerKind false n n false false false false false false (kindOf (e .request .kind))) (as-object (objectAt name (e .done .value))) (as-is (e .done .value));
     }
 
 -- the real answers of the records that the plain store is fed, read; `name` is the reading of granule numbers so far
@@ -222,5 +227,5 @@ SameAnswers m es = readings old 0 es ≡ plainRun (plainOf m) (feed 0 es)
 
 -- opens all of these
 unfoldable pub plain-open : ℕ
-unfolding sameObject isNil upd updObject putReg putLink putLevel putOwing putObject ofImage plainOf holding plainOwing plainNoObject plainLevels plainPastEnd plainNothing plainRefusal plainAccept plainAct plainOutcome plainStep feeds feedsEvent feed plainRun named reading readings
+unfolding sameObject isNil upd updObject putReg putLink putLevel putOwing putObject ofImage plainOf holding plainOwing plainNoObject plainLevels plainPastEnd plainNothing plainRefusal plainAccept plainAct plainOutcome plainStep feeds feedsEvent feed plainRun named objectAt reading readings
 plain-open = 0

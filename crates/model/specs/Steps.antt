@@ -1,12 +1,12 @@
 -- A step: the numbers that refuse it, as document 01's table has them, what it does, and lists of steps.
 use mathlib.Core.Bool.{Bool, true, false, not, cond, _&&_, _||_}
-use mathlib.Core.List.{List, [], _∷_, _++_}
+use mathlib.Core.List.{List, [], _∷_}
 use Prim.Native.Nat.{ℕ, zero, suc, _+_, _*_, _-_, _/_}
 use lib.Dec.{leb, ltb, eqb}
-use Rattle.model.specs.Base.{every, some, first}
-use Rattle.model.specs.Image.{Image, size, links, link, levels, level, reg, owed, scanned, running, setWord, setReg, setOwed, dirtyCard}
+use Rattle.model.specs.Base.{some, first}
+use Rattle.model.specs.Image.{Image, links, link, levels, level, reg, owed, scanned, running, setWord, setReg, setOwed, dirtyCard}
 use Rattle.model.specs.Records.{Step, Kind, new, load, store, barrier, handOver, dropReg, read, write, begin, scan, trace, clean, finish, isDue, unknown, kindOf}
-use Rattle.model.specs.Mutate.{Room, roomFor, newObject, freeGranules}
+use Rattle.model.specs.Mutate.{roomFor, newObject, freeGranules}
 use Rattle.model.specs.Collect.{beginCycle, scanPlayer, traceLine, traceStep, cleanLine, cleanStep}
 use Rattle.model.specs.Finish.{Finish, finishStep}
 

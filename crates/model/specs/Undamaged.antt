@@ -1,12 +1,12 @@
 -- "Undamaged", one named line for each clause of document 01; a fresh store; judging. Defined without the steps.
-use mathlib.Core.Bool.{Bool, true, false, not, cond, _&&_, _||_}
+use mathlib.Core.Bool.{Bool, true, false, not, cond}
 use mathlib.Core.List.{List, [], _∷_, _++_}
 use Prim.Native.Nat.{ℕ, zero, suc, _+_, _*_, _-_, _/_, _%_}
 use lib.Dec.{leb, ltb, eqb}
 use lib.ListN.{length, drop, replicate}
-use Rattle.model.specs.Base.{nth, all, any, every, some, either, implies, zeroes, elem, distinct, eachPiece, first, bit}
+use Rattle.model.specs.Base.{nth, all, any, every, some, either, implies, zeroes, elem, distinct, eachPiece, first}
 use Rattle.model.specs.Image
-use Rattle.model.specs.Image.{Image, granules, word, isStart, marked, links, link, state, dirty, reg, entries, hand, nextLink, handCard, nextGranule, owed, scanned, running, firstRun, fits, imageLength, cardsOf, parts}
+use Rattle.model.specs.Image.{Image, granules, isStart, marked, links, link, state, dirty, reg, entries, hand, nextLink, handCard, nextGranule, owed, scanned, running, firstRun, fits, imageLength, cardsOf, parts}
 
 -- ---- "Objects and runs fill granules 1 to G − 1 without overlap. Start bits are set at every object's first granule and nowhere else."
 

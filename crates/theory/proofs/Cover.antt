@@ -1,17 +1,17 @@
 -- The test of Cover and its derivations are the same.
-use mathlib.Core.Path.{_≡_, refl, sym, ap, subst, _∙_}
+use mathlib.Core.Path.{_≡_}
 use mathlib.Core.Logic.{_⊎_, inl, inr}
-use mathlib.Core.Bool.{Bool, true, false}
-use mathlib.Core.List.{List, [], _∷_}
-use Prim.Native.Nat.{ℕ, zero, suc, _+_, _*_, _/_, _≤_, _<_}
+use mathlib.Core.Bool.{true}
+use mathlib.Core.List.{[], _∷_}
+use Prim.Native.Nat.{ℕ, _/_, _<_}
 use native.Mathlib.Omega.{arith}
-use lib.Dec.{eqb, leb}
+use lib.Dec.{eqb}
 use borrow.Author.Tests.{leb-true, eqb-true, le-leb, eq-eqb}
-use Rattle.model.specs.Base.{every, some, all, any, implies, elem}
-use Rattle.model.specs.Image.{Image, granules, marked, links, link, dirty, reg, owed, count, entry, entries, entriesOf, hand, nextLink, handCard, nextGranule}
+use Rattle.model.specs.Base.{some}
+use Rattle.model.specs.Image.{Image, granules, marked, links, link, dirty, count, entry, entries}
 use Rattle.model.specs.Undamaged.{entered, linkToCome, granuleToCome, owedWith, covered, cover}
 use Rattle.model.proofs.Laws.{every-use, every-cons, every-nil, some-use, some-nil, some-make, all-use, all-make, any-use, any-make, imp-use, imp-make}
-use Rattle.model.proofs.Entries.{EntryAt, entries-use, entries-make}
+use Rattle.model.proofs.Entries.{entries-use, entries-make}
 use Rattle.theory.specs.Cover.{Coming, on-dirty, on-entry, on-hand, on-card, Owes, owes-by, Covered, to-nil, to-marked, is-coming, is-owed, Cover, Counted}
 
 pub entered-use : (m : Image) (g i : ℕ) → entered m g ≡ true → Coming m g i

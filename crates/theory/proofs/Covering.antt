@@ -42,6 +42,14 @@ dirty-keeps m c d h e = here (ℕ-discrete d c)
 pub le-eq : {a b c : ℕ} → b ≤ c → a ≡ b → a ≤ c
 le-eq h e = rw e h
 
+-- what comes is read from cards, packets and tracers alone
+pub same-coming : (m m′ : Image) → m′ .cards ≡ m .cards → m′ .packets ≡ m .packets → m′ .tracers ≡ m .tracers → (g i : ℕ) → Coming m g i → Coming m′ g i
+unfolding dirty state count entry hand nextLink handCard nextGranule
+same-coming m m′ c p t g i (on-dirty q) = on-dirty (ap (λ l. isDirty (nth l (g / 64))) c ∙ q)
+same-coming m m′ c p t g i (on-entry a e ha he q) = on-entry a e ha (omega (arith, ap (λ l. nth l (32 * a)) p)) (ap (λ l. nth l (32 * a + 2 + e)) p ∙ q)
+same-coming m m′ c p t g i (on-hand u hu q r) = on-hand u hu (ap (λ l. nth l (8 * u + 2)) t ∙ q) (le-eq r (ap (λ l. nth l (8 * u + 3)) t))
+same-coming m m′ c p t g i (on-card u hu q r) = on-card u hu (ap (λ l. nth l (8 * u + 4)) t ∙ q) (le-eq r (ap (λ l. nth l (8 * u + 5)) t))
+
 -- ---- Cover of some objects
 
 -- Cover of the objects in X

@@ -1,41 +1,18 @@
--- Entries and pieces by place: each piece of a list passes a test, and no object is entered twice.
+-- Entries by place: no word of a list stands twice, and no object is entered twice.
 use mathlib.Core.Path.{_≡_, refl, sym, ap, _∙_}
 use mathlib.Core.Logic.{_⊎_, inl, inr}
-use mathlib.Core.Bool.{Bool, true, false, not, _&&_, _||_}
+use mathlib.Core.Bool.{true, false, not, _&&_, _||_}
 use mathlib.Core.List.{List, [], _∷_, _++_}
 use Prim.Native.Nat.{ℕ, zero, suc, _+_, _*_, _≤_, _<_}
-use native.Mathlib.Nat.{mul-zero, mul-suc, add-comm}
 use native.Mathlib.Omega.{arith}
+use lib.Dec.{eqb}
 use lib.ListN.{length, take, drop, length-take, length-drop}
-use lib.Seq.{drop-drop}
 use borrow.Author.Tests.{not-true, eqb-true, eq-eqb}
-use Rattle.model.specs.Base.{nth, elem, distinct, eachPiece}
+use Rattle.model.specs.Base.{nth, elem, distinct}
+use Rattle.model.specs.Image.{entriesOf}
 use Rattle.model.proofs.Laws.{false≢, and-split, and-join, not-make, or-split, or-left, or-right}
 use Rattle.model.proofs.Entries.{nth-drop, nth-take, elem-use, elem-make, elem-left, elem-right, elem-split, entries-use, entries-make}
 use Rattle.theory.specs.Lines.{countIn, entryIn}
-use lib.Dec.{eqb}
-use Rattle.model.specs.Image.{entriesOf}
-
--- ---- pieces
-
-piece-first : (s : ℕ) (ws : List ℕ) → take s (drop (s * 0) ws) ≡ take s ws
-piece-first s ws = rw (mul-zero s) refl
-
-piece-next : (s i : ℕ) (ws : List ℕ) → take s (drop (s * suc i) ws) ≡ take s (drop (s * i) (drop s ws))
-piece-next s i ws = rw (mul-suc s i, add-comm (s * i) s, drop-drop (s * i) s ws) refl
-
-pub eachPiece-use : (s n : ℕ) (p : List ℕ → Bool) (ws : List ℕ) → eachPiece s n p ws ≡ true → (i : ℕ) → i < n → p (take s (drop (s * i) ws)) ≡ true
-unfolding eachPiece
-eachPiece-use s zero p ws e i h = absurd (omega arith)
-eachPiece-use s (suc n) p ws e zero h = ap p (piece-first s ws) ∙ (and-split (p (take s ws)) (eachPiece s n p (drop s ws)) e) .0
-eachPiece-use s (suc n) p ws e (suc i) h = ap p (piece-next s i ws) ∙ eachPiece-use s n p (drop s ws) ((and-split (p (take s ws)) (eachPiece s n p (drop s ws)) e) .1) i (omega arith)
-
-pub eachPiece-make : (s n : ℕ) (p : List ℕ → Bool) (ws : List ℕ) → ((i : ℕ) → i < n → p (take s (drop (s * i) ws)) ≡ true) → eachPiece s n p ws ≡ true
-unfolding eachPiece
-eachPiece-make s zero p ws f = refl
-eachPiece-make s (suc n) p ws f =
-    and-join (p (take s ws)) (eachPiece s n p (drop s ws)) (ap p (sym (piece-first s ws)) ∙ f zero (omega arith))
-    (eachPiece-make s n p (drop s ws) (λ i h. ap p (sym (piece-next s i ws)) ∙ f (suc i) (omega arith)))
 
 -- ---- no word stands twice
 

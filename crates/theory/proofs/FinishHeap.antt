@@ -1,72 +1,31 @@
 -- A finish leaves a filled heap whose starts are the kept objects, with their words.
 use mathlib.Core.Path.{_≡_, refl, sym, ap, subst, fun-ext, _∙_}
-use mathlib.Core.Logic.{_⊎_, inl, inr}
-use mathlib.Core.Bool.{Bool, true, false, cond, _&&_, _||_}
-use mathlib.Core.List.{List, [], _∷_, _++_}
-use Prim.Native.Nat.{ℕ, zero, suc, _+_, _*_, _-_, _/_, _≤_, _<_}
-use native.Mathlib.Decide.{ℕ-discrete, decLt}
+use mathlib.Core.Bool.{Bool, true, false}
+use mathlib.Core.List.{List, _++_}
+use Prim.Native.Nat.{ℕ, _+_, _*_, _-_, _≤_, _<_}
+use native.Mathlib.Decide.{decLt}
 use native.Mathlib.Omega.{arith}
-use lib.Dec.{eqb}
 use lib.ListN.{length, getD, take, drop, replicate, length-append, length-drop, length-replicate}
 use lib.Seq.{length-take-le, drop-at}
-use borrow.Author.Tests.{eqb-true}
-use Rattle.model.specs.Base.{nth, put, zeros, bit, setBit, table, addBits}
-use Rattle.model.specs.Image.{Image, mostCards, granules, word, isStart, marked, size, firstRun}
-use Rattle.model.specs.Finish.{Swept, sweptWords, firstOf, sweep, foundSet, keptSet, Finish, finishWith, finishStep}
-use Rattle.model.proofs.Laws.{false≢, bool-cases, and-split, nth-put-same, length-put}
-use Rattle.model.proofs.Bits.{length-addBits, addBits-bit, setBit-other, bit-zeros}
+use Rattle.model.specs.Base.{nth, put, zeros, bit, addBits}
+use Rattle.model.specs.Image.{Image, granules, word, isStart, size, firstRun}
+use Rattle.model.specs.Finish.{Swept, sweptWords, firstOf, sweep, keptSet, finishWith}
+use Rattle.model.proofs.Laws.{and-split, nth-put-same, length-put}
+use Rattle.model.proofs.Bits.{length-addBits, addBits-bit, bit-zeros, addBits-past}
 use Rattle.model.proofs.Entries.{nth-take}
+use Rattle.model.proofs.Found.{table-below, table-in}
 use Rattle.theory.specs.Heap.{Filled, HeapFilled, HeapSized}
+use Rattle.theory.specs.Sweep.{Stays, SweptOk}
 use Rattle.theory.proofs.Lists.{nth-left, nth-right}
 use Rattle.theory.proofs.Walk.{word-behind}
-use Rattle.theory.proofs.Sweep.{Stays, nth-swept, SweptOk, swept-filled, sweep-ok, length-swept, sweep-stays}
+use Rattle.theory.proofs.Sweep.{nth-swept, swept-filled, sweep-ok, length-swept, sweep-stays}
 
 -- ---- the set that is kept
-
-table-true : (n : ℕ) (f : ℕ → Bool) (g : ℕ) → getD (table n f) g false ≡ true → f g ≡ true
-unfolding table
-table-true zero f g e = false≢ e
-table-true (suc n) f zero e = e
-table-true (suc n) f (suc g) e = table-true n (λ i. f (suc i)) g e
 
 -- what is kept is a start
 pub kept-start : (m : Image) (g : ℕ) → getD (keptSet m) g false ≡ true → isStart m g ≡ true
 unfolding keptSet
-kept-start m g e =
-    (and-split (isStart m g) (marked m g || getD (foundSet m) g false) (table-true (granules m) (λ h. isStart m h && (marked m h || getD (foundSet m) h false)) g e)) .0
-
--- ---- bit words of the two widths
-
-pub width-of : (w : ℕ) → 1 ≤ mostCards w → (w ≡ 16) ⊎ (w ≡ 32)
-unfolding mostCards
-width-of w h = go (eqb w 16) refl (eqb w 32) refl h
-  where
-    go : (a : Bool) → eqb w 16 ≡ a → (b : Bool) → eqb w 32 ≡ b → 1 ≤ cond a 512 (cond b 65536 0) → (w ≡ 16) ⊎ (w ≡ 32)
-    go true e b e₁ l = inl (eqb-true _ _ e)
-    go false e true e₁ l = inr (eqb-true _ _ e₁)
-    go false e false e₁ l = absurd (omega arith)
-
--- every granule has its bit
-pub bit-word : (w k g : ℕ) → (w ≡ 16) ⊎ (w ≡ 32) → g < 64 * k → g / w < 64 * k / w
-bit-word w k g (inl e) h = rw e (omega arith)
-bit-word w k g (inr e) h = rw e (omega arith)
-
--- bits that are added lie below n
-added-below : (w : ℕ) (p : ℕ → Bool) (n : ℕ) (l : List ℕ) (g : ℕ) → bit w l g ≡ false → bit w (addBits w p n l) g ≡ true → g < n
-unfolding addBits
-added-below w p zero l g e q = false≢ (sym e ∙ q)
-added-below w p (suc n) l g e q = cs (added-below w p n l g e) (ℕ-discrete g n)
-  where
-    r : List ℕ
-    r = addBits w p n l
-
-    same : (b : Bool) → (g ≡ n → ⊥) → bit w (cond b (setBit w r n) r) g ≡ bit w r g
-    same true ne = setBit-other w r n g ne
-    same false ne = refl
-
-    cs : (bit w r g ≡ true → g < n) → Dec (g ≡ n) → g < suc n
-    cs ih (yes x) = omega arith
-    cs ih (no ne) = let h = ih (sym (same (p n) ne) ∙ q) in omega (arith, h)
+kept-start m g e = (and-split (isStart m g) _ (sym (table-below (granules m) _ g (table-in (granules m) _ g e)) ∙ e)) .0
 
 -- ---- the image that a finish leaves, whatever set of starts it keeps
 
@@ -83,7 +42,7 @@ module _ (m : Image) (keep : List Bool) (o : HeapFilled m) (z : HeapSized m) (ke
   len : length ws + 4 ≡ 4 * granules m
   len = omega (arith, length-drop 4 (m .heap), o .heap-words, z .some-granules)
 
-  ok : SweptOk (isStart m) keeps kept 1 (length ws) swept-heap
+  ok : SweptOk keeps 1 (length ws) swept-heap
   ok = sweep-ok (isStart m) keeps kept (granules m) (o .heap-filled) (omega (arith, len))
 
   four : length (take 4 (m .heap)) ≡ 4
@@ -100,14 +59,13 @@ module _ (m : Image) (keep : List Bool) (o : HeapFilled m) (z : HeapSized m) (ke
       none : (h : ℕ) → bit (m .width) (replicate (length (m .starts)) 0) h ≡ false
       none h = bit-zeros (m .width) (length (m .starts)) h
 
-      past : (g < granules m → ⊥) → (a b : Bool) → bit (m .width) bits g ≡ a → getD keep g false ≡ b → a ≡ b
-      past n true b e e₁ = absurd (n (added-below (m .width) (λ g. getD keep g false) (granules m) (replicate (length (m .starts)) 0) g (none g) e))
-      past n false true e e₁ = absurd (n ((o .start-range g (kept g e₁)) .1))
-      past n false false e e₁ = refl
+      out : (g < granules m → ⊥) → (b : Bool) → getD keep g false ≡ b → b ≡ false
+      out n true e = absurd (n ((o .start-range g (kept g e)) .1))
+      out n false e = refl
 
       cs : Dec (g < granules m) → bit (m .width) bits g ≡ getD keep g false
       cs (yes l) = addBits-bit (m .width) (λ g. getD keep g false) (granules m) (replicate (length (m .starts)) 0) g l (λ h k. rw length-replicate (z .start-words h k)) none
-      cs (no l) = past l (bit (m .width) bits g) (getD keep g false) refl refl
+      cs (no l) = addBits-past (m .width) (λ g. getD keep g false) (granules m) (replicate (length (m .starts)) 0) g (omega arith) ∙ (none g ∙ sym (out l (getD keep g false) refl))
 
   pub finish-filled : HeapFilled ((finishWith m keep) .image)
   unfolding finishWith firstRun granules

@@ -11,7 +11,8 @@ use lib.ListN.{length}
 use borrow.Author.Tests.{ltb-true, leb-true, eqb-true, eqb-false, not-true, lt-ltb, le-leb, eq-eqb, ne-eqb}
 use Rattle.model.specs.Base.{nth, all, every, zeroes}
 use Rattle.model.specs.Image.{Image, granules, word, isStart, marked, links, link, state, count, owed, scanned, running, firstRun}
-use Rattle.model.specs.Undamaged.{zeroGranule, filled, nilOrStart, linksOk, regOk, playerOk, cardOk, markOk, generalOk, idleOk, sound, cover, undamaged}
+use Rattle.model.specs.Undamaged.{zeroGranule, filled, nilOrStart, linksOk, regOk, playerOk, cardOk, markOk, generalOk, idleOk, sound, undamaged}
+pub use Rattle.model.proofs.Laws.{nth-out}
 use Rattle.model.proofs.Laws.{and-split, and-join, imp-use, imp-make, either-no, either-make, all-use, all-make, every-use, every-nil, every-cons}
 use Rattle.theory.specs.Cover.{Counted}
 use Rattle.theory.specs.Lines.{PlayersOk, NilOr, MarksOk, GeneralOk, HeapOk, Start, Lines, Idle, Sound, Undamaged, Sizes}
@@ -19,12 +20,6 @@ use Rattle.theory.proofs.Cover.{cover-use, cover-make}
 use Rattle.theory.proofs.Tests.{packets-use, packets-make, tracers-use, tracers-make}
 
 -- ---- words of a list
-
-pub nth-out : (l : List ℕ) (i : ℕ) → length l ≤ i → nth l i ≡ 0
-unfolding nth
-nth-out [] i h = refl
-nth-out (x ∷ l) zero h = absurd (omega arith)
-nth-out (x ∷ l) (suc i) h = nth-out l i (omega arith)
 
 -- what holds of the n words of a list and of 0 holds of every word
 each-word : (P : ℕ → Type 0) (l : List ℕ) (n : ℕ) → length l ≡ n → P 0 → ((i : ℕ) → i < n → P (nth l i)) → (i : ℕ) → P (nth l i)

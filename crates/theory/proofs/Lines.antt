@@ -3,11 +3,11 @@ use mathlib.Core.Path.{_≡_}
 use mathlib.Core.Bool.{true}
 use mathlib.Core.List.{List}
 use Prim.Native.Nat.{ℕ, _+_, _*_, _-_, _≤_}
+use Rattle.model.specs.Base.{nth, bit}
+use Rattle.model.specs.Image.{Image, withHeap, withMarks, withCards, withRegs, withPackets, withTracers, withPlayers, withGeneral}
 use Rattle.theory.specs.Lines.{PacketsOk, TracersOk, CardsOk, PlayersOk, RegsOk, MarksOk, GeneralOk, HeapOk, Start, Marked, InHand, CardInHand, Lines}
 use Rattle.theory.proofs.Packets.{packets-mono}
 use Rattle.theory.proofs.Sections.{tracers-mono}
-use Rattle.model.specs.Base.{nth, bit}
-use Rattle.model.specs.Image.{Image, withHeap, withMarks, withCards, withRegs, withPackets, withTracers, withPlayers, withGeneral}
 
 -- ---- one law for each section that is replaced: only the lines that read it are asked for
 

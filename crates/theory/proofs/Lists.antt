@@ -1,12 +1,13 @@
 -- Words of joined lists, and of the pieces of a heap whose words are joined.
-use mathlib.Core.Path.{_≡_, refl, sym, ap, ap₂, _∙_}
+use mathlib.Core.Path.{_≡_, refl, ap, ap₂, _∙_}
 use mathlib.Core.List.{List, [], _∷_, _++_}
 use Prim.Native.Nat.{ℕ, zero, suc, _+_, _*_, _-_, _≤_, _<_, suc-le-suc}
 use native.Mathlib.Omega.{arith}
-use lib.ListN.{length, take, replicate, length-replicate, List·getD-append, getD-replicate}
+use lib.ListN.{length, take, replicate, length-replicate, List·getD-append}
 use lib.Seq.{getD-append-add}
 use Rattle.model.specs.Base.{nth}
 use Rattle.model.specs.Finish.{runTail}
+use Rattle.model.proofs.Laws.{nth-replicate}
 use Rattle.theory.specs.Heap.{runWords}
 
 pub nth-head : (x : ℕ) (l : List ℕ) → nth (x ∷ l) 0 ≡ x
@@ -22,8 +23,7 @@ unfolding nth
 nth-right l r i n e = rw (← e) (getD-append-add l r i 0)
 
 pub nth-zeros : (n i : ℕ) → i < n → nth (replicate n 0) i ≡ 0
-unfolding nth
-nth-zeros n i h = getD-replicate n i 0 0 h
+nth-zeros n i h = nth-replicate n i
 
 pub zeros-take : (n : ℕ) (l : List ℕ) → n ≤ length l → ((i : ℕ) → i < n → nth l i ≡ 0) → take n l ≡ replicate n 0
 unfolding nth
@@ -43,7 +43,7 @@ run-next n next rest = refl
 
 pub run-zero : (n next : ℕ) (rest : List ℕ) (i : ℕ) → i < 4 * suc n - 2 → nth (runTail n next ++ rest) (suc i) ≡ 0
 unfolding runTail nth
-run-zero n next rest i h = List·getD-append (replicate (4 * suc n - 2) 0) rest 0 i (rw length-replicate h) ∙ getD-replicate (4 * suc n - 2) i 0 0 h
+run-zero n next rest i h = nth-left (replicate (4 * suc n - 2) 0) rest i (rw length-replicate h) ∙ nth-replicate (4 * suc n - 2) i
 
 -- ---- word i from granule h on, in the words from granule g on: behind a piece of s granules
 

@@ -1,4 +1,4 @@
--- The lines of "undamaged" that read the packets, and what an append and a pop keep of them.
+-- The lines that read the packets, where an entry is appended or popped.
 use mathlib.Core.Path.{_≡_, refl, sym, _∙_}
 use mathlib.Core.Logic.{_⊎_, inl, inr}
 use mathlib.Core.List.{List}
@@ -6,9 +6,9 @@ use Prim.Native.Nat.{ℕ, suc, _+_, _*_, _-_, _≤_, _<_}
 use native.Mathlib.Decide.{ℕ-discrete}
 use native.Mathlib.Omega.{arith}
 use lib.ListN.{length}
-use Rattle.theory.specs.Lines.{countIn, entryIn, Enters, PacketsOk}
 use Rattle.model.specs.Base.{nth, put}
 use Rattle.model.proofs.Laws.{nth-put-same, nth-put-other, length-put}
+use Rattle.theory.specs.Lines.{countIn, entryIn, Enters, PacketsOk}
 
 -- x is v where C holds, else o
 abbrev pub Wrote : Type 0 → ℕ → ℕ → ℕ → Type 0
@@ -101,7 +101,7 @@ module _ {Mk : ℕ → Type 0} {ps : List ℕ} (k : PacketsOk Mk ps) (p a : ℕ)
       go (inl (s, v)) = let h : e < 30 = omega arith in more h (λ n. rw s (omega arith)) (ent-appended q e h)
       go (inr (s, v)) = let h : e < 30 = omega (arith, k .few q (i .is-packet)) in more h (λ n. omega arith) (ent-appended q e h)
 
-  -- "appending a marked, not yet entered object keeps the packet lines"
+  -- a marked object that is not yet entered is appended
   pub append-ok : Mk a → ((q e : ℕ) → Enters ps q e a → ⊥) → PacketsOk Mk (appended ps p a)
   append-ok ma un = record {
     sized = simp length-put (k .sized);

@@ -16,7 +16,7 @@ use Rattle.model.proofs.Laws.{false≢, bool-cases, any-make, every-use, some-u
 use Rattle.model.proofs.Bits.{setBit-same, setBit-other, setBit-keeps}
 use Rattle.theory.specs.Cover.{Coming, Covered, Cover, on-dirty, on-entry, on-hand, on-card, owes-by, to-nil, to-marked, is-coming, is-owed}
 use Rattle.theory.specs.Lines.{Enters, PacketsOk, TracersOk, NilOr, Start, Marked, InHand, CardInHand, Lines}
-use Rattle.theory.proofs.Covering.{dirty-same, dirty-keeps, hold-coming}
+use Rattle.theory.proofs.Covering.{dirty-same, dirty-keeps, hold-coming, same-coming}
 use Rattle.theory.proofs.Lines.{put-packets, put-tracers, put-marks, put-cards}
 use Rattle.theory.proofs.Packets.{append-new, append-on, append-ok}
 use Rattle.theory.proofs.Sections.{hold-ok, dirtied-ok, dirtied-on, mark-ok}
@@ -24,17 +24,14 @@ use Rattle.theory.proofs.Sections.{hold-ok, dirtied-ok, dirtied-on, mar
 -- ---- what is marked, and where it is entered
 
 mark-coming : (m : Image) (a g i : ℕ) → Coming m g i → Coming (setMark m a) g i
-unfolding setMark withMarks dirty state count entry hand nextLink handCard nextGranule
-mark-coming m a g i (on-dirty q) = on-dirty q
-mark-coming m a g i (on-entry q e hq he r) = on-entry q e hq he r
-mark-coming m a g i (on-hand t ht q r) = on-hand t ht q r
-mark-coming m a g i (on-card t ht q r) = on-card t ht q r
+unfolding setMark withMarks
+mark-coming m a g i c = same-coming m (setMark m a) refl refl refl g i c
 
 take-coming : (m : Image) (t g i : ℕ) → Coming m g i → Coming (takeOutput m t) g i
 unfolding takeOutput
 take-coming m t g i c = hold-coming m t 1 _ (omega arith) g i c
 
-dirty-coming : (m : Image) (c g i : ℕ) → c < length (m .cards) → Coming m g i → Coming (dirtyCard m c) g i
+pub dirty-coming : (m : Image) (c g i : ℕ) → c < length (m .cards) → Coming m g i → Coming (dirtyCard m c) g i
 unfolding dirtyCard setState withCards dirty state count entry hand nextLink handCard nextGranule
 dirty-coming m c g i h (on-dirty q) = on-dirty (dirty-keeps m c (g / 64) h q)
 dirty-coming m c g i h (on-entry q e hq he r) = on-entry q e hq he r
@@ -53,7 +50,7 @@ unfolding append withPackets count entry
 append-comes m o p a hp hc i = let n = append-new o p a hp hc in on-entry p (count m p) (n .is-packet) (n .below) (n .is-entry)
 
 -- the two cases of entering
-enter-cases : (P : Image → Type 0) (m : Image) (t a : ℕ) → P (dirtyCard m (a / 64)) → ((p : ℕ) → output m t ≡ suc p → P (append m p a)) → P (enter m t a)
+pub enter-cases : (P : Image → Type 0) (m : Image) (t a : ℕ) → P (dirtyCard m (a / 64)) → ((p : ℕ) → output m t ≡ suc p → P (append m p a)) → P (enter m t a)
 unfolding enter
 enter-cases P m t a z s = go (output m t) refl
   where
@@ -72,7 +69,7 @@ unheld m p e u zero hu hj x =
 unheld m p e u (suc zero) hu hj x = false≢ (sym e ∙ any-make 8 _ u hu (some-make _ 1 (eq-eqb _ _ x)))
 unheld m p e u (suc (suc j)) hu hj x = absurd (omega arith)
 
-mark-lines : {m : Image} → Lines m → (a : ℕ) → Start m a → Lines (setMark m a)
+pub mark-lines : {m : Image} → Lines m → (a : ℕ) → Start m a → Lines (setMark m a)
 unfolding setMark
 mark-lines {m} o a sa = put-marks o _ (mark-ok (o .marks-ok) a sa) (λ g k. setBit-keeps (m .width) (m .marks) a g (o .marks-ok .sized a (sa .0)) k)
 
@@ -80,7 +77,7 @@ emptiest-ok : (m : Image) (q : ℕ) → emptiest m ≡ suc q → (q < 32) × (he
 unfolding emptiest
 emptiest-ok m q e = let u = best-ok _ _ 32 q e in (u .0, not-true _ (every-use _ (u .1) 0), ltb-true _ _ (every-use _ (u .1) 1))
 
-take-lines : {m : Image} → Lines m → (t : ℕ) → t < 8 → Lines (takeOutput m t)
+pub take-lines : {m : Image} → Lines m → (t : ℕ) → t < 8 → Lines (takeOutput m t)
 unfolding takeOutput setTracer withTracers output
 take-lines {m} o t ht = put-tracers o _ (go (noOutput m t))
   where
@@ -102,7 +99,7 @@ take-lines {m} o t ht = put-tracers o _ (go (noOutput m t))
         (λ u j p hu hj x y. o .tracers-ok .places .once u j t 1 p hu ht hj (omega arith) y x)
 
 -- the output packet that is taken is one of the 32 and has space
-took : {m : Image} → Lines m → (t p : ℕ) → t < 8 → output (takeOutput m t) t ≡ suc p → (p < 32) × (count m p < 30)
+pub took : {m : Image} → Lines m → (t p : ℕ) → t < 8 → output (takeOutput m t) t ≡ suc p → (p < 32) × (count m p < 30)
 unfolding takeOutput setTracer withTracers output noOutput count
 took {m} o t p ht e = go (noOutput m t) refl (sym (nth-put-same (m .tracers) (8 * t + 1) _ (omega (arith, o .tracers-ok .sized))) ∙ e)
   where
@@ -274,16 +271,23 @@ each-take P z (suc n) [] f i = z
 each-take P z (suc n) (x ∷ l) f zero = f zero
 each-take P z (suc n) (x ∷ l) f (suc i) = each-take P z n l (λ j. f (suc j)) i
 
--- the lines, Cover, and general words as they were
+-- what no step of the collector but begin and finish writes
+abbrev pub frame : Image → ℕ × ℕ × List ℕ
+frame m = (m .width, m .k, m .general)
+
+pub reached-frame : {m : Image} {a : ℕ} {m′ : Image} → Reached m a m′ → frame m′ ≡ frame m
+reached-frame r = λ i. (r .width-same i, r .k-same i, r .general-same i)
+
+-- the lines and Cover hold
 pub record Stays (m m′ : Image) : Type 0 where
   pub lines : Lines m′
   pub cover : Cover m′
-  pub general-same : m′ .general ≡ m .general
+  pub frame-same : frame m′ ≡ frame m
 
 pub reachAll-does : (m : Image) → Lines m → Cover m → (t : ℕ) → t < 8 → (l : List ℕ) → ((i : ℕ) → NilOr (Start m) (nth l i)) → Stays m (reachAll m t l)
 unfolding reachAll nth
-reachAll-does m o cov t ht [] f = record { lines = o; cover = cov; general-same = refl }
+reachAll-does m o cov t ht [] f = record { lines = o; cover = cov; frame-same = refl }
 reachAll-does m o cov t ht (a ∷ l) f =
     let r = reach-does m o t a ht (f zero) in
     let s = reachAll-does (reach m t a) (r .lines) (reached-cover r cov) t ht l (λ i. rw (r .k-same, r .width-same, r .starts-same) (f (suc i))) in
-    record { lines = s .lines; cover = s .cover; general-same = s .general-same ∙ r .general-same }
+    record { lines = s .lines; cover = s .cover; frame-same = s .frame-same ∙ reached-frame r }

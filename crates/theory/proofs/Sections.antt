@@ -1,4 +1,4 @@
--- The lines of "undamaged" that read one of the other sections of the collector's state, and what each write keeps of them.
+-- The lines that read tracers, cards, players, registers or marks, where one of their words is written.
 use mathlib.Core.Path.{_≡_, sym, _∙_}
 use mathlib.Core.Logic.{inl, inr}
 use mathlib.Core.Bool.{true}
@@ -8,12 +8,12 @@ use native.Mathlib.Decide.{ℕ-discrete}
 use native.Mathlib.Omega.{arith}
 use lib.ListN.{length}
 use lib.Seq.{set-comm}
-use Rattle.theory.specs.Lines.{Pair, Pairs, HeldOk, TracersOk, CardsOk, PlayersOk, NilOr, RegsOk, MarksOk, none, one}
-use Rattle.theory.proofs.Packets.{Wrote, nth-put}
 use Rattle.model.specs.Base.{nth, put, bit, setBit}
 use Rattle.model.specs.Image.{dirtyState}
 use Rattle.model.proofs.Bits.{setBit-other}
 use Rattle.model.proofs.Laws.{nth-put-same, nth-put-other, length-put}
+use Rattle.theory.specs.Lines.{Pair, Pairs, HeldOk, TracersOk, CardsOk, PlayersOk, NilOr, RegsOk, MarksOk, none, one}
+use Rattle.theory.proofs.Packets.{Wrote, nth-put}
 
 -- ---- tracers
 
@@ -56,7 +56,7 @@ held-other {ts} k t b v hb h = record {
     same : (u i : ℕ) → i < 2 → nth (put ts (8 * t + b) v) (8 * u + i) ≡ nth ts (8 * u + i)
     same u i hi = nth-put-other ts (8 * t + b) (8 * u + i) v (omega arith)
 
--- "taking a packet that is held nowhere else keeps held-once"
+-- taking a packet that is held nowhere else keeps held-once
 held-set : {ts : List ℕ} → HeldOk ts → length ts ≡ 64 → (t i v : ℕ) → t < 8 → i < 2 → v ≤ 32
     → ((u j p : ℕ) → u < 8 → j < 2 → v ≡ suc p → nth ts (8 * u + j) ≡ suc p → (u ≡ t) × (j ≡ i)) → HeldOk (put ts (8 * t + i) v)
 held-set {ts} k l t i v ht hi hv free = record {
@@ -188,7 +188,7 @@ scanned-set {k} {ps} o p hp = record {
     go q (inl (e, w)) = omega arith
     go q (inr (n, w)) = omega (arith, o .scanned-ok q)
 
--- "a register set to nil or a start"
+-- a register is set to nil or a start
 pub reg-ok : {St : ℕ → Type 0} {rs : List ℕ} → RegsOk St rs → (i v : ℕ) → i < 256 → NilOr St v → RegsOk St (put rs i v)
 reg-ok {St} {rs} o i v h ok = record { sized = simp length-put (o .sized); values = λ j. go j (nth-put rs i j v (omega (arith, o .sized))) }
   where
@@ -196,7 +196,7 @@ reg-ok {St} {rs} o i v h ok = record { sized = simp length-put (o .sized); value
     go j (inl (e, w)) = rw w ok
     go j (inr (n, w)) = rw w (o .values j)
 
--- "marking a start keeps the marks"
+-- a start is marked
 pub mark-ok : {w k : ℕ} {St : ℕ → Type 0} {ms : List ℕ} → MarksOk w k St ms → (a : ℕ) → St a → MarksOk w k St (setBit w ms a)
 unfolding setBit
 mark-ok {w} {k} {St} {ms} o a sa = record { exact = rw length-put (o .exact); sized = λ g h. rw length-put (o .sized g h); on-starts = λ g e. go g e (ℕ-discrete g a) }

@@ -1,18 +1,19 @@
 -- A sweep: what it leaves fills the heap again, is as long, and has the words of the kept objects.
 use mathlib.Core.Path.{_≡_, refl, sym, ap, _∙_}
 use mathlib.Core.Logic.{_⊎_, inl, inr}
-use mathlib.Core.Bool.{Bool, true, false, cond}
-use mathlib.Core.List.{List, [], _∷_, _++_}
+use mathlib.Core.Bool.{Bool, true, false}
+use mathlib.Core.List.{List, _∷_, _++_}
 use Prim.Native.Nat.{ℕ, zero, suc, _+_, _*_, _-_, _≤_, _<_}
 use native.Mathlib.Nat.{add-zero, add-assoc}
 use native.Mathlib.Decide.{ℕ-discrete, decLt}
 use native.Mathlib.Omega.{arith}
-use lib.ListN.{length, take, drop, length-append}
+use lib.ListN.{length, length-append}
 use lib.Seq.{take-at, drop-at}
 use Rattle.model.specs.Base.{nth}
 use Rattle.model.specs.Finish.{runTail, Swept, sweptWords, firstOf, swept, sweep}
 use Rattle.model.proofs.Laws.{false≢, bool-cases}
-use Rattle.theory.specs.Heap.{Object, runWords, Bare, Filled, f-end, f-object, f-run}
+use Rattle.theory.specs.Heap.{runWords, Bare, Filled, f-end, f-object, f-run}
+use Rattle.theory.specs.Sweep.{Stays, SweptOk}
 use Rattle.theory.proofs.Lists.{nth-head, nth-left, nth-right, length-run, nth-behind, head-behind}
 
 -- a run may follow where none ends
@@ -36,10 +37,6 @@ length-swept r = go (r .free)
     go : (f : ℕ) → length {A = ℕ} (elim f [ zero ↦ r .rest | suc n ↦ runWords n (r .next) ++ r .rest ]) ≡ 4 * f + length (r .rest)
     go zero = omega arith
     go (suc n) = omega (arith, length-append (runTail n (r .next)) (r .rest), length-run n (r .next))
-
--- the object at h lies behind the free granules in front, and its word i is as it was
-unfoldable pub Stays : ℕ → List ℕ → Swept → ℕ → ℕ → Type 0
-Stays g ws r h i = (g + r .free ≤ h) × (nth (r .rest) (4 * (h - (g + r .free)) + i) ≡ nth ws (4 * (h - g) + i))
 
 stays-freed : (g s h i x : ℕ) (l t : List ℕ) (r : Swept) → length l ≡ 4 * s → g + s ≤ h → Stays (g + s) t r h i → Stays g (l ++ t) (record { free = s + r .free; rest = r .rest; next = r .next; freed = x }) h i
 unfolding Stays
@@ -79,13 +76,7 @@ module _ (st keep : ℕ → Bool) (kept : (g : ℕ) → keep g ≡ true → st g
 
   -- ---- filled again
 
-  -- from granule g on, whose words are l many
-  pub record SweptOk (g l : ℕ) (r : Swept) : Type 0 where
-    pub behind : Filled keep (g + r .free) (r .rest) (r .next) true
-    pub free-bare : (h : ℕ) → g ≤ h → h < g + r .free → keep h ≡ false
-    pub long : 4 * r .free + length (r .rest) ≡ l
-
-  pub swept-filled : (g l : ℕ) (r : Swept) → SweptOk g l r → Filled keep g (sweptWords r) (firstOf g r) false
+  pub swept-filled : (g l : ℕ) (r : Swept) → SweptOk keep g l r → Filled keep g (sweptWords r) (firstOf g r) false
   unfolding sweptWords firstOf
   swept-filled g l r ok = go (r .free) (ok .behind) (ok .free-bare)
     where
@@ -94,7 +85,7 @@ module _ (st keep : ℕ → Bool) (kept : (g : ℕ) → keep g ≡ true → st g
       go zero b n = weaken (rw add-zero at b)
       go (suc f) b n = f-run f (r .next) (r .rest) (n g (omega arith) (omega arith)) (λ h a c. n h (omega arith) c) b
 
-  freed-ok : (g s l : ℕ) (r : Swept) (x : ℕ) → 1 ≤ s → keep g ≡ false → Bare st g s → SweptOk (g + s) l r → SweptOk g (4 * s + l) (record { free = s + r .free; rest = r .rest; next = r .next; freed = x })
+  freed-ok : (g s l : ℕ) (r : Swept) (x : ℕ) → 1 ≤ s → keep g ≡ false → Bare st g s → SweptOk keep (g + s) l r → SweptOk keep g (4 * s + l) (record { free = s + r .free; rest = r .rest; next = r .next; freed = x })
   freed-ok g s l r x h k ba ok = record { behind = rw (← add-assoc) (ok .behind); free-bare = λ i p q. near i p q (ℕ-discrete i g) (decLt i (g + s)); long = omega (arith, ok .long) }
     where
       near : (i : ℕ) → g ≤ i → i < g + (s + r .free) → Dec (i ≡ g) → Dec (i < g + s) → keep i ≡ false
@@ -102,7 +93,7 @@ module _ (st keep : ℕ → Bool) (kept : (g : ℕ) → keep g ≡ true → st g
       near i p q (no e) (yes l) = not-kept i (ba i (omega arith) l)
       near i p q (no e) (no l) = ok .free-bare i (omega arith) (omega arith)
 
-  pub sweep-ok : {g next : ℕ} {run : Bool} {ws : List ℕ} (n : ℕ) → Filled st g ws next run → length ws < 4 * n → SweptOk g (length ws) (sweep st keep n g ws)
+  pub sweep-ok : {g next : ℕ} {run : Bool} {ws : List ℕ} (n : ℕ) → Filled st g ws next run → length ws < 4 * n → SweptOk keep g (length ws) (sweep st keep n g ws)
   sweep-ok zero f l = absurd (omega arith)
   sweep-ok (suc n) f-end l = unfold sweep in record { behind = f-end; free-bare = λ h p q. absurd (omega arith); long = omega arith }
   sweep-ok {g} (suc n) (f-object s ws rest e o ba f) l =
@@ -111,7 +102,7 @@ module _ (st keep : ℕ → Bool) (kept : (g : ℕ) → keep g ≡ true → st g
       len : 4 * s + length rest ≡ suc (length (ws ++ rest))
       len = omega (arith, length-append ws rest, o .long)
 
-      go : SweptOk (g + s) (length rest) (sweep st keep n (g + s) rest) → (k : Bool) → keep g ≡ k → SweptOk g (suc (length (ws ++ rest))) (swept st g s (s ∷ ws) k (sweep st keep n (g + s) rest))
+      go : SweptOk keep (g + s) (length rest) (sweep st keep n (g + s) rest) → (k : Bool) → keep g ≡ k → SweptOk keep g (suc (length (ws ++ rest))) (swept st g s (s ∷ ws) k (sweep st keep n (g + s) rest))
       go ok true k = unfold swept in record {
         behind = rw add-zero (f-object s ws _ k o (λ h p q. not-kept h (ba h p q)) (swept-filled (g + s) (length rest) _ ok));
         free-bare = λ h p q. absurd (omega arith);
@@ -124,12 +115,8 @@ module _ (st keep : ℕ → Bool) (kept : (g : ℕ) → keep g ≡ true → st g
       len : 4 * suc m + length rest ≡ suc (length (runTail m next ++ rest))
       len = omega (arith, length-append (runTail m next) rest, length-run m next)
 
-      go : SweptOk (g + suc m) (length rest) (sweep st keep n (g + suc m) rest) → SweptOk g (suc (length (runTail m next ++ rest))) (swept st g (suc m) (runWords m next) (keep g) (sweep st keep n (g + suc m) rest))
+      go : SweptOk keep (g + suc m) (length rest) (sweep st keep n (g + suc m) rest) → SweptOk keep g (suc (length (runTail m next ++ rest))) (swept st g (suc m) (runWords m next) (keep g) (sweep st keep n (g + suc m) rest))
       go ok = unfold swept in rw (not-kept g e, ← len) (freed-ok g (suc m) (length rest) _ _ (omega arith) (not-kept g e) ba ok)
-
-  -- the swept heap is as long
-  pub sweep-length : {g next : ℕ} {run : Bool} {ws : List ℕ} (n : ℕ) → Filled st g ws next run → length ws < 4 * n → length (sweptWords (sweep st keep n g ws)) ≡ length ws
-  sweep-length {g} {ws = ws} n f l = length-swept (sweep st keep n g ws) ∙ (sweep-ok n f l) .long
 
   -- ---- word i of a kept object at h stays
 

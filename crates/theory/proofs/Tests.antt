@@ -8,13 +8,13 @@ use native.Mathlib.Omega.{arith}
 use lib.Dec.{leb, ltb, eqb}
 use lib.ListN.{length, take, drop}
 use borrow.Author.Tests.{ltb-true, ltb-false, leb-true, eqb-true, eqb-false, not-true, lt-ltb, le-ltb, le-leb, eq-eqb, ne-eqb}
-use Rattle.model.specs.Base.{nth, all, every, distinct, eachPiece}
+use Rattle.model.specs.Base.{nth, all, every, either, distinct, eachPiece}
 use Rattle.model.specs.Image.{Image, granules, word, marked, links, state, entries, hand, nextLink, handCard, nextGranule}
 use Rattle.model.specs.Undamaged.{entryOk, packetOk, heldAt, heldOnce, handOk, handCardOk, tracerOk}
 use Rattle.model.proofs.Laws.{false≢, either-yes, either-no, either-make, not-make, all-use, all-make, every-use, every-nil, every-cons}
-use Rattle.model.proofs.Entries.{nth-drop, nth-take}
+use Rattle.model.proofs.Entries.{nth-drop, nth-take, eachPiece-use, eachPiece-make}
 use Rattle.theory.specs.Lines.{countIn, entryIn, PacketsOk, Pair, Never, TracersOk, Marked, InHand, CardInHand, none, one}
-use Rattle.theory.proofs.Distinct.{eachPiece-use, eachPiece-make, once-use, once-make}
+use Rattle.theory.proofs.Distinct.{once-use, once-make}
 
 -- ---- packets
 
@@ -93,32 +93,34 @@ module _ (m : Image) where
 
 -- ---- tracers
 
+-- two words, the second 0 where the first is, and right where it is not
+pair-use : {P : ℕ → ℕ → Type 0} (x y : ℕ) (t : Bool) → either (eqb x 0) (eqb y 0) t ≡ true → (t ≡ true → P x y) → Pair P x y
+pair-use {P} x y t e f = go (ℕ-discrete x 0)
+  where
+    go : Dec (x ≡ 0) → Pair P x y
+    go (yes z) = none z (eqb-true _ _ (either-yes _ _ _ (eq-eqb x 0 z) e))
+    go (no n) = one n (f (either-no _ _ _ (ne-eqb x 0 n) e))
+
+pair-make : {P : ℕ → ℕ → Type 0} (x y : ℕ) (t : Bool) → Pair P x y → (P x y → t ≡ true) → either (eqb x 0) (eqb y 0) t ≡ true
+pair-make x y t (none a b) f = either-make (eqb x 0) _ _ (λ _. eq-eqb _ _ b) (λ n. absurd (eqb-false _ _ n a))
+pair-make x y t (one n p) f = either-make (eqb x 0) _ _ (λ z. absurd (n (eqb-true _ _ z))) (λ _. f p)
+
 module _ (m : Image) where
   hand-use : (g i : ℕ) → handOk m g i ≡ true → Pair (InHand m) g i
   unfolding handOk marked links word
-  hand-use g i e = go (ℕ-discrete g 0)
-    where
-      go : Dec (g ≡ 0) → Pair (InHand m) g i
-      go (yes z) = none z (eqb-true _ _ (either-yes _ _ _ (eq-eqb g 0 z) e))
-      go (no n) = let r = either-no _ _ _ (ne-eqb g 0 n) e in one n (every-use _ r 1, ltb-true _ _ (every-use _ r 2))
+  hand-use g i e = pair-use g i _ e (λ r. (every-use _ r 1, ltb-true _ _ (every-use _ r 2)))
 
   hand-make : ((g : ℕ) → Marked m g → g < 64 * m .k) → (g i : ℕ) → Pair (InHand m) g i → handOk m g i ≡ true
   unfolding handOk marked links word granules
-  hand-make r g i (none a b) = either-make (eqb g 0) _ _ (λ _. eq-eqb _ _ b) (λ n. absurd (eqb-false _ _ n a))
-  hand-make r g i (one n (k, l)) = either-make (eqb g 0) _ _ (λ z. absurd (n (eqb-true _ _ z))) (λ _. every-cons _ _ (lt-ltb _ _ (r g k)) (every-cons _ _ k (every-cons _ _ (lt-ltb _ _ l) every-nil)))
+  hand-make r g i p = pair-make g i _ p (λ h. every-cons _ _ (lt-ltb _ _ (r g (h .0))) (every-cons _ _ (h .0) (every-cons _ _ (lt-ltb _ _ (h .1)) every-nil)))
 
   card-use : (c g : ℕ) → handCardOk m c g ≡ true → Pair (CardInHand m) c g
   unfolding handCardOk state
-  card-use c g e = go (ℕ-discrete c 0)
-    where
-      go : Dec (c ≡ 0) → Pair (CardInHand m) c g
-      go (yes z) = none z (eqb-true _ _ (either-yes _ _ _ (eq-eqb c 0 z) e))
-      go (no n) = let r = either-no _ _ _ (ne-eqb c 0 n) e in one n (leb-true _ _ (every-use _ r 0), leb-true _ _ (every-use _ r 1), leb-true _ _ (every-use _ r 2), leb-true _ _ (every-use _ r 3))
+  card-use c g e = pair-use c g _ e (λ r. (leb-true _ _ (every-use _ r 0), leb-true _ _ (every-use _ r 1), leb-true _ _ (every-use _ r 2), leb-true _ _ (every-use _ r 3)))
 
   card-make : (c g : ℕ) → Pair (CardInHand m) c g → handCardOk m c g ≡ true
   unfolding handCardOk state
-  card-make c g (none a b) = either-make (eqb c 0) _ _ (λ _. eq-eqb _ _ b) (λ n. absurd (eqb-false _ _ n a))
-  card-make c g (one n (x, y, z, w)) = either-make (eqb c 0) _ _ (λ q. absurd (n (eqb-true _ _ q))) (λ _. every-cons _ _ (le-leb _ _ x) (every-cons _ _ (le-leb _ _ y) (every-cons _ _ (le-leb _ _ z) (every-cons _ _ (le-leb _ _ w) every-nil))))
+  card-make c g p = pair-make c g _ p (λ h. every-cons _ _ (le-leb _ _ (h .0)) (every-cons _ _ (le-leb _ _ (h .1)) (every-cons _ _ (le-leb _ _ (h .2)) (every-cons _ _ (le-leb _ _ (h .3)) every-nil))))
 
   heldAt-is : (t i : ℕ) → i < 2 → heldAt m (2 * t + i) ≡ nth (m .tracers) (8 * t + i)
   unfolding heldAt

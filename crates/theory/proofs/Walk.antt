@@ -5,15 +5,14 @@ use mathlib.Core.List.{List, [], _∷_, _++_}
 use Prim.Native.Nat.{ℕ, zero, suc, _+_, _*_, _-_, _≤_, _<_}
 use native.Mathlib.Decide.{ℕ-discrete, decLt}
 use native.Mathlib.Omega.{arith}
-use lib.Dec.{leb, eqb}
 use lib.ListN.{length, take, drop, replicate, take-append-drop, length-append, length-drop}
 use lib.Seq.{drop-at, length-take-le}
 use borrow.Author.Tests.{leb-true, eqb-true, le-leb, eq-eqb, not-true}
-use Rattle.model.specs.Base.{nth, every, all}
+use Rattle.model.specs.Base.{nth}
 use Rattle.model.specs.Image.{Image, granules, word, isStart, marked, size, links, firstRun}
 use Rattle.model.specs.Undamaged.{bare, piece, fill, filled}
 use Rattle.model.specs.Finish.{runTail}
-use Rattle.model.proofs.Laws.{every-use, every-cons, every-nil, all-use, all-make, false≢}
+use Rattle.model.proofs.Laws.{every-use, every-cons, every-nil, all-use, all-make, false≢, not-make}
 use Rattle.model.proofs.Entries.{nth-drop, nth-take}
 use Rattle.theory.specs.Heap.{Object, runWords, Bare, Filled, f-end, f-object, f-run, At, HeapFilled, ObjectAt, Laid}
 use Rattle.theory.proofs.Lists.{nth-head, nth-left, zeros-take, length-run, run-zero, nth-behind, head-behind}
@@ -206,6 +205,9 @@ object-at m o g e = record {
     w : nth (drop 4 (m .heap)) (4 * (g - 1)) ≡ word m g 0
     w = let z : 4 * (g - 1) ≡ 4 * (g - 1) + 0 = omega arith in ap (nth (drop 4 (m .heap))) z ∙ word-behind m g 0 (range .0)
 
+pub no-start-zero : {m : Image} → HeapFilled m → isStart m 0 ≡ false
+no-start-zero {m} o = not-true _ (not-make (isStart m 0) (λ e. omega (arith, (o .start-range 0 e) .0)))
+
 pub laid : (m : Image) → HeapFilled m → ((g : ℕ) → marked m g ≡ true → isStart m g ≡ true) → Laid m
 laid m o marks = record {
   apart = λ g h e e₁ l. apart g h e e₁ l (decLt h (g + size m g));
@@ -217,3 +219,12 @@ laid m o marks = record {
     apart : (g h : ℕ) → isStart m g ≡ true → isStart m h ≡ true → g < h → Dec (h < g + size m g) → g + size m g ≤ h
     apart g h e e₁ l (yes x) = false≢ (sym ((object-at m o g e) .none-inside h l x) ∙ e₁)
     apart g h e e₁ l (no x) = omega arith
+
+-- two words of objects are one only if object and place are
+pub same-place : (m : Image) → Laid m → (g h i j : ℕ) → isStart m g ≡ true → isStart m h ≡ true → i < 4 * size m g → j < 4 * size m h → 4 * g + i ≡ 4 * h + j → (g ≡ h) × (i ≡ j)
+same-place m d g h i j sg sh li lj e = cs (decLt g h) (decLt h g)
+  where
+    cs : Dec (g < h) → Dec (h < g) → (g ≡ h) × (i ≡ j)
+    cs (yes lt) b = absurd (omega (arith, d .apart g h sg sh lt))
+    cs (no x) (yes lt) = absurd (omega (arith, d .apart h g sh sg lt))
+    cs (no x) (no y) = (omega arith, omega arith)

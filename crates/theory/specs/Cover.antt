@@ -1,8 +1,7 @@
 -- Cover by derivations: one constructor for each phrase of document 01.
 use mathlib.Core.Path.{_≡_}
-use mathlib.Core.Bool.{Bool, true}
-use mathlib.Core.List.{List}
-use Prim.Native.Nat.{ℕ, suc, _+_, _*_, _/_, _≤_, _<_}
+use mathlib.Core.Bool.{true}
+use Prim.Native.Nat.{ℕ, suc, _/_, _≤_, _<_}
 use lib.ListN.{length}
 use Rattle.model.specs.Image.{Image, granules, marked, links, link, dirty, reg, owed, count, entry, hand, nextLink, handCard, nextGranule}
 

@@ -2,10 +2,10 @@
 use mathlib.Core.Path.{_≡_}
 use mathlib.Core.Bool.{Bool, true, false}
 use mathlib.Core.List.{List, [], _∷_, _++_}
-use Prim.Native.Nat.{ℕ, zero, suc, _+_, _*_, _-_, _/_, _≤_, _<_}
+use Prim.Native.Nat.{ℕ, suc, _+_, _*_, _-_, _/_, _≤_, _<_}
 use lib.ListN.{length, drop}
 use Rattle.model.specs.Base.{nth}
-use Rattle.model.specs.Image.{Image, granules, word, isStart, marked, size, links, link, reg, firstRun}
+use Rattle.model.specs.Image.{Image, granules, isStart, marked, size, links, link, reg, firstRun}
 use Rattle.model.specs.Finish.{runTail}
 
 -- the words of an object of s granules behind its first word

@@ -1,3 +1,11 @@
 pub mod Heap
 pub mod Cover
 pub mod Lines
+pub mod Pieces
+pub mod Same
+pub mod Cycle
+pub mod Events
+pub mod Sweep
+pub mod Finish
+pub mod New
+pub mod Numbers

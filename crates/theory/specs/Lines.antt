@@ -1,12 +1,12 @@
 -- The lines of "undamaged" as records over section lists, grouped by the section that they read.
 use mathlib.Core.Path.{_≡_}
 use mathlib.Core.Logic.{_⊎_}
-use mathlib.Core.Bool.{Bool, true, false}
+use mathlib.Core.Bool.{true, false}
 use mathlib.Core.List.{List}
-use Prim.Native.Nat.{ℕ, zero, suc, _+_, _*_, _-_, _/_, _≤_, _<_}
+use Prim.Native.Nat.{ℕ, suc, _+_, _*_, _-_, _/_, _≤_, _<_}
 use lib.ListN.{length, drop}
 use Rattle.model.specs.Base.{nth, bit}
-use Rattle.model.specs.Image.{Image}
+use Rattle.model.specs.Image.{Image, mostCards}
 use Rattle.model.specs.Undamaged.{fill}
 use Rattle.theory.specs.Cover.{Cover}
 
@@ -162,3 +162,10 @@ pub record Sizes (m : Image) : Type 0 where
   pub tracers-size : length (m .tracers) ≡ 64
   pub players-size : length (m .players) ≡ 32
   pub general-size : length (m .general) ≡ 8
+
+-- ---- an image whose words judging passes, at a width
+
+pub record Passes (w : ℕ) (m : Image) : Type 0 where
+  pub is-undamaged : Undamaged m
+  pub same-width : m .width ≡ w
+  pub cards-most : m .k ≤ mostCards w

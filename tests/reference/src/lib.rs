@@ -10,6 +10,7 @@ pub mod judge;
 pub mod layout;
 pub mod made;
 pub mod plain;
+pub mod program;
 pub mod random;
 pub mod record;
 pub mod steps;

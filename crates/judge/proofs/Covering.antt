@@ -1,0 +1,152 @@
+-- Cover, in the order in which the code asks.
+use mathlib.Core.Path.{_≡_, refl, sym, _∙_}
+use mathlib.Core.Bool.{Bool, true, false, not, _&&_, _||_}
+use mathlib.Core.List.{List, [], _∷_}
+use Prim.Native.Nat.{ℕ, suc, _+_, _*_, _/_, _≤_, _<_}
+use native.Mathlib.Numerals.{add-one}
+use native.Mathlib.Omega.{arith}
+use lib.Dec.{leb, eqb}
+use borrow.Author.Tests.{eq-eqb, ne-eqb, not-true, not-false}
+use Rattle.model.specs.Base.{nth, all, any, every, some, implies, bit}
+use Rattle.model.specs.Image.{image, imageOf, word, marked, links, link, state, isDirty, dirty, hand, nextLink, handCard, nextGranule, owed}
+use Rattle.model.specs.Undamaged.{entered, linkToCome, granuleToCome, owedWith, covered, cover}
+use Rattle.model.proofs.Laws.{false≢, all-use, all-make}
+use Rattle.image.specs.Sized.{narrow}
+use Rattle.judge_lines.specs.Tests.{atWord, wordwise}
+use Rattle.judge_lines.proofs.Loops.{and-true, or-false, all-cong}
+use Rattle.judge_lines.proofs.Idle.{no-bit}
+use Rattle.judge_lines.proofs.MarkWords.{by-words}
+use Rattle.judge.specs.Order.{Ready, handComes, cardComes, holds, owes, plain, coming, late, objectCovered}
+
+-- ---- seven lines in another order
+
+plain-some : (a b d e h c o : Bool) → some (a ∷ b ∷ []) ≡ true → some (a ∷ b ∷ d ∷ e ∷ h ∷ c ∷ o ∷ []) ≡ true
+unfolding some
+plain-some true b d e h c o q = refl
+plain-some false true d e h c o q = refl
+plain-some false false d e h c o q = false≢ q
+
+coming-some : (a b d e h c o : Bool) → some (d ∷ e ∷ c ∷ []) ≡ true → some (a ∷ b ∷ d ∷ e ∷ h ∷ c ∷ o ∷ []) ≡ true
+unfolding some
+coming-some true b d e h c o q = refl
+coming-some false true d e h c o q = refl
+coming-some false false true e h c o q = refl
+coming-some false false false true h c o q = refl
+coming-some false false false false true c o q = refl
+coming-some false false false false false true o q = refl
+coming-some false false false false false false o q = false≢ q
+
+late-some : (a b d e h c o : Bool) → some (d ∷ e ∷ c ∷ []) ≡ false → some (some (a ∷ b ∷ []) ∷ h ∷ o ∷ []) ≡ some (a ∷ b ∷ d ∷ e ∷ h ∷ c ∷ o ∷ [])
+unfolding some
+late-some true b d e h c o q = refl
+late-some false true d e h c o q = refl
+late-some false false true e h c o q = false≢ (sym q)
+late-some false false false true h c o q = false≢ (sym q)
+late-some false false false false h true o q = false≢ (sym q)
+late-some false false false false h false o q = refl
+
+-- ---- the ways out of `object_covered`
+
+module _ (k : ℕ) (l : List ℕ) (g : ℕ) where
+  module _ (t : Bool) (et : t ≡ marked (narrow k l) g) where
+    pub cov-unmarked : not t ≡ true → true ≡ objectCovered (narrow k l) g
+    unfolding objectCovered implies
+    cov-unmarked h = rw (← et, not-true t h)
+
+    module _ (ht : not t ≡ false) (n : ℕ) (en : n ≡ word (narrow k l) g 1) where
+      is-all : objectCovered (narrow k l) g ≡ all n (covered (narrow k l) g)
+      unfolding objectCovered implies links
+      is-all = rw (← et, not-false t ht, en)
+
+      pub room-of : Ready k (narrow k l) → g < 64 * k → 4 * g + 2 + n ≤ 256 * k
+      unfolding links
+      room-of r h = rw en (r .room g h (sym et ∙ not-false t ht))
+
+      pub cov-plain : (r : Bool) → r ≡ all n (plain (narrow k l) g) → r ≡ true → true ≡ objectCovered (narrow k l) g
+      unfolding covered plain
+      cov-plain r e h = rw is-all (sym (all-make n _ (λ i q. plain-some _ _ _ _ _ _ _ (all-use n _ (sym e ∙ h) i q))))
+
+      pub cov-coming : (d : Bool) → d ≡ coming (narrow k l) g → d ≡ true → true ≡ objectCovered (narrow k l) g
+      unfolding covered coming
+      cov-coming d e h = rw is-all (sym (all-make n _ (λ i q. coming-some _ _ _ _ _ _ _ (sym e ∙ h))))
+
+      pub cov-late : (d r : Bool) → d ≡ coming (narrow k l) g → d ≡ false → r ≡ all n (late (narrow k l) g) → r ≡ objectCovered (narrow k l) g
+      unfolding covered coming late plain
+      cov-late d r e h q = rw is-all (q ∙ all-cong n _ _ (λ i v. late-some _ _ _ _ _ _ _ (sym e ∙ h)))
+
+-- ---- sixteen granules at a time
+
+module _ (k : ℕ) (l : List ℕ) where
+  word-unmarked : (w j x : ℕ) → j < 16 → x ≡ nth (narrow k l .marks) w → x ≡ 0 → marked (narrow k l) (16 * w + j) ≡ false
+  unfolding marked bit narrow imageOf image
+  word-unmarked w j x q ex e =
+      let y : (16 * w + j) / 16 ≡ w = omega arith in
+      no-bit _ _ (rw y (sym ex ∙ e))
+
+  pub word-skip : (w x : ℕ) → x ≡ nth (narrow k l .marks) w → x ≡ 0 → true ≡ wordwise (objectCovered (narrow k l)) w
+  unfolding wordwise atWord objectCovered implies
+  word-skip w x ex e = sym (all-make 16 _ (λ j q. rw (word-unmarked w j x q ex e)))
+
+  pub cover-end : (r : Bool) → r ≡ all (4 * k) (wordwise (objectCovered (narrow k l))) → r ≡ cover (narrow k l)
+  unfolding cover objectCovered
+  cover-end r e = by-words k l (objectCovered (narrow k l)) r e
+
+  -- ---- one tracer, one player
+
+  module _ (g i t h n : ℕ) (eh : h ≡ nth (narrow k l .tracers) (8 * t + 2)) (en : n ≡ nth (narrow k l .tracers) (8 * t + 3)) where
+    pub hand-comes : (eqb h g && leb n i) ≡ handComes (narrow k l) g i t
+    unfolding handComes every hand nextLink
+    hand-comes = rw (← eh, ← en) (simp and-true)
+
+  module _ (g t c n : ℕ) (ec : c ≡ nth (narrow k l .tracers) (8 * t + 4)) (en : n ≡ nth (narrow k l .tracers) (8 * t + 5)) where
+    pub card-comes : (eqb c (g / 64 + 1) && leb n g) ≡ cardComes (narrow k l) g t
+    unfolding cardComes every handCard nextGranule
+    card-comes = rw (← ec, ← en, add-one) (simp and-true)
+
+  module _ (g a p v : ℕ) (e : v ≡ owed (narrow k l) p) where
+    pub owes-no : (v ≡ g / 64 + 1 → ⊥) → false ≡ owes (narrow k l) g a p
+    unfolding owes every
+    owes-no h = rw (← e, ne-eqb v (suc (g / 64)) (λ q. h (omega arith)))
+
+    pub owes-yes : (r : Bool) → v ≡ g / 64 + 1 → r ≡ any 16 (holds (narrow k l) p a) → r ≡ owes (narrow k l) g a p
+    unfolding owes every
+    owes-yes r h q = rw (← e, eq-eqb v (suc (g / 64)) (omega arith), ← q) (sym (and-true r))
+
+  -- ---- one link
+
+  pub plain-is : (g j a : ℕ) (t : Bool) → a ≡ word (narrow k l) g (2 + j) → t ≡ marked (narrow k l) a → (eqb a 0 || t) ≡ plain (narrow k l) g j
+  unfolding plain some link
+  plain-is g j a t ea et = rw (← ea, ← et, or-false)
+
+  module _ (g j : ℕ) (t : Bool) (e : t ≡ plain (narrow k l) g j) where
+    pub late-plain : t ≡ true → true ≡ late (narrow k l) g j
+    unfolding late some
+    late-plain h = rw (← e, h)
+
+    pub late-more : (a : ℕ) (x y : Bool) → t ≡ false → a ≡ word (narrow k l) g (2 + j) → x ≡ any 8 (handComes (narrow k l) g j) → y ≡ any 16 (owes (narrow k l) g a) → (x || y) ≡ late (narrow k l) g j
+    unfolding late some linkToCome handComes owedWith owes holds link
+    late-more a x y h q ex ey = rw (← e, h, ← q, ex, ey, or-false)
+
+  -- ---- one object
+
+  pub dirty-is : (c x : ℕ) → x ≡ state (narrow k l) c → (eqb x 1 || eqb x 3) ≡ dirty (narrow k l) c
+  unfolding dirty isDirty some
+  dirty-is c x e = rw (← e, or-false)
+
+  module _ (g : ℕ) (d : Bool) (ed : d ≡ dirty (narrow k l) (g / 64)) where
+    pub coming-dirty : d ≡ true → true ≡ coming (narrow k l) g
+    unfolding coming some
+    coming-dirty h = rw (← ed, h)
+
+    module _ (hd : d ≡ false) (c : Bool) (ec : c ≡ any 8 (cardComes (narrow k l) g)) where
+      pub coming-card : c ≡ true → true ≡ coming (narrow k l) g
+      unfolding coming some granuleToCome cardComes
+      coming-card h = rw (← ed, hd, ← ec, h) (sym (or-true (entered (narrow k l) g)))
+        where
+          or-true : (b : Bool) → (b || true) ≡ true
+          or-true true = refl
+          or-true false = refl
+
+      pub coming-entered : (x : Bool) → c ≡ false → x ≡ entered (narrow k l) g → x ≡ coming (narrow k l) g
+      unfolding coming some granuleToCome cardComes
+      coming-entered x h q = rw (← ed, hd, ← ec, h, ← q) (sym (or-false x))

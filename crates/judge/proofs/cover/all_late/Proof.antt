@@ -1,0 +1,37 @@
+use Rattle.judge.specs.Order.{late}
+use Rattle.model.specs.Cases.{ok}
+use Rattle.image.specs.Sized.{narrow}
+use Rattle.judge_lines.proofs.Loops.{Passed, none, more, end}
+use Prim.Native.Nat.{_-_}
+use borrow.Author.Needs.{needs}
+use Rattle.judge.proofs.cover.all_late.Statement.{statement}
+use Rattle.judge.proofs.cover.all_late.Tie as tie
+
+abbrev Inv-loop : tie.InvT-loop
+Inv-loop im k g n ok₀ i₀ ok i = Passed (n) (late (narrow k im) g) ok i
+
+abbrev μ-loop : tie.MeasureT-loop
+μ-loop im k g n ok₀ i₀ ok i = (n) - i
+
+loop-holds : tie.Need-loop-holds Inv-loop μ-loop
+loop-holds c = none
+
+is-late-requires : tie.Need-is-late-requires Inv-loop μ-loop
+is-late-requires c κs = search needs
+
+add-i : tie.Need-add-i Inv-loop μ-loop
+add-i c = search needs
+
+loop-less : tie.Need-loop-less Inv-loop μ-loop
+loop-less c = search needs
+
+loop-again : tie.Need-loop-again Inv-loop μ-loop
+loop-again c = search more
+
+returns : tie.Need-returns Inv-loop μ-loop
+returns c = search end
+
+pub all-late-spec : {M : Type 1} → statement M
+all-late-spec =
+    tie.close
+    (tie.spec Inv-loop μ-loop loop-holds is-late-requires add-i loop-less loop-again returns)

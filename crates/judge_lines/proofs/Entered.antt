@@ -1,0 +1,94 @@
+-- Packets by index; their entries packet after packet; no granule entered twice, by a set of those seen.
+use mathlib.Core.Path.{_≡_, refl, sym, ap, _∙_}
+use mathlib.Core.Bool.{Bool, true, false, not, _&&_, _||_}
+use mathlib.Core.List.{List, [], _∷_, _++_, append-assoc}
+use Prim.Native.Nat.{ℕ, zero, suc, _+_, _*_, _/_, _<_}
+use native.Mathlib.Decide.{ℕ-discrete}
+use native.Mathlib.Omega.{arith}
+use lib.Dec.{eqb}
+use lib.ListN.{length, take, drop, replicate}
+use lib.Seq.{drop-drop}
+use borrow.Author.Tests.{eq-eqb, ne-eqb}
+use Rattle.model.specs.Base.{nth, all, elem, distinct, eachPiece, bit, setBit}
+use Rattle.model.specs.Image.{entriesOf}
+use Rattle.model.proofs.Laws.{length-put}
+use Rattle.model.proofs.Bits.{setBit-same, setBit-other, bit-zeros}
+use Rattle.model.proofs.Entries.{nth-drop}
+use Rattle.judge_lines.specs.Once.{noneIn, Once}
+use Rattle.judge_lines.proofs.Loops.{all-none, and-true, and-assoc, and-false, all-first, all-cong}
+
+-- ---- pieces by index
+
+pub each-piece : (s n : ℕ) (p : List ℕ → Bool) (ws : List ℕ) → eachPiece s n p ws ≡ all n (λ i. p (take s (drop (s * i) ws)))
+unfolding eachPiece
+each-piece s zero p ws = all-none _
+each-piece s (suc n) p ws =
+    let z : s * 0 ≡ 0 = omega arith in
+    rw (each-piece s n p (drop s ws), all-first n (λ i. p (take s (drop (s * i) ws))), z)
+    (ap (λ b. p (take s ws) && b) (all-cong n _ _ (λ i h. let e : s + s * i ≡ s * suc i = omega arith in rw (drop-drop (s * i) s ws, e))))
+
+-- ---- entries packet after packet
+
+append-nil : (l : List ℕ) → l ++ [] ≡ l
+append-nil [] = refl
+append-nil (x ∷ l) = ap (λ r. x ∷ r) (append-nil l)
+
+pub entries-more : (n : ℕ) (ps : List ℕ) → entriesOf (suc n) ps ≡ entriesOf n ps ++ take (nth ps (32 * n)) (drop (32 * n + 2) ps)
+unfolding entriesOf
+entries-more zero ps = append-nil _
+entries-more (suc n) ps =
+    let a : 32 + 32 * n ≡ 32 * suc n = omega arith in
+    let b : 32 + (32 * n + 2) ≡ 32 * suc n + 2 = omega arith in
+    rw (append-assoc) (ap (λ r. take (nth ps 0) (drop 2 ps) ++ r)
+    (entries-more n (drop 32 ps) ∙ rw (nth-drop 32 ps (32 * n), drop-drop (32 * n + 2) 32 ps, a, b)))
+
+pub elem-append : (g : ℕ) (l r : List ℕ) → elem g (l ++ r) ≡ (elem g l || elem g r)
+unfolding elem
+elem-append g [] r = refl
+elem-append g (x ∷ l) r = rw (elem-append g l r) (sym (or-assoc (eqb g x) _ _))
+  where
+    or-assoc : (a b c : Bool) → ((a || b) || c) ≡ (a || (b || c))
+    or-assoc true b c = refl
+    or-assoc false b c = refl
+
+-- ---- no granule twice, by the set of those seen
+
+-- one more granule in the set
+none-more : (seen : List ℕ) (x : ℕ) (l : List ℕ) → x / 16 < length seen → noneIn (setBit 16 seen x) l ≡ (noneIn seen l && not (elem x l))
+unfolding noneIn elem
+none-more seen x [] h = refl
+none-more seen x (y ∷ l) h = rw (none-more seen x l h) (go (ℕ-discrete y x))
+  where
+    go : Dec (y ≡ x) → (not (bit 16 (setBit 16 seen x) y) && (noneIn seen l && not (elem x l))) ≡ ((not (bit 16 seen y) && noneIn seen l) && not (eqb x y || elem x l))
+    go (yes e) = rw (e, setBit-same 16 seen x h, eq-eqb x x refl) (sym (and-false (not (bit 16 seen x) && noneIn seen l)))
+    go (no e) = rw (setBit-other 16 seen x y e, ne-eqb x y (λ q. e (sym q))) (sym (and-assoc (not (bit 16 seen y)) _ _))
+
+pub once-none : {before : List ℕ} → Once before [] true before
+once-none = record { same-length = refl; once = λ rest. refl }
+
+length-setBit : (w : ℕ) (ws : List ℕ) (g : ℕ) → length (setBit w ws g) ≡ length ws
+unfolding setBit
+length-setBit w ws g = length-put ws _ _
+
+pub once-one : (seen : List ℕ) (x : ℕ) → x / 16 < length seen → Once seen (x ∷ []) (not (bit 16 seen x)) (setBit 16 seen x)
+unfolding noneIn distinct
+once-one seen x h = record { same-length = length-setBit 16 seen x; once = λ rest. rw (none-more seen x rest h) (swap (not (bit 16 seen x)) (noneIn seen rest) (not (elem x rest)) (distinct rest)) }
+  where
+    swap : (a b c d : Bool) → ((a && b) && (c && d)) ≡ (a && ((b && c) && d))
+    swap true true c d = refl
+    swap true false c d = refl
+    swap false b c d = refl
+
+pub once-append : {a b c l r : List ℕ} {s t : Bool} → Once a l s b → Once b r t c → Once a (l ++ r) (s && t) c
+once-append {a} {b} {c} {l} {r} {s} {t} p q =
+    record { same-length = q .same-length ∙ p .same-length; once = λ rest. rw (append-assoc l r rest) (p .once (r ++ rest) ∙ rw (q .once rest) (sym (and-assoc s t _))) }
+
+none-zeros : (n : ℕ) (l : List ℕ) → noneIn (replicate n 0) l ≡ true
+unfolding noneIn
+none-zeros n [] = refl
+none-zeros n (x ∷ l) = rw (bit-zeros 16 n x) (none-zeros n l)
+
+pub once-end : (n : ℕ) {l after : List ℕ} {ok : Bool} → Once (replicate n 0) l ok after → ok ≡ distinct l
+unfolding noneIn distinct
+once-end n {l} {after} {ok} p =
+    sym (and-true ok) ∙ (sym (p .once []) ∙ rw (append-nil l, none-zeros n l))

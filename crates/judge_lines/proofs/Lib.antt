@@ -1,0 +1,10 @@
+pub mod Loops
+pub mod Entered
+pub mod Sections
+pub mod Searched
+pub mod Stretch
+pub mod MarkWords
+pub mod Walk
+pub mod Fill
+pub mod Cases
+pub mod Idle

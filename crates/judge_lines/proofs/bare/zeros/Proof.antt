@@ -1,0 +1,53 @@
+use Rattle.judge_lines.specs.Tests.{isZero}
+use Rattle.judge_lines.proofs.Loops.{Gathered, g-none, g-more, g-end}
+use Rattle.judge_lines.proofs.Stretch.{zeroes-all}
+use Rattle.model.specs.Base.{nth}
+use Prim.Native.Nat.{_-_}
+use mathlib.Core.Path.{refl, _∙_}
+use native.Mathlib.Omega.{arith}
+use borrow.Author.Needs.{needs}
+use lib.ListN.{length}
+use Rattle.judge_lines.proofs.bare.zeros.Statement.{statement}
+use Rattle.judge_lines.proofs.bare.zeros.Tie as tie
+
+abbrev Inv-loop : tie.InvT-loop
+Inv-loop s bad₀ i₀ bad i = Gathered (length s) (isZero s) bad i
+
+abbrev μ-loop : tie.MeasureT-loop
+μ-loop s bad₀ i₀ bad i = length s - i
+
+loop-holds : tie.Need-loop-holds Inv-loop μ-loop
+loop-holds c = g-none
+
+mul-bad : tie.Need-mul-bad Inv-loop μ-loop
+mul-bad c = search needs
+
+shared-slice-read-bad : tie.Need-shared-slice-read-bad Inv-loop μ-loop
+shared-slice-read-bad c = search needs
+
+add-i : tie.Need-add-i Inv-loop μ-loop
+add-i c = search needs
+
+loop-less : tie.Need-loop-less Inv-loop μ-loop
+loop-less c = search needs
+
+loop-again : tie.Need-loop-again Inv-loop μ-loop
+unfolding isZero nth
+loop-again c = g-more _ _ _ _ _ (c .before .before .loop .inv) (omega arith) refl
+
+returns : tie.Need-returns Inv-loop μ-loop
+returns c = g-end (c .before .loop .inv) (omega arith) ∙ zeroes-all _
+
+pub zeros-spec : {M : Type 1} → statement M
+zeros-spec =
+    tie.close
+    (tie.spec
+    Inv-loop
+    μ-loop
+    loop-holds
+    mul-bad
+    shared-slice-read-bad
+    add-i
+    loop-less
+    loop-again
+    returns)

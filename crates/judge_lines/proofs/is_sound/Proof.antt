@@ -1,0 +1,49 @@
+use borrow.Author.Needs.{needs}
+use Rattle.judge_lines.proofs.Idle.{sound-still, sound-cycle}
+use Rattle.judge_lines.proofs.is_sound.Statement.{statement}
+use Rattle.judge_lines.proofs.is_sound.Tie as tie
+
+heap-ok-requires : tie.Need-heap-ok-requires
+heap-ok-requires c κs = search needs
+
+regs-ok-requires : tie.Need-regs-ok-requires
+regs-ok-requires c κs = search needs
+
+cards-ok-requires : tie.Need-cards-ok-requires
+cards-ok-requires c κs = search needs
+
+players-ok-requires : tie.Need-players-ok-requires
+players-ok-requires c κs = search needs
+
+general-ok-requires : tie.Need-general-ok-requires
+general-ok-requires c κs = search needs
+
+running-requires : tie.Need-running-requires
+running-requires c κs = search needs
+
+is-idle-requires : tie.Need-is-idle-requires
+is-idle-requires c κs = search needs
+
+returns : tie.Need-returns
+returns c = search sound-still
+
+cycle-ok-requires : tie.Need-cycle-ok-requires
+cycle-ok-requires c κs = search needs
+
+returns-2 : tie.Need-returns-2
+returns-2 c = search sound-cycle
+
+pub is-sound-spec : {M : Type 1} → statement M
+is-sound-spec =
+    tie.close
+    (tie.spec
+    heap-ok-requires
+    regs-ok-requires
+    cards-ok-requires
+    players-ok-requires
+    general-ok-requires
+    running-requires
+    is-idle-requires
+    returns
+    cycle-ok-requires
+    returns-2)

@@ -1,0 +1,6 @@
+pub mod Copy
+pub mod Writes
+pub mod PacketWords
+pub mod TracerWords
+pub mod Trailing
+pub mod CardBits

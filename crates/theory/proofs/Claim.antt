@@ -1,0 +1,96 @@
+-- The claim over whole histories, from facts of one step and the plain store's answers.
+use mathlib.Core.Path.{_≡_, refl, sym, subst, _∙_}
+use mathlib.Core.Bool.{Bool, true, false, not}
+use mathlib.Core.List.{List, [], _∷_, _++_, List·Memᴰ, List·Memᴰ·cases-cons}
+use mathlib.Core.Logic.{_⊎_, inl, inr}
+use Prim.Native.Nat.{ℕ, zero, suc}
+use native.Mathlib.Omega.{arith}
+use borrow.Author.Tests.{not-false}
+use Rattle.model.specs.Base.{first}
+use Rattle.model.specs.Image.{Image, parts, words}
+use Rattle.model.specs.Undamaged.{undamaged, judgeAt}
+use Rattle.model.specs.Records.{records}
+use Rattle.model.specs.Steps.{run, after}
+use Rattle.model.specs.Batch.{Batch, events, misfit, callNumber, batchWith, batchAt}
+use Rattle.model.specs.Claim.{Lent, eventsOf, history, results, Claim}
+use Rattle.model.specs.Plain.{SameAnswers}
+use Rattle.model.proofs.Laws.{first-none}
+use Rattle.theory.specs.Events.{l-nil, LinkedFrom, Steady, Stored}
+use Rattle.theory.proofs.Linked.{linked-append, run-linked, linked-ok, linked-fine, done-ok, begin-numbers, finish-numbers, all-finish, unreached-freed}
+
+module _ (w : ℕ) (Ok : Image → Type 0) (st : Steady Ok) (wd : Stored w Ok) where
+  -- the image that the records of a batch leave
+  left : List ℕ → Lent → Image
+  left ws b = after (parts w ws) (run (parts w ws) (records w (b .steps)))
+
+  left-ok : (ws : List ℕ) (b : Lent) → Ok (parts w ws) → Ok (left ws b)
+  unfolding left
+  left-ok ws b o = linked-ok Ok st (run-linked (parts w ws) (records w (b .steps))) o
+
+  left-parts : (ws : List ℕ) (b : Lent) → Ok (parts w ws) → parts w (words (left ws b)) ≡ left ws b
+  left-parts ws b o = wd .round-trip (left ws b) (left-ok ws b o)
+
+  left-words : (ws : List ℕ) (b : Lent) → Ok (parts w ws) → Ok (parts w (words (left ws b)))
+  left-words ws b o = subst Ok (sym (left-parts ws b o)) (left-ok ws b o)
+
+  -- "each batch gets the image that the last left, and a refused one adds no step"
+  pub history-linked : (ws : List ℕ) (bs : List Lent) → Ok (parts w ws) → LinkedFrom (parts w ws) (history w ws bs)
+  unfolding history eventsOf batchAt batchWith events left
+  history-linked ws [] o = record { last = parts w ws; linked = l-nil }
+  history-linked ws (b ∷ bs) o = go (λ vs. history-linked vs bs) (callNumber w ws (b .steps) (b .answers))
+    where
+      go : ((vs : List ℕ) → Ok (parts w vs) → LinkedFrom (parts w vs) (history w vs bs)) → (r : ℕ)
+          → let q : Batch = batchWith w ws (b .steps) (b .answers) r in LinkedFrom (parts w ws) (eventsOf w ws b (q .result) ++ history w (q .image) bs)
+      go ih (suc r) = ih ws o
+      go ih zero =
+          let t = subst (λ x. LinkedFrom x (history w (words (left ws b)) bs)) (left-parts ws b o) (ih (words (left ws b)) (left-words ws b o)) in
+          record { last = t .last; linked = linked-append (run-linked (parts w ws) (records w (b .steps))) (t .linked) }
+
+  -- ---- results of batches
+
+  -- an image in order is not refused as damaged
+  ok-undamaged : (m : Image) → Ok m → undamaged m ≡ true
+  unfolding judgeAt
+  ok-undamaged m o = not-false _ (subst (λ x. not (undamaged x) ≡ false) (wd .round-trip m o) (first-none 0 _ (wd .judged m o) 1))
+
+  not-damaged : (ws bytes answers : List ℕ) → Ok (parts w ws) → callNumber w ws bytes answers ≡ 2 → ⊥
+  unfolding callNumber first
+  not-damaged ws bytes answers o e = go (misfit w ws bytes answers) (subst (λ u. first 1 (misfit w ws bytes answers ∷ not u ∷ []) ≡ 2) (ok-undamaged (parts w ws) o) e)
+    where
+      go : (b : Bool) → first 1 (b ∷ false ∷ []) ≡ 2 → ⊥
+      go true q = omega arith
+      go false q = omega arith
+
+  none-damaged : (ws : List ℕ) (bs : List Lent) → Ok (parts w ws) → (r : ℕ) → List·Memᴰ r (results w ws bs) → r ≡ 2 → ⊥
+  unfolding results batchAt batchWith events left
+  none-damaged ws [] o r k e = elim k [ ]
+  none-damaged ws (b ∷ bs) o r k e = go (λ vs. none-damaged vs bs) (callNumber w ws (b .steps) (b .answers)) refl k
+    where
+      go : ((vs : List ℕ) → Ok (parts w vs) → (r : ℕ) → List·Memᴰ r (results w vs bs) → r ≡ 2 → ⊥) → (c : ℕ) → callNumber w ws (b .steps) (b .answers) ≡ c
+          → (let q : Batch = batchWith w ws (b .steps) (b .answers) c in List·Memᴰ r (q .result ∷ results w (q .image) bs)) → ⊥
+      go ih (suc c) q l = pick (List·Memᴰ·cases-cons l)
+        where
+          pick : (r ≡ suc c) ⊎ List·Memᴰ r (results w ws bs) → ⊥
+          pick (inl x) = not-damaged ws (b .steps) (b .answers) o (q ∙ (sym x ∙ e))
+          pick (inr x) = ih ws o r x e
+      go ih zero q l = pick (List·Memᴰ·cases-cons l)
+        where
+          pick : (r ≡ 0) ⊎ List·Memᴰ r (results w (words (left ws b)) bs) → ⊥
+          pick (inl x) = omega arith
+          pick (inr x) = ih (words (left ws b)) (left-words ws b o) r x e
+
+  -- ---- the claim, where the players' answers are the plain store's
+
+  pub claim : (ws : List ℕ) (bs : List Lent) → Ok (parts w ws) → SameAnswers (parts w ws) (history w ws bs) → Claim w ws bs
+  claim ws bs o plain = record {
+    all-undamaged = λ e k. let f = linked-fine Ok st (h .linked) o e k in (wd .judged (e .got) (f .got-ok), wd .judged (e .done .image) (done-ok Ok st e f));
+    none-damaged = none-damaged ws bs o;
+    begin-number = begin-numbers Ok st (h .linked) o;
+    finish-number = finish-numbers Ok st (h .linked) o;
+    finishes = all-finish Ok st (h .linked) o;
+    frees-unreached = unreached-freed Ok st (h .linked) o;
+    plain-answers = plain;
+  }
+    where
+      h : LinkedFrom (parts w ws) (history w ws bs)
+      h = history-linked ws bs o

@@ -1,0 +1,81 @@
+-- A step by its number: the lines that an accepted one has passed, and the image and value that a step leaves.
+use mathlib.Core.Path.{_≡_, refl, sym, ap, _∙_}
+use mathlib.Core.Bool.{false}
+use mathlib.Core.List.{[], _∷_}
+use Prim.Native.Nat.{ℕ, zero, suc, _<_}
+use native.Mathlib.Omega.{arith}
+use lib.ListN.{getD}
+use lib.Dec.{ltb}
+use borrow.Author.Tests.{ltb-false}
+use Rattle.model.specs.Image.{Image}
+use Rattle.model.specs.Records.{Step, Kind, new, load, store, barrier, handOver, dropReg, read, write, begin, scan, trace, clean, finish, isDue, unknown, kindOf}
+use Rattle.model.specs.Steps.{Done, unnamed, offDesk, owing, noObject, pastEnd, badSize, noRoom, wrongPhase, nothingToDo, refusal, accept, finishDone, act, outcome, step}
+use Rattle.model.proofs.Laws.{first-none}
+
+-- a player, register or tracer that is on the desk
+pub not-above : (b x : ℕ) → ltb b x ≡ false → x < suc b
+not-above b x e = omega (arith, ltb-false b x e)
+
+module _ (m : Image) (s : Step) where
+  -- ---- numbers
+
+  pub act-number : (n : Kind) → (act m s n) .number ≡ 0
+  unfolding act accept finishDone
+  act-number new = refl
+  act-number load = refl
+  act-number store = refl
+  act-number barrier = refl
+  act-number handOver = refl
+  act-number dropReg = refl
+  act-number read = refl
+  act-number write = refl
+  act-number begin = refl
+  act-number scan = refl
+  act-number trace = refl
+  act-number clean = refl
+  act-number finish = refl
+  act-number isDue = refl
+  act-number unknown = refl
+
+  pub outcome-number : (n : Kind) (r : ℕ) → (outcome m s n r) .number ≡ r
+  unfolding outcome
+  outcome-number n zero = act-number n
+  outcome-number n (suc r) = refl
+
+  pub step-number : {n : Kind} → kindOf (s .kind) ≡ n → (step m s) .number ≡ refusal m s n
+  unfolding step
+  step-number k = outcome-number (kindOf (s .kind)) _ ∙ ap (refusal m s) k
+
+  -- line i of the numbers of an accepted step does not apply
+  pub line : (n : Kind) → refusal m s n ≡ 0 → (i : ℕ)
+      → getD (unnamed s n ∷ offDesk s n ∷ owing m s n ∷ noObject m s n ∷ pastEnd m s n ∷ badSize s n ∷ noRoom m s n ∷ wrongPhase m s n ∷ nothingToDo m s n ∷ []) i false ≡ false
+  unfolding refusal
+  line n e i = first-none 2 _ e i
+
+  -- ---- what a step leaves
+
+  -- an accepted step does what its kind does
+  pub accepted : {n : Kind} → kindOf (s .kind) ≡ n → refusal m s n ≡ 0 → step m s ≡ act m s n
+  unfolding step outcome
+  accepted {n} k e = ap (λ x. outcome m s x (refusal m s x)) k ∙ ap (outcome m s n) e
+
+  pub accepted-image : {n : Kind} → kindOf (s .kind) ≡ n → (step m s) .number ≡ 0 → (step m s) .image ≡ (act m s n) .image
+  accepted-image k e = ap (λ (d : Done). d .image) (accepted k (sym (step-number k) ∙ e))
+
+  -- "the others refuse one step, with value 0"
+  pub refused-same : ((step m s) .number ≡ 0 → ⊥) → ((step m s) .image ≡ m) × ((step m s) .value ≡ 0)
+  unfolding step outcome
+  refused-same nz = go (kindOf (s .kind)) (refusal m s (kindOf (s .kind))) nz
+    where
+      go : (n : Kind) (r : ℕ) → ((outcome m s n r) .number ≡ 0 → ⊥) → ((outcome m s n r) .image ≡ m) × ((outcome m s n r) .value ≡ 0)
+      go n zero z = absurd (z (act-number n))
+      go n (suc r) z = (refl, refl)
+
+  -- the image is as it was, or as an accepted step of the kind leaves it
+  pub step-cases : (P : Image → Type 0) → P m → ((n : Kind) → kindOf (s .kind) ≡ n → refusal m s n ≡ 0 → P ((act m s n) .image)) → P ((step m s) .image)
+  unfolding step outcome
+  step-cases P same f = go (refusal m s (kindOf (s .kind))) refl
+    where
+      go : (r : ℕ) → refusal m s (kindOf (s .kind)) ≡ r → P ((outcome m s (kindOf (s .kind)) r) .image)
+      go zero e = f (kindOf (s .kind)) refl e
+      go (suc r) e = same

@@ -1,0 +1,112 @@
+-- The heap read by granule: objects and runs from a granule on, the run that new takes, unused granules and stretches of them.
+use mathlib.Core.Path.{_≡_}
+use mathlib.Core.Logic.{_⊎_}
+use mathlib.Core.List.{List}
+use mathlib.Core.Bool.{Bool, true, false, cond, _&&_}
+use Prim.Native.Nat.{ℕ, zero, suc, _+_, _*_, _-_, _≤_, _<_}
+use lib.Dec.{ltb}
+use Rattle.model.specs.Base.{nth, any}
+use Rattle.model.specs.Image.{Image, granules, word, isStart, size}
+use Rattle.theory.specs.Heap.{Bare}
+
+-- the words from granule g on are those that rd reads
+abbrev pub Reads : (ℕ → ℕ → ℕ) → ℕ → List ℕ → Type 0
+Reads rd g ws = (h i : ℕ) → g ≤ h → nth ws (4 * (h - g) + i) ≡ rd h i
+
+-- `st` says where objects start, `rd g i` is word i of granule g, `e` is the number of granules
+module _ (st : ℕ → Bool) (rd : ℕ → ℕ → ℕ) (e : ℕ) where
+  -- an object, or a run, stands at g
+  pub record ObjectHere (g : ℕ) : Type 0 where
+    pub starts : st g ≡ true
+    pub long : 1 ≤ rd g 0
+    pub few : rd g 0 ≤ 1024
+    pub links-fit : rd g 1 + 2 ≤ 4 * rd g 0
+    pub ends : g + rd g 0 ≤ e
+    pub alone : Bare st g (rd g 0)
+
+  pub record RunHere (g : ℕ) : Type 0 where
+    pub no-start : st g ≡ false
+    pub long : 1 ≤ rd g 0
+    pub ends : g + rd g 0 ≤ e
+    pub alone : Bare st g (rd g 0)
+    pub zero-words : (i : ℕ) → 2 + i < 4 * rd g 0 → rd g (2 + i) ≡ 0
+
+  -- pieces fill the granules from g on: `next` is the granule of the next run, or 0; the test says that a run ends at g
+  pub data Pieces : ℕ → ℕ → Bool → Type 0 where
+    at-end : {b : Bool} → Pieces e 0 b
+    at-object : {g next : ℕ} {b : Bool} → ObjectHere g → Pieces (g + rd g 0) next false → Pieces g next b
+    at-run : {g : ℕ} → RunHere g → Pieces (g + rd g 0) (rd g 1) true → Pieces g g false
+
+  -- the same, up to the lowest run of at least b granules: it is at r, and the run before it at `before`
+  pub data Place (b : ℕ) : ℕ → ℕ → Bool → ℕ → ℕ → ℕ → Type 0 where
+    past-object : {g next last r before : ℕ} {f : Bool} → ObjectHere g → Place b (g + rd g 0) next false last r before → Place b g next f last r before
+    past-run : {g last r before : ℕ} → RunHere g → rd g 0 < b → Place b (g + rd g 0) (rd g 1) true g r before → Place b g g false last r before
+    place-here : {g last : ℕ} → RunHere g → b ≤ rd g 0 → Pieces (g + rd g 0) (rd g 1) true → Place b g g false last g last
+
+-- ---- of an image
+
+abbrev pub ObjectIn : Image → ℕ → Type 0
+ObjectIn m = ObjectHere (isStart m) (word m) (granules m)
+
+abbrev pub RunIn : Image → ℕ → Type 0
+RunIn m = RunHere (isStart m) (word m) (granules m)
+
+abbrev pub PiecesIn : Image → ℕ → ℕ → Bool → Type 0
+PiecesIn m = Pieces (isStart m) (word m) (granules m)
+
+abbrev pub PlaceIn : Image → ℕ → ℕ → ℕ → Bool → ℕ → ℕ → ℕ → Type 0
+PlaceIn m b = Place (isStart m) (word m) (granules m) b
+
+-- a run, with all objects before it or behind it
+pub record RunApart (m : Image) (r : ℕ) : Type 0 where
+  pub not-nil : 1 ≤ r
+  pub is-run : RunIn m r
+  pub apart : (h : ℕ) → isStart m h ≡ true → (h + size m h ≤ r) ⊎ (r + word m r 0 ≤ h)
+
+-- objects that start below x end there
+abbrev pub Clear : Image → ℕ → Type 0
+Clear m x = (h : ℕ) → isStart m h ≡ true → h < x → h + size m h ≤ x
+
+-- ---- "no b neighbouring granules free"
+
+-- granule y is in no object
+pub record Unused (m : Image) (y : ℕ) : Type 0 where
+  pub in-range : (1 ≤ y) × (y < granules m)
+  pub in-no-object : (h : ℕ) → isStart m h ≡ true → h ≤ y → y < h + size m h → ⊥
+
+-- b neighbouring unused granules, the first of them g
+abbrev pub Stretch : Image → ℕ → ℕ → Type 0
+Stretch m b g = (y : ℕ) → g ≤ y → y < g + b → Unused m y
+
+-- none starts from x on, below r
+abbrev pub Blocked : Image → ℕ → ℕ → ℕ → Type 0
+Blocked m b x r = (u : ℕ) → x ≤ u → u < r → Stretch m b u → ⊥
+
+-- granule y lies in a run, behind whose end stands an object or nothing: runs are joined
+pub record InRun (m : Image) (y : ℕ) : Type 0 where
+  pub run : ℕ
+  pub run-apart : RunApart m run
+  pub inside : (run ≤ y) × (y < run + word m run 0)
+  pub joined : (run + word m run 0 ≡ granules m) ⊎ (isStart m (run + word m run 0) ≡ true)
+
+-- ---- granules counted
+
+-- v 0 + v 1 + .. + v (n - 1)
+unfoldable pub total : (ℕ → ℕ) → ℕ → ℕ
+total v zero = 0
+total v (suc n) = total v n + v n
+
+-- the granules of the objects that are starts in st
+abbrev pub sizes : (ℕ → Bool) → (ℕ → ℕ → ℕ) → ℕ → ℕ
+sizes st rd g = cond (st g) (rd g 0) 0
+
+unfoldable pub usedGranules : Image → ℕ
+usedGranules m = total (sizes (isStart m) (word m)) (granules m)
+
+-- granule y is in an object
+unfoldable pub inObject : Image → ℕ → Bool
+inObject m y = any (suc y) (λ h. isStart m h && ltb y (h + size m h))
+
+-- the number of granules that are in no object, granule 0 among them
+unfoldable pub granulesOutside : Image → ℕ
+granulesOutside m = total (λ y. cond (inObject m y) 0 1) (granules m)

@@ -1,0 +1,42 @@
+//! The proved library, called as C calls it: a slice is a pointer and a length.
+
+pub mod guarded;
+
+mod exported {
+    extern "C" {
+        pub fn fresh(image: *mut u16, words: usize) -> u16;
+        pub fn judge(image: *const u16, words: usize) -> u16;
+        pub fn batch(
+            image: *mut u16,
+            words: usize,
+            steps: *const u8,
+            bytes: usize,
+            answers: *mut u16,
+            answer_words: usize,
+        ) -> u16;
+    }
+}
+
+pub fn fresh(image: &mut [u16]) -> u16 {
+    // Safe: the function takes every slice and touches nothing else.
+    unsafe { exported::fresh(image.as_mut_ptr(), image.len()) }
+}
+
+pub fn judge(image: &[u16]) -> u16 {
+    // Safe: as above, and it writes nothing.
+    unsafe { exported::judge(image.as_ptr(), image.len()) }
+}
+
+pub fn batch(image: &mut [u16], steps: &[u8], answers: &mut [u16]) -> u16 {
+    // Safe: as above, and the three slices are apart.
+    unsafe {
+        exported::batch(
+            image.as_mut_ptr(),
+            image.len(),
+            steps.as_ptr(),
+            steps.len(),
+            answers.as_mut_ptr(),
+            answers.len(),
+        )
+    }
+}

@@ -1,0 +1,71 @@
+//! The program steprun: what it prints against what the second implementation says it prints.
+
+use std::io::Write;
+use std::path::PathBuf;
+use std::process::{Command, Stdio};
+
+use reference::generate::{list, Pace};
+use reference::made::fresh_image;
+use reference::program::{lines, CARDS, MOST_BYTES};
+use reference::random::Random;
+
+fn top() -> PathBuf {
+    PathBuf::from(env!("CARGO_MANIFEST_DIR")).join("../..")
+}
+
+/// What the program prints for these bytes on standard input.
+fn printed(steps: &[u8]) -> String {
+    let mut program = Command::new(top().join("target/bin/steprun"))
+        .stdin(Stdio::piped())
+        .stdout(Stdio::piped())
+        .spawn()
+        .expect("target/bin/steprun, which rt check builds");
+    // The program may stop reading before the end of a long input.
+    let _ = program.stdin.take().expect("a pipe").write_all(steps);
+    let output = program.wait_with_output().expect("the program ends");
+    assert!(output.status.success());
+    String::from_utf8(output.stdout).expect("text")
+}
+
+fn same(steps: &[u8]) {
+    assert_eq!(printed(steps), lines(steps), "{} bytes", steps.len());
+}
+
+#[test]
+fn example_of_document_01() {
+    let folder = top().join("crates/steprun/example");
+    let steps = std::fs::read(folder.join("stdin")).unwrap();
+    assert_eq!(printed(&steps), "1 1 0 1\n2 9 0 0\n3 13 0 0\n");
+    assert_eq!(std::fs::read_to_string(folder.join("stdout")).unwrap(), lines(&steps));
+}
+
+#[test]
+fn stored_list_has_every_kind() {
+    let steps = std::fs::read(top().join("crates/steprun/stdin")).unwrap();
+    let stored = std::fs::read_to_string(top().join("crates/steprun/stdout")).unwrap();
+    assert_eq!(stored, lines(&steps));
+    for kind in 1..=14 {
+        assert!(stored.lines().any(|line| line.contains(&format!(" {kind} 0 "))), "kind {kind} is never accepted");
+    }
+}
+
+#[test]
+fn lengths() {
+    let mut random = Random::new(61);
+    for length in [0, 1, 7, 8, 9, 16, MOST_BYTES - 8, MOST_BYTES - 1, MOST_BYTES, MOST_BYTES + 1, MOST_BYTES + 8, 20_000] {
+        same(&vec![0; length]);
+        same(&(0..length).map(|_| random.word() as u8).collect::<Vec<u8>>());
+    }
+    assert_eq!(printed(&[]), "");
+    assert_eq!(printed(&[0; MOST_BYTES + 1]), "misfit\n");
+}
+
+#[test]
+fn random_lists() {
+    let mut random = Random::new(62);
+    for _ in 0..60 {
+        let pace = Pace::draw(&mut random);
+        let count = random.from_to(1, MOST_BYTES / 8);
+        same(&list(&mut random, &mut fresh_image(CARDS), count, pace));
+    }
+}

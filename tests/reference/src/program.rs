@@ -1,0 +1,20 @@
+//! What the program steprun prints, as document 01 describes it.
+
+use crate::made::fresh_image;
+use crate::record::{records, RECORD_BYTES};
+use crate::steps::batch;
+
+pub const CARDS: usize = 16;
+pub const MOST_BYTES: usize = 8192;
+
+/// The lines for the bytes read from standard input: "place from 1, kind, number, value"; "longer input or a part record prints
+/// `misfit` alone".
+pub fn lines(steps: &[u8]) -> String {
+    if steps.len() > MOST_BYTES || steps.len() % RECORD_BYTES != 0 {
+        return "misfit\n".to_string();
+    }
+    let mut answers = vec![0; steps.len() / RECORD_BYTES * 2];
+    assert_eq!(batch(&mut fresh_image(CARDS), steps, &mut answers), 0);
+    let answers = answers.chunks(2).zip(records(steps)).enumerate();
+    answers.map(|(i, (answer, record))| format!("{} {} {} {}\n", i + 1, record.kind, answer[0], answer[1])).collect()
+}
