@@ -1,18 +1,17 @@
 -- A sound image has what the marking needs.
 use mathlib.Core.Path.{_≡_, refl, sym, subst, _∙_}
-use mathlib.Core.Logic.{_⊎_, inl, inr, ⊎-elim}
-use mathlib.Core.Bool.{true, false}
+use mathlib.Core.Logic.{inl, inr, ⊎-elim}
+use mathlib.Core.Bool.{true}
 use mathlib.Core.List.{List}
-use Prim.Native.Nat.{ℕ, _+_, _*_, _/_, _<_, _≤_}
+use Prim.Native.Nat.{ℕ, _+_, _*_, _<_, _≤_}
 use native.Mathlib.Omega.{arith}
 use native.Mathlib.Decide.{ℕ-discrete}
-use lib.ListN.{length}
 use Rattle.model.specs.Base.{nth, bit}
-use Rattle.model.specs.Image.{Image, granules, word, isStart, marked, size, links, link, firstRun}
+use Rattle.model.specs.Image.{Image, granules, word, isStart, marked, links, link, firstRun}
 use Rattle.model.specs.Undamaged.{sound}
 use Rattle.model.proofs.Laws.{false≢}
-use Rattle.theory.specs.Heap.{HeapFilled, ObjectAt}
-use Rattle.theory.specs.Lines.{Pair, Pairs, none, one, Lines, NilOr, Start, InHand, CardInHand, Enters}
+use Rattle.theory.specs.Heap.{HeapFilled}
+use Rattle.theory.specs.Lines.{Pair, none, one, Lines, NilOr, Start, InHand, CardInHand}
 use Rattle.theory.proofs.Walk.{fill-use, object-at}
 use Rattle.theory.proofs.Judged.{sound-use}
 use Rattle.image.specs.Sized.{Sized, narrow}

@@ -1,18 +1,18 @@
 -- The lengths of an image's sections, from the length of its slice; bits past the last granule.
-use mathlib.Core.Path.{_≡_, refl, sym, ap, subst, _∙_}
-use mathlib.Core.Bool.{Bool, true, false}
+use mathlib.Core.Path.{_≡_, refl, _∙_}
+use mathlib.Core.Bool.{true}
 use mathlib.Core.List.{List, []}
 use Prim.Native.Nat.{ℕ, zero, suc, _+_, _*_, _/_, _%_, _<_, _≤_}
 use native.Mathlib.Omega.{arith}
 use lib.ListN.{length, getD}
 use Rattle.model.specs.Base.{nth, testBit, bit}
-use Rattle.model.specs.Image.{Image, lengths, split, image, imageOf}
+use Rattle.model.specs.Image.{lengths, split, image, imageOf}
 use Rattle.theory.specs.Lines.{Sizes}
 use Rattle.image.specs.Sized.{Sized, narrow}
 use Rattle.image.proofs.Split.{place, split-length}
-use Rattle.marking.specs.Mark.{digit, Shape}
+use Rattle.marking.specs.Mark.{Shape}
 use Rattle.marking.proofs.Digits.{digit-on, nth-in}
-use Rattle.marking.proofs.WordBits.{bitOf, bit-none}
+use Rattle.marking.proofs.WordBits.{bit-none}
 
 pub narrow-width : (k : ℕ) (ws : List ℕ) → narrow k ws .width ≡ 16
 unfolding narrow imageOf image

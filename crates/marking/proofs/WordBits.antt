@@ -1,15 +1,14 @@
 -- Bits of whole words: of a conjunction, a complement, the lowest set bit; and the 16 bits of a word of start or mark bits.
 use mathlib.Core.Path.{_≡_, refl, sym, ap, _∙_}
 use mathlib.Core.Bool.{Bool, true, false}
-use mathlib.Core.List.{List}
-use Prim.Native.Nat.{ℕ, zero, suc, _+_, _*_, _-_, _/_, _%_, _^_, _<_, _≤_, min}
+use Prim.Native.Nat.{ℕ, zero, suc, _+_, _/_, _%_, _^_, _<_, _≤_, min}
 use native.Mathlib.Omega.{arith}
 use native.Mathlib.Nat.{pow-suc, div-eq-of-lt, zero-div}
 use native.Mathlib.Decide.{decLt}
 use lib.Bits.{bitAnd, and-step}
 use lib.Count.{trailingZeros, under}
 use lib.Pow.{shr-shr, pow-mono}
-use borrow.Author.Tests.{eqb-true, eqb-false, eq-eqb}
+use borrow.Author.Tests.{eqb-true, eqb-false}
 use lib.Dec.{eqb}
 use Rattle.model.specs.Base.{nth, testBit, bit}
 use Rattle.model.specs.Image.{Image, isStart, marked}

@@ -1,17 +1,15 @@
 -- The granules that the code counts as freed are those of the model's sweep; and they are no more than there are.
-use mathlib.Core.Path.{_≡_, refl, sym, ap, _∙_}
+use mathlib.Core.Path.{_≡_, refl, ap, _∙_}
 use mathlib.Core.Bool.{Bool, true, false, cond}
-use mathlib.Core.List.{List, [], _∷_, _++_}
+use mathlib.Core.List.{List, _∷_, _++_}
 use Prim.Native.Nat.{ℕ, zero, suc, _+_, _*_, _<_, _≤_}
 use native.Mathlib.Omega.{arith}
 use lib.ListN.{length, drop, length-append}
-use lib.Seq.{drop-drop, drop-at}
 use Rattle.model.specs.Base.{nth}
 use Rattle.model.specs.Image.{Image, isStart, marked}
 use Rattle.model.specs.Finish.{runTail, Swept, swept, sweep}
-use Rattle.model.proofs.Entries.{nth-drop}
-use Rattle.theory.specs.Heap.{Filled, f-end, f-object, f-run, Object, runWords, Bare}
-use Rattle.theory.proofs.Lists.{nth-head, length-run}
+use Rattle.theory.specs.Heap.{Filled, f-end, f-object, f-run, runWords, Bare}
+use Rattle.theory.proofs.Lists.{length-run}
 use Rattle.theory.proofs.Sweep.{not-kept, sweep-piece}
 use Rattle.sweep.specs.Gaps.{goes, freedBelow}
 use Rattle.sweep.proofs.Fold.{words-behind, size-first}

@@ -1,8 +1,8 @@
 -- The sweep's code, case by case, and its loop.
-use mathlib.Core.Path.{_≡_, refl, sym, ap, _∙_}
+use mathlib.Core.Path.{_≡_, refl, _∙_}
 use mathlib.Core.Bool.{Bool, true, false}
 use mathlib.Core.List.{List}
-use Prim.Native.Nat.{ℕ, zero, suc, _+_, _*_, _-_, _<_, _≤_}
+use Prim.Native.Nat.{ℕ, suc, _+_, _*_, _-_, _<_, _≤_}
 use native.Mathlib.Omega.{arith}
 use lib.ListN.{length}
 use borrow.Author.Tests.{lt-ltb, le-ltb}
@@ -10,7 +10,7 @@ use Rattle.model.specs.Base.{nth, put}
 use Rattle.model.specs.Image.{Image, marked, firstRun, withHeap, setFirstRun}
 use Rattle.image.specs.Clear.{zeroed}
 use Rattle.image.specs.Sized.{Sized, narrow}
-use Rattle.sweep.specs.Gaps.{Edge, edged, runAt, gap, passed, down, sweptAll}
+use Rattle.sweep.specs.Gaps.{edged, runAt, gap, passed, down, sweptAll}
 
 pub run-done : (m : Image) (a e n : ℕ) → n ≡ nth (m .general) 1 → (m1 m2 m3 m4 : Image) → m1 ≡ withHeap m (zeroed (4 * a) (4 * e) (m .heap)) → m2 ≡ withHeap m1 (put (m1 .heap) (4 * a) (e - a))
     → m3 ≡ withHeap m2 (put (m2 .heap) (4 * a + 1) n) → m4 ≡ setFirstRun m3 a → m4 ≡ runAt m a e

@@ -6,7 +6,7 @@ use Prim.Native.Nat.{ℕ, zero, suc, _+_, _*_, _-_, _<_, _≤_}
 use native.Mathlib.Omega.{arith}
 use native.Mathlib.Nat.{add-zero}
 use native.Mathlib.Numerals.{add-one}
-use lib.ListN.{length, getD, set, take, drop, replicate, length-append}
+use lib.ListN.{length, set, take, drop, replicate, length-append}
 use lib.Seq.{take-add, drop-drop, take-append-le, take-take, drop-at, take-at, take-all, length-take-le, set-set}
 use borrow.Author.Tests.{lt-ltb, le-ltb}
 use Rattle.model.specs.Base.{nth, put}
@@ -14,7 +14,7 @@ use Rattle.model.specs.Image.{Image, isStart, marked, firstRun, withHeap, withG
 use Rattle.model.specs.Finish.{runTail, Swept, sweptWords, firstOf, swept, sweep}
 use Rattle.model.proofs.Laws.{nth-put-same}
 use Rattle.model.proofs.Entries.{nth-take, nth-drop}
-use Rattle.theory.specs.Heap.{Filled, f-end, f-object, f-run, Object, runWords, Bare}
+use Rattle.theory.specs.Heap.{Filled, f-end, f-object, f-run, runWords, Bare}
 use Rattle.theory.proofs.Lists.{nth-left, nth-head, length-run}
 use Rattle.theory.proofs.Sweep.{not-kept, sweep-piece}
 use Rattle.image.specs.Clear.{zeroed}
@@ -155,7 +155,7 @@ module _ (G : ℕ) (m : Image) (H : List ℕ) (lH : length H ≡ 4 * G) (hg : 1 
       ∙ down-suc G m₀ (G - (g + s) + j)
       ∙ ap (λ (p : Edge). passed (p .image) (G - suc (G - (g + s) + j)) (p .edge)) (skip g s r hG d ba j (omega arith))
       ∙ passed-none (from m H hg (g + s) r) (G - suc (G - (g + s) + j)) (g + s + r .free)
-        (marked-reheaped m _ _ (G - suc (G - (g + s) + j)) ∙ not-kept (isStart m) (marked m) kept _ (ba (G - suc (G - (g + s) + j)) (omega arith) (omega arith)))
+      (marked-reheaped m _ _ (G - suc (G - (g + s) + j)) ∙ not-kept (isStart m) (marked m) kept _ (ba (G - suc (G - (g + s) + j)) (omega arith) (omega arith)))
 
   -- the first granule of a piece, after those behind it
   at-first : (g s : ℕ) (r : Swept) → 1 ≤ s → g + s ≤ G → down G m₀ (G - (g + s)) ≡ done (g + s) r → Bare (isStart m) g s → down G m₀ (G - g) ≡ passed (from m H hg (g + s) r) g (g + s + r .free)

@@ -1,22 +1,19 @@
 -- A finish as the code does it is the model's: marking, sweep and end together, on every sound image.
 use mathlib.Core.Path.{_≡_, refl, sym, ap, subst, fun-ext, _∙_}
 use mathlib.Core.Bool.{Bool, true, false}
-use mathlib.Core.List.{List, [], _∷_, _++_}
-use Prim.Native.Nat.{ℕ, zero, suc, _+_, _*_, _-_, _/_, _<_, _≤_}
+use mathlib.Core.List.{List, [], _++_}
+use Prim.Native.Nat.{ℕ, _+_, _*_, _/_, _<_}
 use native.Mathlib.Omega.{arith}
-use lib.Dec.{leb, eqb}
 use lib.ListN.{length, getD, set, take, drop, length-drop}
 use lib.Seq.{set-comm}
 use borrow.Author.Tests.{le-leb, eq-eqb}
 use Rattle.model.specs.Base.{nth, put, zeros, every, bit, addBits}
-use Rattle.model.specs.Image.{Image, granules, isStart, marked, firstRun, fits, cardsOf, imageLength, mostCards, imageOf, parts, withHeap, withStarts, withMarks, withPackets, withTracers, withPlayers, withGeneral, setFirstRun}
+use Rattle.model.specs.Image.{Image, granules, isStart, marked, firstRun, fits, imageLength, mostCards, imageOf, parts, withHeap, withStarts, withMarks, withPackets, withTracers, withPlayers, withGeneral, setFirstRun}
 use Rattle.model.specs.Undamaged.{sound}
-use Rattle.model.specs.Finish.{Kept, kept-marked, kept-found, keptSet, Swept, sweptWords, firstOf, sweep, scannedOff, Finish, finishWith, finishStep}
-use Rattle.model.proofs.Laws.{false≢}
+use Rattle.model.specs.Finish.{Kept, kept-marked, kept-found, keptSet, Swept, sweptWords, firstOf, sweep, finishWith, finishStep}
 use Rattle.model.proofs.Sited.{Sited, sited}
 use Rattle.model.proofs.Found.{found-start, kept-is}
 use Rattle.theory.specs.Heap.{Filled, HeapFilled}
-use Rattle.theory.specs.Lines.{Lines, Sizes}
 use Rattle.image.specs.Sized.{Sized, narrow}
 use Rattle.image.proofs.Sizes.{sized-cards}
 use Rattle.marking.specs.Mark
@@ -69,8 +66,8 @@ module _ (k : ℕ) (ws : List ℕ) (z : Sized k ws) (e : sound (narrow k ws) ≡
 
 same-fields : {w w' k k' : ℕ} {h h' s s' m m' c c' r r' p p' t t' u u' g g' : List ℕ} → w ≡ w' → k ≡ k' → h ≡ h' → s ≡ s' → m ≡ m' → c ≡ c' → r ≡ r' → p ≡ p' → t ≡ t' → u ≡ u' → g ≡ g'
     → _≡_ {A = Image}
-      (record { width = w; k = k; heap = h; starts = s; marks = m; cards = c; regs = r; packets = p; tracers = t; players = u; general = g })
-      (record { width = w'; k = k'; heap = h'; starts = s'; marks = m'; cards = c'; regs = r'; packets = p'; tracers = t'; players = u'; general = g' })
+    (record { width = w; k = k; heap = h; starts = s; marks = m; cards = c; regs = r; packets = p; tracers = t; players = u; general = g })
+    (record { width = w'; k = k'; heap = h'; starts = s'; marks = m'; cards = c'; regs = r'; packets = p'; tracers = t'; players = u'; general = g' })
 same-fields a b c d e f g h i j k =
     λ x. record { width = a x; k = b x; heap = c x; starts = d x; marks = e x; cards = f x; regs = g x; packets = h x; tracers = i x; players = j x; general = k x }
 
@@ -104,14 +101,14 @@ same-zeros l r e = rw e
 
 module _ (k : ℕ) (ws ws1 : List ℕ) (z : Sized k ws) (z1 : Sized k ws1) (e : sound (narrow k ws) ≡ true) (q : KeptMarked (narrow k ws) (narrow k ws1)) where
   -- the sweep over what is kept, and over the marks
-  R : Swept
-  R = sweep (isStart (narrow k ws)) (λ g. getD (keptSet (narrow k ws)) g false) (granules (narrow k ws)) 1 (drop 4 (narrow k ws .heap))
+  kept-sweep : Swept
+  kept-sweep = sweep (isStart (narrow k ws)) (λ g. getD (keptSet (narrow k ws)) g false) (granules (narrow k ws)) 1 (drop 4 (narrow k ws .heap))
 
-  R1 : Swept
-  R1 = sweep (isStart (narrow k ws1)) (marked (narrow k ws1)) (granules (narrow k ws)) 1 (drop 4 (narrow k ws1 .heap))
+  marks-sweep : Swept
+  marks-sweep = sweep (isStart (narrow k ws1)) (marked (narrow k ws1)) (granules (narrow k ws)) 1 (drop 4 (narrow k ws1 .heap))
 
-  same-sweep : R1 ≡ R
-  unfolding R R1
+  same-sweep : marks-sweep ≡ kept-sweep
+  unfolding kept-sweep marks-sweep
   same-sweep =
       ap (λ (st : ℕ → Bool). sweep st (marked (narrow k ws1)) (granules (narrow k ws)) 1 (drop 4 (narrow k ws1 .heap))) (fun-ext (q .starts))
       ∙ ap (λ (kp : ℕ → Bool). sweep (isStart (narrow k ws)) kp (granules (narrow k ws)) 1 (drop 4 (narrow k ws1 .heap))) (fun-ext (marks-kept k ws z e (narrow k ws1) q))
@@ -137,8 +134,8 @@ module _ (k : ℕ) (ws ws1 : List ℕ) (z : Sized k ws) (z1 : Sized k ws1) (e : 
   kept : (g : ℕ) → marked (narrow k ws1) g ≡ true → isStart (narrow k ws1) g ≡ true
   kept = marks-starts k ws z e (narrow k ws1) q
 
-  swept-image : sweptAll k (narrow k ws1) ≡ reheaped (narrow k ws1) (take 4 (narrow k ws1 .heap) ++ sweptWords R1) (firstOf 1 R1)
-  unfolding R1
+  swept-image : sweptAll k (narrow k ws1) ≡ reheaped (narrow k ws1) (take 4 (narrow k ws1 .heap) ++ sweptWords marks-sweep) (firstOf 1 marks-sweep)
+  unfolding marks-sweep
   swept-image = swept-all k (narrow k ws1) (z .low) long (omega (arith, sizes k ws1 z1 .general-size)) kept (granules (narrow k ws)) filled enough behind
 
   -- ---- the value
@@ -151,12 +148,12 @@ module _ (k : ℕ) (ws ws1 : List ℕ) (z : Sized k ws) (z1 : Sized k ws1) (e : 
       none true h = absurd (omega (arith, heap-filled .start-range 0 (sym (q .starts 0) ∙ h)))
       none false h = h
 
-  freed-is : freedBelow (narrow k ws1) (64 * k) ≡ R1 .freed
-  unfolding R1
+  freed-is : freedBelow (narrow k ws1) (64 * k) ≡ marks-sweep .freed
+  unfolding marks-sweep
   freed-is = freed-counted (narrow k ws1) kept (64 * k) (granules (narrow k ws)) filled enough behind refl ∙ omega (arith, nothing-first)
 
   pub freed-fits : freedBelow (narrow k ws1) (64 * k) < 65536
-  unfolding R1
+  unfolding marks-sweep
   freed-fits = omega (arith, freed-is, freed-small (narrow k ws1) kept (granules (narrow k ws)) filled enough, behind, z .high)
 
   -- ---- the sections
@@ -178,15 +175,15 @@ module _ (k : ℕ) (ws ws1 : List ℕ) (z : Sized k ws) (z1 : Sized k ws1) (e : 
           let r : bit (narrow k ws1 .width) (narrow k ws1 .marks) g ≡ getD (keptSet (narrow k ws)) g false = unfold marked in marks-kept k ws z e (narrow k ws1) q g in
           rw (narrow-width k ws1) at r
 
-  general-is : put (put (narrow k ws1 .general) 1 (firstOf 1 R1)) 0 0 ≡ put (put (narrow k ws .general) 0 0) 1 (firstOf 1 R)
+  general-is : put (put (narrow k ws1 .general) 1 (firstOf 1 marks-sweep)) 0 0 ≡ put (put (narrow k ws .general) 0 0) 1 (firstOf 1 kept-sweep)
   unfolding put
-  general-is = set-comm (narrow k ws1 .general) 1 0 (firstOf 1 R1) 0 (omega arith) ∙ ap (λ (r : Swept). set (set (narrow k ws1 .general) 0 0) 1 (firstOf 1 r)) same-sweep ∙ ap (λ (l : List ℕ). set (set l 0 0) 1 (firstOf 1 R)) (sect 4)
+  general-is = set-comm (narrow k ws1 .general) 1 0 (firstOf 1 marks-sweep) 0 (omega arith) ∙ ap (λ (r : Swept). set (set (narrow k ws1 .general) 0 0) 1 (firstOf 1 r)) same-sweep ∙ ap (λ (l : List ℕ). set (set l 0 0) 1 (firstOf 1 kept-sweep)) (sect 4)
 
   pub finish-done : (f : ℕ) (m2 m3 m4 : Image) → f ≡ freedBelow (narrow k ws1) (64 * k) → m2 ≡ sweptAll k (narrow k ws1) → StartsKept m2 m3 → m4 ≡ ended m3 → finished f m4 ≡ finishStep (narrow k ws)
-  unfolding finishStep finishWith R
+  unfolding finishStep finishWith kept-sweep
   finish-done f m2 m3 m4 ef e2 s e4 = λ x. record { image = image-is x; value = (ef ∙ freed-is ∙ ap (λ (r : Swept). r .freed) same-sweep) x }
     where
-      whole : m2 ≡ reheaped (narrow k ws1) (take 4 (narrow k ws1 .heap) ++ sweptWords R1) (firstOf 1 R1)
+      whole : m2 ≡ reheaped (narrow k ws1) (take 4 (narrow k ws1 .heap) ++ sweptWords marks-sweep) (firstOf 1 marks-sweep)
       whole = e2 ∙ swept-image
 
       same-marks : m2 .marks ≡ narrow k ws1 .marks
@@ -196,16 +193,16 @@ module _ (k : ℕ) (ws ws1 : List ℕ) (z : Sized k ws) (z1 : Sized k ws1) (e : 
       image-is =
           e4 ∙ ap ended (s .image)
           ∙ ap (λ (i : Image). ended (withStarts i (i .marks))) whole
-          ∙ ended-fields (narrow k ws1) (take 4 (narrow k ws1 .heap) ++ sweptWords R1) (firstOf 1 R1)
+          ∙ ended-fields (narrow k ws1) (take 4 (narrow k ws1 .heap) ++ sweptWords marks-sweep) (firstOf 1 marks-sweep)
           ∙ same-fields
-            (narrow-width k ws1 ∙ sym (narrow-width k ws))
-            (narrow-k k ws1 ∙ sym (narrow-k k ws))
-            (ap (λ (hs : List ℕ). take 4 hs ++ sweptWords R1) (q .heap) ∙ ap (λ (r : Swept). take 4 (narrow k ws .heap) ++ sweptWords r) same-sweep)
-            (starts-is (λ i. rw same-marks at (s .small i)))
-            (same-zeros _ _ (mark-words k ws1 z1 ∙ sym (mark-words k ws z)))
-            (zero-words _ _ (sizes k ws1 z1 .cards-size ∙ narrow-k k ws1 ∙ sym (narrow-k k ws) ∙ sym (sizes k ws z .cards-size)) (q .cards))
-            (sect 0)
-            (ap zeros (sect 1))
-            (ap zeros (sect 2))
-            (ap (λ (l : List ℕ). unscanned l 16) (sect 3) ∙ unscanned-all (narrow k ws .players) 16 (sizes k ws z .players-size))
-            general-is
+          (narrow-width k ws1 ∙ sym (narrow-width k ws))
+          (narrow-k k ws1 ∙ sym (narrow-k k ws))
+          (ap (λ (hs : List ℕ). take 4 hs ++ sweptWords marks-sweep) (q .heap) ∙ ap (λ (r : Swept). take 4 (narrow k ws .heap) ++ sweptWords r) same-sweep)
+          (starts-is (λ i. rw same-marks at (s .small i)))
+          (same-zeros _ _ (mark-words k ws1 z1 ∙ sym (mark-words k ws z)))
+          (zero-words _ _ (sizes k ws1 z1 .cards-size ∙ narrow-k k ws1 ∙ sym (narrow-k k ws) ∙ sym (sizes k ws z .cards-size)) (q .cards))
+          (sect 0)
+          (ap zeros (sect 1))
+          (ap zeros (sect 2))
+          (ap (λ (l : List ℕ). unscanned l 16) (sect 3) ∙ unscanned-all (narrow k ws .players) 16 (sizes k ws z .players-size))
+          general-is

@@ -1,7 +1,6 @@
 -- The sweep of a finish as the code does it: from the last granule down, by mark bits alone; and the granules freed, counted.
 use Prim.Native.Nat.{ℕ, zero, suc, _+_, _*_, _-_}
 use mathlib.Core.Bool.{cond}
-use mathlib.Core.List.{List}
 use lib.Dec.{ltb}
 use Rattle.model.specs.Base.{nth, put}
 use Rattle.model.specs.Image.{Image, isStart, marked, firstRun, withHeap, setFirstRun}
