@@ -5,3 +5,4 @@ pub mod Sizes
 pub mod Masks
 pub mod BitWords
 pub mod FreshStore
+pub mod Rooms

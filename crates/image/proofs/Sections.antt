@@ -1,12 +1,12 @@
 -- Each section of an image of 16-bit words: its place among the words, and its words read and written there.
-use mathlib.Core.Path.{_≡_, sym, ap, _∙_}
+use mathlib.Core.Path.{_≡_, sym, ap, _∙_, refl}
 use mathlib.Core.List.{List, []}
 use Prim.Native.Nat.{ℕ, _+_, _*_, _<_}
 use native.Mathlib.Nat.{zero-add}
 use native.Mathlib.Omega.{arith}
 use lib.ListN.{getD, set, length}
 use Rattle.model.specs.Base.{nth, put}
-use Rattle.model.specs.Image.{mostCards, lengths, split, image, imageOf, withHeap, withStarts, withMarks, withCards, withRegs, withPackets, withTracers, withPlayers, withGeneral, sections, words}
+use Rattle.model.specs.Image.{mostCards, lengths, split, image, imageOf, withHeap, withStarts, withMarks, withCards, withRegs, withPackets, withTracers, withPlayers, withGeneral, sections, words, granules}
 use Rattle.image.specs.Sized.{narrow, Sized}
 use Rattle.image.proofs.Split.{place, split-get, split-put, total, join-split, split-lengths}
 use Rattle.model.proofs.Words.{Fits}
@@ -116,3 +116,7 @@ module _ (k : ℕ) (ws : List ℕ) (z : Sized k ws) where
 -- the words are known by their image
 pub narrow-inj : (k : ℕ) (ws vs : List ℕ) → Sized k ws → Sized k vs → narrow k ws ≡ narrow k vs → ws ≡ vs
 narrow-inj k ws vs z y e = sym (words-narrow k ws z) ∙ (ap words e ∙ words-narrow k vs y)
+
+pub granules-narrow : (k : ℕ) (ws : List ℕ) → granules (narrow k ws) ≡ 64 * k
+unfolding granules narrow imageOf image
+granules-narrow k ws = refl

@@ -3,3 +3,4 @@ pub mod Size
 pub mod Bits
 pub mod Clear
 pub mod Made
+pub mod Runs

@@ -3,12 +3,13 @@ ghost use mathlib.Core.Path.{_≡_};
 ghost use Prim.Native.Nat.{ℕ, _+_, _*_, _≤_, _<_};
 ghost use lib.ListN.{length};
 ghost use Rattle.model.specs.Base.{nth, put};
-ghost use Rattle.model.specs.Image.{state, reg, withHeap, withStarts, withMarks, withRegs, withPackets, withTracers, withPlayers, withGeneral, setState, setReg, setTracer, setOwed, setScanned, setFirstRun};
+ghost use Rattle.model.specs.Image.{word, owed, scanned, running, firstRun, state, reg, withHeap, withStarts, withMarks, withRegs, withPackets, withTracers, withPlayers, withGeneral, setState, setReg, setTracer, setOwed, setScanned, setFirstRun, setWord};
 ghost use Rattle.image.specs.Sized.{Sized, narrow};
 
 pub mod bits; // bits.rt: start and mark bits, by shift and mask
 pub mod clearing; // clearing.rt: stretches of the image cleared
 pub mod fresh; // fresh.rt: a fresh store made
+pub mod runs; // runs.rt: the chain of free runs
 pub mod size; // size.rt: the number of cards, from the length
 
 // ---- read
@@ -19,6 +20,15 @@ pub fn heap_word(im: &[u16], k: usize, i: usize) -> u16
     ensures { λ r. ⌜ r ≡ nth (narrow k (now (im .entry)) .heap) i ⌝ }
 {
     im[i]
+}
+
+// Word i from granule g on.
+pub fn word(im: &[u16], k: usize, g: usize, i: usize) -> u16
+    requires { ⌜ Sized k (now im) ⌝ }
+    requires { ⌜ 4 * g + i < 256 * k ⌝ }
+    ensures { λ r. ⌜ r ≡ word (narrow k (now (im .entry))) g i ⌝ }
+{
+    heap_word(im, k, 4 * g + i)
 }
 
 pub fn start_word(im: &[u16], k: usize, w: usize) -> u16
@@ -93,6 +103,36 @@ pub fn general_word(im: &[u16], k: usize, i: usize) -> u16
     im[265 * k + 1376 + i]
 }
 
+pub fn owed(im: &[u16], k: usize, p: usize) -> u16
+    requires { ⌜ Sized k (now im) ⌝ }
+    requires { ⌜ p < 16 ⌝ }
+    ensures { λ r. ⌜ r ≡ owed (narrow k (now (im .entry))) p ⌝ }
+{
+    player_word(im, k, 2 * p)
+}
+
+pub fn scanned(im: &[u16], k: usize, p: usize) -> u16
+    requires { ⌜ Sized k (now im) ⌝ }
+    requires { ⌜ p < 16 ⌝ }
+    ensures { λ r. ⌜ r ≡ scanned (narrow k (now (im .entry))) p ⌝ }
+{
+    player_word(im, k, 2 * p + 1)
+}
+
+pub fn running(im: &[u16], k: usize) -> u16
+    requires { ⌜ Sized k (now im) ⌝ }
+    ensures { λ r. ⌜ r ≡ running (narrow k (now (im .entry))) ⌝ }
+{
+    general_word(im, k, 0)
+}
+
+pub fn first_run(im: &[u16], k: usize) -> u16
+    requires { ⌜ Sized k (now im) ⌝ }
+    ensures { λ r. ⌜ r ≡ firstRun (narrow k (now (im .entry))) ⌝ }
+{
+    general_word(im, k, 1)
+}
+
 // ---- written
 
 pub fn set_heap_word(im: &mut [u16], k: usize, i: usize, v: u16)
@@ -101,6 +141,14 @@ pub fn set_heap_word(im: &mut [u16], k: usize, i: usize, v: u16)
     ensures { λ _. ⌜ narrow k (now (im .exit)) ≡ withHeap (narrow k (now (im .entry))) (put (narrow k (now (im .entry)) .heap) i v) ⌝ }
 {
     im[i] = v;
+}
+
+pub fn set_word(im: &mut [u16], k: usize, g: usize, i: usize, v: u16)
+    requires { ⌜ Sized k (now im) ⌝ }
+    requires { ⌜ 4 * g + i < 256 * k ⌝ }
+    ensures { λ _. ⌜ narrow k (now (im .exit)) ≡ setWord (narrow k (now (im .entry))) g i v ⌝ }
+{
+    set_heap_word(im, k, 4 * g + i, v);
 }
 
 pub fn set_start_word(im: &mut [u16], k: usize, w: usize, v: u16)
