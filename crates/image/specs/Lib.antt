@@ -4,3 +4,4 @@ pub mod Bits
 pub mod Clear
 pub mod Made
 pub mod Runs
+pub mod Answer

@@ -37,3 +37,6 @@ pub mod PlainList
 pub mod PlainHistory
 pub mod Linked
 pub mod Claim
+pub mod LiveSteps
+pub mod Finishes
+pub mod Room
