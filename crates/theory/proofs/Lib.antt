@@ -37,6 +37,3 @@ pub mod PlainList
 pub mod PlainHistory
 pub mod Linked
 pub mod Claim
-pub mod LiveSteps
-pub mod Finishes
-pub mod Room
