@@ -1,1 +1,3 @@
 pub mod Choosing
+pub mod Lowest
+pub mod Numbers

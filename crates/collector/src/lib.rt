@@ -1,2 +1,5 @@
 // The collector's steps, kinds 9 to 12: each is an equation with the model's step.
+pub mod begin; // begin.rt: a cycle begun
+pub mod cards; // cards.rt: the lowest dirty card, a card turned dirty
 pub mod pool; // pool.rt: the packets that no tracer holds, and the emptiest and fullest of them
+pub mod refusals; // refusals.rt: what refuses a tracer's step, before it looks for something to do
