@@ -1,14 +1,14 @@
 -- Each section of an image of 16-bit words: its place among the words, and its words read and written there.
 use mathlib.Core.Path.{_≡_, sym, ap, _∙_, refl}
 use mathlib.Core.List.{List, []}
-use Prim.Native.Nat.{ℕ, _+_, _*_, _<_}
+use Prim.Native.Nat.{ℕ, _+_, _*_, _<_, _≤_}
 use native.Mathlib.Nat.{zero-add}
 use native.Mathlib.Omega.{arith}
 use lib.ListN.{getD, set, length}
 use Rattle.model.specs.Base.{nth, put}
 use Rattle.model.specs.Image.{mostCards, lengths, split, image, imageOf, withHeap, withStarts, withMarks, withCards, withRegs, withPackets, withTracers, withPlayers, withGeneral, sections, words, granules}
-use Rattle.image.specs.Sized.{narrow, Sized}
-use Rattle.image.proofs.Split.{place, split-get, split-put, total, join-split, split-lengths}
+use Rattle.image.specs.Sized.{narrow, Sized, Lengths}
+use Rattle.image.proofs.Split.{place, split-get, split-put, total, join-split, split-lengths, split-length}
 use Rattle.model.proofs.Words.{Fits}
 
 -- ---- for all sections at once
@@ -112,6 +112,22 @@ module _ (k : ℕ) (ws : List ℕ) (z : Sized k ws) where
   pub narrow-fits : Fits (narrow k ws)
   unfolding narrow imageOf image sections lengths split mostCards
   narrow-fits = record { some-card = z .low; few-cards = z .high; section-lengths = split-lengths (lengths 16 k) ws whole }
+
+  pub narrow-lengths : Lengths k (narrow k ws)
+  unfolding narrow imageOf image lengths split
+  narrow-lengths =
+      let n : (s : ℕ) → place (lengths 16 k) s + getD (lengths 16 k) s 0 ≤ length ws → length (getD (split (lengths 16 k) ws) s []) ≡ getD (lengths 16 k) s 0 = split-length (lengths 16 k) ws in
+      record {
+        heap-length = n 0 (omega (arith, z .long));
+        starts-length = omega (arith, n 1 (omega (arith, z .long)));
+        marks-length = omega (arith, n 2 (omega (arith, z .long)));
+        cards-length = n 3 (omega (arith, z .long));
+        regs-length = n 4 (omega (arith, z .long));
+        packets-length = n 5 (omega (arith, z .long));
+        tracers-length = n 6 (omega (arith, z .long));
+        players-length = n 7 (omega (arith, z .long));
+        general-length = n 8 (omega (arith, z .long));
+      }
 
 -- the words are known by their image
 pub narrow-inj : (k : ℕ) (ws vs : List ℕ) → Sized k ws → Sized k vs → narrow k ws ≡ narrow k vs → ws ≡ vs

@@ -1,4 +1,7 @@
-// The answer of a step: accepted with a value, or refused by one of document 01's numbers 3 to 11.
+// The answer of one step: accepted with a value, or the number that refuses it.
+ghost use mathlib.Core.Path.{_≡_};
+ghost use Rattle.image.specs.Answer.{numberOf, valueOf};
+
 pub enum Answer {
     Done(u16),
     Unknown,
@@ -10,4 +13,40 @@ pub enum Answer {
     NoRoom,
     WrongPhase,
     NothingToDo,
+}
+
+impl Answer {
+    pub fn number(self) -> u16
+        ensures { λ r. ⌜ r ≡ numberOf self ⌝ }
+    {
+        match self {
+            Answer::Done(_) => 0,
+            Answer::Unknown => 3,
+            Answer::OffDesk => 4,
+            Answer::Owing => 5,
+            Answer::NoObject => 6,
+            Answer::PastEnd => 7,
+            Answer::BadSize => 8,
+            Answer::NoRoom => 9,
+            Answer::WrongPhase => 10,
+            Answer::NothingToDo => 11,
+        }
+    }
+
+    pub fn value(self) -> u16
+        ensures { λ r. ⌜ r ≡ valueOf self ⌝ }
+    {
+        match self {
+            Answer::Done(v) => v,
+            Answer::Unknown => 0,
+            Answer::OffDesk => 0,
+            Answer::Owing => 0,
+            Answer::NoObject => 0,
+            Answer::PastEnd => 0,
+            Answer::BadSize => 0,
+            Answer::NoRoom => 0,
+            Answer::WrongPhase => 0,
+            Answer::NothingToDo => 0,
+        }
+    }
 }

@@ -1,0 +1,4 @@
+pub mod Copy
+pub mod Writes
+pub mod PacketWords
+pub mod TracerWords

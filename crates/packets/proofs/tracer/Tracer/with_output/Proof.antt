@@ -1,0 +1,11 @@
+use Rattle.packets.specs.Tracers.{withOutput}
+use mathlib.Core.Path.{refl}
+use Rattle.packets.proofs.tracer.Tracer.with_output.Statement.{statement}
+use Rattle.packets.proofs.tracer.Tracer.with_output.Tie as tie
+
+returns : tie.Need-returns
+unfolding withOutput
+returns c = refl
+
+pub with-output-spec : {M : Type 1} → statement M
+with-output-spec = tie.close (tie.spec returns)
