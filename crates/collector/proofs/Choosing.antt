@@ -5,14 +5,14 @@ use mathlib.Core.List.{[], _∷_}
 use Prim.Native.Nat.{ℕ, zero, suc, _+_, _≤_, _^_, _*_, _-_, _%_, _<_}
 use native.Mathlib.Omega.{arith}
 use native.Mathlib.Decide.{ℕ-discrete}
-use lib.Dec.{ltb, eqb, lit<}
+use lib.Dec.{ltb, eqb, lit<, leb}
 use borrow.Author.Tests.{ltb-true, lt-ltb, eq-eqb, ne-eqb}
 use Rattle.model.specs.Base.{best, every, any, some, testBit, withBit, nth}
 use Rattle.model.specs.Image.{Image, count, input, output, entries}
 use Rattle.model.specs.Collect.{held, emptiest, hasEntries, fullest}
 use Rattle.model.proofs.Laws.{best-ok, every-use, false≢}
 use Rattle.model.proofs.Bits.{withBit-same, withBit-other}
-use Rattle.collector.specs.Pool.{choice, chosenBy, heldWith, heldSet}
+use Rattle.collector.specs.Pool.{choice, chosenBy, heldWith, heldSet, lacksSpace}
 use Rattle.collector.specs.declared.pool.Choice.{Choice}
 use native.Mathlib.Numerals.{add-one}
 use native.Mathlib.Nat.{zero-div, one-mul}
@@ -93,6 +93,14 @@ module _ (m : Image) (x : ℕ) where
   pub some-entries : (n : ℕ) → (x ≡ 0 → ⊥) → n ≡ count m (x - 1) → ltb 0 n ≡ hasEntries m x
   unfolding hasEntries every
   some-entries n ne e = rw (ne-eqb x 0 ne, e) (sym (and-true (ltb 0 (count m (x - 1)))))
+
+  pub absent : x ≡ 0 → true ≡ lacksSpace m x
+  unfolding lacksSpace some
+  absent e = rw e
+
+  pub present : (n : ℕ) → (x ≡ 0 → ⊥) → n ≡ count m (x - 1) → leb 30 n ≡ lacksSpace m x
+  unfolding lacksSpace some
+  present n ne e = rw (ne-eqb x 0 ne, e) (sym (or-false (leb 30 (count m (x - 1)))))
 
 -- ---- the choices of the pool
 

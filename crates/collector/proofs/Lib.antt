@@ -1,3 +1,4 @@
 pub mod Choosing
 pub mod Lowest
 pub mod Numbers
+pub mod Reaches

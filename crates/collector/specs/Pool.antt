@@ -1,8 +1,11 @@
 -- The packets that tracers hold, as bits, and the choice of a packet of the pool as a walk makes it.
+use mathlib.Core.Path.{_≡_}
 use mathlib.Core.Bool.{Bool, true, false, _&&_}
-use Prim.Native.Nat.{ℕ, zero, suc}
-use Rattle.model.specs.Base.{withBit}
-use Rattle.model.specs.Image.{Image, input, output}
+use mathlib.Core.List.{[], _∷_}
+use Prim.Native.Nat.{ℕ, zero, suc, _-_, _<_}
+use lib.Dec.{leb, eqb}
+use Rattle.model.specs.Base.{withBit, some}
+use Rattle.model.specs.Image.{Image, count, input, output}
 use Rattle.collector.specs.declared.pool.Choice.{Choice}
 
 -- packets as bits, with the bit of a packet given by its number + 1; 0 is no packet
@@ -26,3 +29,11 @@ choice less key free bound zero = record { packet = 0; entries = bound }
 choice less key free bound (suc n) =
     let c : Choice = choice less key free bound n in
     chosenBy (free n && less (key n) (c .entries)) n (key n) c
+
+-- a packet, given by its number + 1, is absent or full
+unfoldable pub lacksSpace : Image → ℕ → Bool
+lacksSpace m x = some (eqb x 0 ∷ leb 30 (count m (x - 1)) ∷ [])
+
+-- an output packet of tracer t has space
+pub record Spare (m : Image) (t : ℕ) : Type 0 where
+  pub space : (p : ℕ) → output m t ≡ suc p → (p < 32) × (count m p < 30)

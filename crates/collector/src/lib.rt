@@ -2,4 +2,5 @@
 pub mod begin; // begin.rt: a cycle begun
 pub mod cards; // cards.rt: the lowest dirty card, a card turned dirty
 pub mod pool; // pool.rt: the packets that no tracer holds, and the emptiest and fullest of them
+pub mod reaching; // reaching.rt: reach
 pub mod refusals; // refusals.rt: what refuses a tracer's step, before it looks for something to do

@@ -7,7 +7,7 @@ ghost use Rattle.model.specs.Image.{count};
 ghost use Rattle.model.specs.Collect.{emptiest, fullest, hasEntries};
 ghost use Rattle.theory.specs.Lines.{HeldOk};
 ghost use Rattle.image.specs.Sized.{Sized, narrow};
-ghost use Rattle.collector.specs.Pool.{heldWith, heldSet, chosenBy};
+ghost use Rattle.collector.specs.Pool.{heldWith, heldSet, chosenBy, lacksSpace};
 
 // A packet by its number + 1 (0: none yet), and its number of entries.
 pub struct Choice {
@@ -80,6 +80,18 @@ pub fn has_entries(im: &[u16], k: usize, x: usize) -> bool
         return false;
     }
     0 < count(im, k, x - 1)
+}
+
+// A packet, given by its number + 1, is absent or full.
+pub fn lacks_space(im: &[u16], k: usize, x: usize) -> bool
+    requires { ⌜ Sized k (now im) ⌝ }
+    requires { ⌜ x ≤ 32 ⌝ }
+    ensures { λ r. ⌜ r ≡ lacksSpace (narrow k (now (im .entry))) x ⌝ }
+{
+    if x == 0 {
+        return true;
+    }
+    30 <= count(im, k, x - 1)
 }
 
 // "the pool packet (held by no tracer) with fewest entries, below 30, lowest number": its number + 1.

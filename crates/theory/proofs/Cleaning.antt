@@ -39,7 +39,7 @@ putCard-hand : (m : Image) (t c n : ℕ) → hand m t ≡ 0 → hand (putCard m 
 unfolding putCard setTracer withTracers hand
 putCard-hand m t c n e = nth-put-other (put (m .tracers) (8 * t + 4) c) (8 * t + 5) (8 * t + 2) n (omega arith) ∙ (nth-put-other (m .tracers) (8 * t + 4) (8 * t + 2) c (omega arith) ∙ e)
 
-card-in-hand : (m : Image) → Lines m → (t : ℕ) → t < 8 → (handCard m t ≡ 0 → ⊥) → CardInHand m (handCard m t) (nextGranule m t)
+pub card-in-hand : (m : Image) → Lines m → (t : ℕ) → t < 8 → (handCard m t ≡ 0 → ⊥) → CardInHand m (handCard m t) (nextGranule m t)
 unfolding handCard nextGranule
 card-in-hand m o t ht nz = go (o .tracers-ok .handCards .pair t ht)
   where

@@ -72,7 +72,7 @@ unheld m p e u zero hu hj x =
 unheld m p e u (suc zero) hu hj x = false≢ (sym e ∙ any-make 8 _ u hu (some-make _ 1 (eq-eqb _ _ x)))
 unheld m p e u (suc (suc j)) hu hj x = absurd (omega arith)
 
-mark-lines : {m : Image} → Lines m → (a : ℕ) → Start m a → Lines (setMark m a)
+pub mark-lines : {m : Image} → Lines m → (a : ℕ) → Start m a → Lines (setMark m a)
 unfolding setMark
 mark-lines {m} o a sa = put-marks o _ (mark-ok (o .marks-ok) a sa) (λ g k. setBit-keeps (m .width) (m .marks) a g (o .marks-ok .sized a (sa .0)) k)
 
@@ -80,7 +80,7 @@ emptiest-ok : (m : Image) (q : ℕ) → emptiest m ≡ suc q → (q < 32) × (he
 unfolding emptiest
 emptiest-ok m q e = let u = best-ok _ _ 32 q e in (u .0, not-true _ (every-use _ (u .1) 0), ltb-true _ _ (every-use _ (u .1) 1))
 
-take-lines : {m : Image} → Lines m → (t : ℕ) → t < 8 → Lines (takeOutput m t)
+pub take-lines : {m : Image} → Lines m → (t : ℕ) → t < 8 → Lines (takeOutput m t)
 unfolding takeOutput setTracer withTracers output
 take-lines {m} o t ht = put-tracers o _ (go (noOutput m t))
   where
@@ -102,7 +102,7 @@ take-lines {m} o t ht = put-tracers o _ (go (noOutput m t))
         (λ u j p hu hj x y. o .tracers-ok .places .once u j t 1 p hu ht hj (omega arith) y x)
 
 -- the output packet that is taken is one of the 32 and has space
-took : {m : Image} → Lines m → (t p : ℕ) → t < 8 → output (takeOutput m t) t ≡ suc p → (p < 32) × (count m p < 30)
+pub took : {m : Image} → Lines m → (t p : ℕ) → t < 8 → output (takeOutput m t) t ≡ suc p → (p < 32) × (count m p < 30)
 unfolding takeOutput setTracer withTracers output noOutput count
 took {m} o t p ht e = go (noOutput m t) refl (sym (nth-put-same (m .tracers) (8 * t + 1) _ (omega (arith, o .tracers-ok .sized))) ∙ e)
   where

@@ -53,7 +53,7 @@ unfolding marked
 is-mk m g k = k
 
 -- what the line on tracers says of a hand that holds an object
-in-hand-ok : (m : Image) → Lines m → (t : ℕ) → t < 8 → (hand m t ≡ 0 → ⊥) → (marked m (hand m t) ≡ true) × (nextLink m t < links m (hand m t)) × NilOr (Start m) (link m (hand m t) (nextLink m t))
+pub in-hand-ok : (m : Image) → Lines m → (t : ℕ) → t < 8 → (hand m t ≡ 0 → ⊥) → (marked m (hand m t) ≡ true) × (nextLink m t < links m (hand m t)) × NilOr (Start m) (link m (hand m t) (nextLink m t))
 unfolding marked links link word hand nextLink
 in-hand-ok m o t ht nz = go (o .tracers-ok .hands .pair t ht)
   where
