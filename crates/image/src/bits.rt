@@ -48,8 +48,8 @@ pub fn set_start(im: &mut [u16], k: usize, g: usize)
     requires { ⌜ g < 64 * k ⌝ }
     ensures { λ _. ⌜ narrow k (now (im .exit)) ≡ setStart (narrow k (now (im .entry))) g ⌝ }
 {
-    let w = crate::start_word(im, k, g / 16);
-    let v = with_bit(w, (g % 16) as u16);
+    let starts = crate::start_word(im, k, g / 16);
+    let v = with_bit(starts, (g % 16) as u16);
     crate::set_start_word(im, k, g / 16, v);
 }
 
@@ -58,8 +58,8 @@ pub fn clear_start(im: &mut [u16], k: usize, g: usize)
     requires { ⌜ g < 64 * k ⌝ }
     ensures { λ _. ⌜ narrow k (now (im .exit)) ≡ clearStart (narrow k (now (im .entry))) g ⌝ }
 {
-    let w = crate::start_word(im, k, g / 16);
-    let v = without_bit(w, (g % 16) as u16);
+    let starts = crate::start_word(im, k, g / 16);
+    let v = without_bit(starts, (g % 16) as u16);
     crate::set_start_word(im, k, g / 16, v);
 }
 
@@ -68,8 +68,8 @@ pub fn set_mark(im: &mut [u16], k: usize, g: usize)
     requires { ⌜ g < 64 * k ⌝ }
     ensures { λ _. ⌜ narrow k (now (im .exit)) ≡ setMark (narrow k (now (im .entry))) g ⌝ }
 {
-    let w = crate::mark_word(im, k, g / 16);
-    let v = with_bit(w, (g % 16) as u16);
+    let marks = crate::mark_word(im, k, g / 16);
+    let v = with_bit(marks, (g % 16) as u16);
     crate::set_mark_word(im, k, g / 16, v);
 }
 
@@ -78,7 +78,7 @@ pub fn clear_mark(im: &mut [u16], k: usize, g: usize)
     requires { ⌜ g < 64 * k ⌝ }
     ensures { λ _. ⌜ narrow k (now (im .exit)) ≡ clearMark (narrow k (now (im .entry))) g ⌝ }
 {
-    let w = crate::mark_word(im, k, g / 16);
-    let v = without_bit(w, (g % 16) as u16);
+    let marks = crate::mark_word(im, k, g / 16);
+    let v = without_bit(marks, (g % 16) as u16);
     crate::set_mark_word(im, k, g / 16, v);
 }

@@ -2,3 +2,5 @@ pub mod Copy
 pub mod Writes
 pub mod PacketWords
 pub mod TracerWords
+pub mod Trailing
+pub mod CardBits

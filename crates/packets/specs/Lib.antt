@@ -1,2 +1,3 @@
 pub mod Packets
 pub mod Tracers
+pub mod Marks

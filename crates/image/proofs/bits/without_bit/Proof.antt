@@ -1,6 +1,5 @@
 use borrow.Author.Needs.{needs}
 use Rattle.image.proofs.Masks.{one-shl, and-not-pow}
-use Rattle.model.specs.Image.{fits}
 use Rattle.image.proofs.bits.without_bit.Statement.{statement}
 use Rattle.image.proofs.bits.without_bit.Tie as tie
 

@@ -1,6 +1,5 @@
 use borrow.Author.Needs.{needs}
 use Rattle.packets.proofs.PacketWords.{pop-done, packet-count, popped-count}
-use Rattle.model.specs.Collect.{pop}
 use native.Mathlib.Omega.{arith}
 use Rattle.packets.proofs.packet.pop_entry.Statement.{statement}
 use Rattle.packets.proofs.packet.pop_entry.Tie as tie
