@@ -12,7 +12,6 @@ use Rattle.model.specs.Base.{best, lowest, some}
 use Rattle.model.specs.Image.{Image, imageOf, image, state, isDirty, dirty, dirtyState, setState, dirtyCard}
 use Rattle.model.specs.Collect.{lowestDirty}
 use Rattle.image.specs.Sized.{narrow}
-use Rattle.model.specs.Cases.{ok}
 
 -- ---- the lowest number that passes
 

@@ -2,23 +2,23 @@
 use mathlib.Core.Path.{_≡_, refl, sym, _∙_}
 use mathlib.Core.Bool.{Bool, false, true, not, _||_, or-assoc, or-false}
 use mathlib.Core.List.{[], _∷_}
-use Prim.Native.Nat.{ℕ, zero, suc}
+use Prim.Native.Nat.{ℕ, zero, suc, _*_, _<_}
 use lib.Dec.{eqb, ltb}
 use Rattle.model.specs.Base.{first, some, put, zeros}
-use Rattle.model.specs.Image.{Image, running, image, scanned, withCards, withGeneral}
+use Rattle.model.specs.Image.{Image, running, scanned, withCards, withGeneral, setScanned}
 use Rattle.collector.specs.declared.refusals.Turn.{Turn}
 use Rattle.collector.specs.declared.refusals.Turn.the-variants.{Goes, Refused}
 use Rattle.image.specs.declared.answer.Answer.{Answer}
-use Rattle.image.specs.declared.answer.Answer.the-variants.{Done, Unknown, OffDesk, WrongPhase}
+use Rattle.image.specs.declared.answer.Answer.the-variants.{Done, Unknown, OffDesk, WrongPhase, NothingToDo}
 use Rattle.model.specs.Records.{kindOf, Step, Kind, begin, scan, trace, clean}
-use Rattle.model.specs.Collect.{beginCycle, scanPlayer, traceLine, traceStep, cleanLine, cleanStep}
+use Rattle.model.specs.Collect.{beginCycle, scanPlayer, traceLine, traceStep, cleanLine, cleanStep, reachAll}
 use Rattle.model.specs.Steps.{someSet, step, steps-open, refusal, act, outcome}
 use Rattle.image.specs.Answer.{asked, doneOf, numberOf, valueOf}
 use Rattle.collector.specs.Refusals.{turnOf, doneUnless}
-use Rattle.model.specs.Plain.{named}
-use Rattle.theory.proofs.Covering.{on}
-use borrow.Author.Tests.{eq-eqb, ne-eqb}
+use borrow.Author.Tests.{eq-eqb, ne-eqb, ltb-false}
 use native.Mathlib.Omega.{arith}
+use Rattle.model.proofs.Laws.{false≢}
+use lib.ListN.{take, drop}
 use Rattle.model.specs.Steps as steps
 
 -- ---- one form for the four kinds
@@ -56,6 +56,10 @@ module _ (m : Image) (t a b c : ℕ) where
   clean-by : step m (asked 12 t a b c) ≡ settled m (cleanStep m t) (number (someSet (a ∷ b ∷ c ∷ [])) (ltb 7 t) (eqb (running m) 0) (eqb (cleanLine m t) 0))
   unfolding steps-open kindOf asked number
   clean-by = by-number m (cleanStep m t) (asked 12 t a b c) clean refl refl
+
+or-none : (a b : Bool) → (a || b) ≡ false → (a ≡ false) × (b ≡ false)
+or-none true b e = false≢ (sym e)
+or-none false b e = (refl, e)
 
 -- ---- the ways out
 
@@ -134,3 +138,61 @@ module _ (m : Image) (u o : Bool) where
       pub turn-goes : (x ≡ 0 → ⊥) → Goes ≡ turnOf u o (eqb (running m) 0)
       unfolding turnOf
       turn-goes ne = rw (named, on, ne-eqb (running m) 0 (λ q. ne (e ∙ q)))
+
+-- ---- scan, trace, clean: refused, or gone on with
+
+module _ (m : Image) (t a b c : ℕ) (u : Bool) (r : Turn) where
+  module _ (f : u ≡ someSet (0 ∷ b ∷ c ∷ [])) (e : r ≡ turnOf u (ltb 7 t || ltb 15 a) (eqb (running m) 0)) where
+    abbrev out : Bool
+    out = some (ltb 7 t ∷ ltb 15 a ∷ [])
+
+    scan-turn : r ≡ turnOf (someSet (b ∷ c ∷ [])) out (eqb (running m) 0)
+    unfolding someSet some
+    scan-turn = e ∙ rw (f, or-false (ltb 15 a))
+
+    pub scan-refused : (n : Answer) → r ≡ Refused n → doneOf n m ≡ step m (asked 10 t a b c)
+    scan-refused n q = refused m (scanPlayer m t a) _ r _ _ _ scan-turn n q ∙ sym (scan-by m t a b c)
+
+    module _ (q : r ≡ Goes) where
+      on-desk : (ltb 7 t || ltb 15 a) ≡ false
+      on-desk = goes-on r _ _ _ e q
+
+      pub scan-tracer : t < 8
+      scan-tracer = omega (arith, ltb-false 7 t (or-none (ltb 7 t) (ltb 15 a) on-desk .0))
+
+      pub scan-register : a < 16
+      scan-register = omega (arith, ltb-false 15 a (or-none (ltb 7 t) (ltb 15 a) on-desk .1))
+
+      pub scan-goes : (d : steps.Done) → d ≡ doneUnless (eqb (scanned m a) 1) m (scanPlayer m t a) → d ≡ step m (asked 10 t a b c)
+      scan-goes d h = h ∙ (goes m (scanPlayer m t a) _ r _ _ _ scan-turn q ∙ sym (scan-by m t a b c))
+
+  module _ (f : u ≡ someSet (a ∷ b ∷ c ∷ [])) (e : r ≡ turnOf u (ltb 7 t) (eqb (running m) 0)) where
+    turn : r ≡ turnOf (someSet (a ∷ b ∷ c ∷ [])) (ltb 7 t) (eqb (running m) 0)
+    turn = e ∙ rw f
+
+    pub trace-refused : (n : Answer) → r ≡ Refused n → doneOf n m ≡ step m (asked 11 t a b c)
+    trace-refused n q = refused m (traceStep m t) _ r _ _ _ turn n q ∙ sym (trace-by m t a b c)
+
+    pub clean-refused : (n : Answer) → r ≡ Refused n → doneOf n m ≡ step m (asked 12 t a b c)
+    clean-refused n q = refused m (cleanStep m t) _ r _ _ _ turn n q ∙ sym (clean-by m t a b c)
+
+    module _ (q : r ≡ Goes) where
+      pub goes-tracer : t < 8
+      goes-tracer = omega (arith, ltb-false 7 t (goes-on r _ _ _ e q))
+
+      pub trace-goes : (d : steps.Done) → d ≡ doneUnless (eqb (traceLine m t) 0) m (traceStep m t) → d ≡ step m (asked 11 t a b c)
+      trace-goes d h = h ∙ (goes m (traceStep m t) _ r _ _ _ turn q ∙ sym (trace-by m t a b c))
+
+      pub clean-goes : (d : steps.Done) → d ≡ doneUnless (eqb (cleanLine m t) 0) m (cleanStep m t) → d ≡ step m (asked 12 t a b c)
+      clean-goes d h = h ∙ (goes m (cleanStep m t) _ r _ _ _ turn q ∙ sym (clean-by m t a b c))
+
+-- ---- a player's registers
+
+module _ (m : Image) (t p x : ℕ) (e : x ≡ scanned m p) where
+  pub scan-nothing : x ≡ 1 → doneOf NothingToDo m ≡ doneUnless (eqb (scanned m p) 1) m (scanPlayer m t p)
+  unfolding doneOf numberOf valueOf doneUnless
+  scan-nothing q = rw (eq-eqb (scanned m p) 1 (sym e ∙ q))
+
+  pub scan-done : (x ≡ 1 → ⊥) → (n₁ n₂ : Image) → n₁ ≡ reachAll m t (take 16 (drop (16 * p) (m .regs))) → n₂ ≡ setScanned n₁ p → doneOf (Done 0) n₂ ≡ doneUnless (eqb (scanned m p) 1) m (scanPlayer m t p)
+  unfolding doneOf numberOf valueOf doneUnless scanPlayer
+  scan-done ne n₁ n₂ f g = rw (ne-eqb (scanned m p) 1 (λ q. ne (e ∙ q)), g, f)

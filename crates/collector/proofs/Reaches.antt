@@ -1,8 +1,8 @@
 -- Reach, each way out as the code finds it: the output packet taken, the object entered, the whole.
-use mathlib.Core.Path.{_≡_, refl, sym, ap, subst, _∙_}
-use mathlib.Core.Logic.{_⊎_, inl, inr}
-use mathlib.Core.Bool.{Bool, true, false, cond}
-use mathlib.Core.List.{List, [], _∷_}
+use mathlib.Core.Path.{_≡_, sym, ap, _∙_}
+use mathlib.Core.Logic.{inl, inr}
+use mathlib.Core.Bool.{Bool, true, false}
+use mathlib.Core.List.{List}
 use Prim.Native.Nat.{ℕ, zero, suc, _+_, _*_, _-_, _/_, _≤_, _<_}
 use native.Mathlib.Omega.{arith}
 use lib.Seq.{set-set, set-getD}
@@ -11,7 +11,7 @@ use Rattle.model.specs.Base.{nth, put, some}
 use Rattle.model.specs.Image.{Image, imageOf, image, marked, count, output, withTracers, setMark, dirtyCard, setTracer}
 use Rattle.model.specs.Collect.{emptiest, append, noOutput, takeOutput, enter, reach}
 use Rattle.model.proofs.Laws.{best-ok}
-use Rattle.theory.specs.Lines.{HeldOk, TracersOk, NilOr, Start, Lines}
+use Rattle.theory.specs.Lines.{HeldOk, NilOr, Start, Lines}
 use Rattle.theory.proofs.Sections.{hold-ok}
 use Rattle.theory.proofs.Reaching.{mark-lines, take-lines, took}
 use Rattle.image.specs.Sized.{narrow}

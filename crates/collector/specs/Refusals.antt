@@ -1,10 +1,10 @@
 -- What refuses a tracer's step, by tests in the order of document 01's table, and what is left where it goes.
 use mathlib.Core.Bool.{Bool, true, false}
 use Rattle.model.specs.Image.{Image}
-use Rattle.model.specs.Steps as steps
 use Rattle.image.specs.declared.answer.Answer.the-variants.{Unknown, OffDesk, WrongPhase}
 use Rattle.collector.specs.declared.refusals.Turn.{Turn}
 use Rattle.collector.specs.declared.refusals.Turn.the-variants.{Goes, Refused}
+use Rattle.model.specs.Steps as steps
 
 -- by an unnamed field, off the desk, the wrong phase
 unfoldable pub turnOf : Bool → Bool → Bool → Turn

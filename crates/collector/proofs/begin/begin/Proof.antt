@@ -2,12 +2,6 @@ use borrow.Author.Needs.{needs}
 use Rattle.collector.proofs.Numbers.{begin-who, begin-field, begin-phase, begin-done}
 use Rattle.collector.proofs.begin.begin.Statement.{statement}
 use Rattle.collector.proofs.begin.begin.Tie as tie
-use Rattle.collector.proofs.begin.begin.Reads as reads
-use Rattle.collector.proofs.begin.begin.Lts as lts
-use Rattle.collector.proofs.refusals.some_set.Reads as some-set-reads
-use Rattle.image.proofs.clearing.clear_cards.Reads as clear-cards-reads
-use Rattle.image.proofs.running.Reads as running-reads
-use Rattle.image.proofs.set_general_word.Reads as set-general-word-reads
 
 returns : tie.Need-returns
 returns c = search begin-who

@@ -1,8 +1,6 @@
 use Rattle.collector.proofs.Lowest.{dirtied-clean, dirtied-dirty, dirtied-taken}
 use Rattle.collector.proofs.cards.dirtied.Statement.{statement}
 use Rattle.collector.proofs.cards.dirtied.Tie as tie
-use Rattle.collector.proofs.cards.dirtied.Reads as reads
-use Rattle.collector.proofs.cards.dirtied.Lts as lts
 
 returns : tie.Need-returns
 returns c = search dirtied-clean

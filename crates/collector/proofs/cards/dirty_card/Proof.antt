@@ -2,11 +2,6 @@ use borrow.Author.Needs.{needs}
 use Rattle.collector.proofs.Lowest.{card-dirtied}
 use Rattle.collector.proofs.cards.dirty_card.Statement.{statement}
 use Rattle.collector.proofs.cards.dirty_card.Tie as tie
-use Rattle.collector.proofs.cards.dirty_card.Reads as reads
-use Rattle.collector.proofs.cards.dirty_card.Lts as lts
-use Rattle.collector.proofs.cards.dirtied.Reads as dirtied-reads
-use Rattle.image.proofs.card.Reads as card-reads
-use Rattle.image.proofs.set_card.Reads as set-card-reads
 
 card-requires : tie.Need-card-requires
 card-requires c κs = search needs

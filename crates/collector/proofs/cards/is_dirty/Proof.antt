@@ -2,9 +2,6 @@ use borrow.Author.Needs.{needs}
 use Rattle.collector.proofs.Lowest.{is-dirty}
 use Rattle.collector.proofs.cards.is_dirty.Statement.{statement}
 use Rattle.collector.proofs.cards.is_dirty.Tie as tie
-use Rattle.collector.proofs.cards.is_dirty.Reads as reads
-use Rattle.collector.proofs.cards.is_dirty.Lts as lts
-use Rattle.image.proofs.card.Reads as card-reads
 
 card-requires : tie.Need-card-requires
 card-requires c κs = search needs

@@ -5,9 +5,6 @@ use native.Mathlib.Omega.{arith}
 use borrow.Author.Needs.{needs}
 use Rattle.collector.proofs.cards.lowest_dirty.Statement.{statement}
 use Rattle.collector.proofs.cards.lowest_dirty.Tie as tie
-use Rattle.collector.proofs.cards.lowest_dirty.Reads as reads
-use Rattle.collector.proofs.cards.lowest_dirty.Lts as lts
-use Rattle.image.proofs.card.Reads as card-reads
 
 abbrev Inv-loop : tie.InvT-loop
 Inv-loop im k c₀ c = (c ≤ k) × NoDirty (narrow k im) c

@@ -2,9 +2,6 @@ use borrow.Author.Needs.{needs}
 use Rattle.model.specs.Image.{count}
 use Rattle.collector.proofs.pool.count.Statement.{statement}
 use Rattle.collector.proofs.pool.count.Tie as tie
-use Rattle.collector.proofs.pool.count.Reads as reads
-use Rattle.collector.proofs.pool.count.Lts as lts
-use Rattle.image.proofs.packet_word.Reads as packet-word-reads
 
 mul-packet-word : tie.Need-mul-packet-word
 mul-packet-word c = search needs

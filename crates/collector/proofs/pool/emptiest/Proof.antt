@@ -1,4 +1,3 @@
-use Rattle.model.specs.Collect.{held}
 use borrow.Author.Needs.{needs}
 use Rattle.collector.specs.Pool.{choice}
 use Rattle.collector.proofs.Choosing.{free, choice-more, in-pool, emptiest-choice}
@@ -10,12 +9,6 @@ use native.Mathlib.Omega.{arith}
 use lib.Dec.{ltb}
 use Rattle.collector.proofs.pool.emptiest.Statement.{statement}
 use Rattle.collector.proofs.pool.emptiest.Tie as tie
-use Rattle.collector.proofs.pool.emptiest.Reads as reads
-use Rattle.collector.proofs.pool.emptiest.Lts as lts
-use Rattle.collector.proofs.pool.Choice.or.Reads as or-reads
-use Rattle.collector.proofs.pool.count.Reads as count-reads
-use Rattle.collector.proofs.pool.held_packets.Reads as held-packets-reads
-use Rattle.collector.proofs.pool.in_pool.Reads as in-pool-reads
 
 abbrev Inv-loop : tie.InvT-loop
 Inv-loop im k held c₀ p₀ c p = (p ≤ 32) × (c ≡ choice ltb (count (narrow k im)) (free (narrow k im)) 30 p)

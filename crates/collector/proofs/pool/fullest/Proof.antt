@@ -1,4 +1,3 @@
-use Rattle.model.specs.Collect.{held}
 use borrow.Author.Needs.{needs}
 use Rattle.collector.specs.Pool.{choice}
 use Rattle.collector.proofs.Choosing.{free, more, choice-more, in-pool, fullest-choice}
@@ -9,12 +8,6 @@ use mathlib.Core.Path.{_≡_, refl}
 use native.Mathlib.Omega.{arith}
 use Rattle.collector.proofs.pool.fullest.Statement.{statement}
 use Rattle.collector.proofs.pool.fullest.Tie as tie
-use Rattle.collector.proofs.pool.fullest.Reads as reads
-use Rattle.collector.proofs.pool.fullest.Lts as lts
-use Rattle.collector.proofs.pool.Choice.or.Reads as or-reads
-use Rattle.collector.proofs.pool.count.Reads as count-reads
-use Rattle.collector.proofs.pool.held_packets.Reads as held-packets-reads
-use Rattle.collector.proofs.pool.in_pool.Reads as in-pool-reads
 
 abbrev Inv-loop : tie.InvT-loop
 Inv-loop im k held c₀ p₀ c p = (p ≤ 32) × (c ≡ choice more (count (narrow k im)) (free (narrow k im)) 0 p)

@@ -2,9 +2,6 @@ use borrow.Author.Needs.{needs}
 use Rattle.collector.proofs.Choosing.{no-entries, some-entries}
 use Rattle.collector.proofs.pool.has_entries.Statement.{statement}
 use Rattle.collector.proofs.pool.has_entries.Tie as tie
-use Rattle.collector.proofs.pool.has_entries.Reads as reads
-use Rattle.collector.proofs.pool.has_entries.Lts as lts
-use Rattle.collector.proofs.pool.count.Reads as count-reads
 
 returns : tie.Need-returns
 returns c = search no-entries

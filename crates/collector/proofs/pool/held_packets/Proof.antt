@@ -7,10 +7,6 @@ use Rattle.collector.proofs.Choosing.{held-more, held-all, input-few, o
 use native.Mathlib.Omega.{arith}
 use Rattle.collector.proofs.pool.held_packets.Statement.{statement}
 use Rattle.collector.proofs.pool.held_packets.Tie as tie
-use Rattle.collector.proofs.pool.held_packets.Reads as reads
-use Rattle.collector.proofs.pool.held_packets.Lts as lts
-use Rattle.collector.proofs.pool.with_packet.Reads as with-packet-reads
-use Rattle.image.proofs.tracer_word.Reads as tracer-word-reads
 
 abbrev Inv-loop : tie.InvT-loop
 Inv-loop im k s₀ t₀ s t = (t ≤ 8) × (s ≡ heldSet (narrow k im) t)

@@ -4,8 +4,6 @@ use Prim.Native.Nat.{_/_, _^_}
 use lib.Bits.{and-mask}
 use Rattle.collector.proofs.pool.in_pool.Statement.{statement}
 use Rattle.collector.proofs.pool.in_pool.Tie as tie
-use Rattle.collector.proofs.pool.in_pool.Reads as reads
-use Rattle.collector.proofs.pool.in_pool.Lts as lts
 
 shr-result : tie.Need-shr-result
 shr-result c = search needs

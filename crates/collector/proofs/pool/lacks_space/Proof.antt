@@ -2,9 +2,6 @@ use borrow.Author.Needs.{needs}
 use Rattle.collector.proofs.Choosing.{absent, present}
 use Rattle.collector.proofs.pool.lacks_space.Statement.{statement}
 use Rattle.collector.proofs.pool.lacks_space.Tie as tie
-use Rattle.collector.proofs.pool.lacks_space.Reads as reads
-use Rattle.collector.proofs.pool.lacks_space.Lts as lts
-use Rattle.collector.proofs.pool.count.Reads as count-reads
 
 returns : tie.Need-returns
 returns c = search absent

@@ -2,8 +2,6 @@ use borrow.Author.Needs.{needs}
 use Rattle.collector.proofs.Choosing.{held-none, held-one}
 use Rattle.collector.proofs.pool.with_packet.Statement.{statement}
 use Rattle.collector.proofs.pool.with_packet.Tie as tie
-use Rattle.collector.proofs.pool.with_packet.Reads as reads
-use Rattle.collector.proofs.pool.with_packet.Lts as lts
 
 returns : tie.Need-returns
 returns c = search held-none

@@ -2,11 +2,6 @@ use borrow.Author.Needs.{needs}
 use Rattle.collector.proofs.Reaches.{enter-dirty, enter-append, enter-packet, enter-space, enter-tidy}
 use Rattle.collector.proofs.reaching.enter.Statement.{statement}
 use Rattle.collector.proofs.reaching.enter.Tie as tie
-use Rattle.collector.proofs.reaching.enter.Reads as reads
-use Rattle.collector.proofs.reaching.enter.Lts as lts
-use Rattle.collector.proofs.cards.dirty_card.Reads as dirty-card-reads
-use Rattle.image.proofs.tracer_word.Reads as tracer-word-reads
-use Rattle.packets.proofs.packet.append_entry.Reads as append-entry-reads
 
 mul-tracer-word : tie.Need-mul-tracer-word
 mul-tracer-word c = search needs

@@ -2,12 +2,6 @@ use borrow.Author.Needs.{needs}
 use Rattle.collector.proofs.Reaches.{start-in, reach-nil, reach-marked, reach-new, marked-lines, taken-lines, taken-spare}
 use Rattle.collector.proofs.reaching.reach.Statement.{statement}
 use Rattle.collector.proofs.reaching.reach.Tie as tie
-use Rattle.collector.proofs.reaching.reach.Reads as reads
-use Rattle.collector.proofs.reaching.reach.Lts as lts
-use Rattle.collector.proofs.reaching.enter.Reads as enter-reads
-use Rattle.collector.proofs.reaching.take_output.Reads as take-output-reads
-use Rattle.image.proofs.bits.is_marked.Reads as is-marked-reads
-use Rattle.image.proofs.bits.set_mark.Reads as set-mark-reads
 
 returns : tie.Need-returns
 returns c = search reach-nil

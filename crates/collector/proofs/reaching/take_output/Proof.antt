@@ -1,16 +1,9 @@
 use borrow.Author.Needs.{needs}
 use Rattle.collector.proofs.Choosing.{output-few}
 use Rattle.collector.proofs.Reaches.{emptiest-few, back-places, take-new, take-same}
-use Rattle.model.specs.Collect.{emptiest}
 use native.Mathlib.Omega.{arith}
 use Rattle.collector.proofs.reaching.take_output.Statement.{statement}
 use Rattle.collector.proofs.reaching.take_output.Tie as tie
-use Rattle.collector.proofs.reaching.take_output.Reads as reads
-use Rattle.collector.proofs.reaching.take_output.Lts as lts
-use Rattle.collector.proofs.pool.emptiest.Reads as emptiest-reads
-use Rattle.collector.proofs.pool.lacks_space.Reads as lacks-space-reads
-use Rattle.image.proofs.set_tracer.Reads as set-tracer-reads
-use Rattle.image.proofs.tracer_word.Reads as tracer-word-reads
 
 mul-tracer-word : tie.Need-mul-tracer-word
 mul-tracer-word c = search needs

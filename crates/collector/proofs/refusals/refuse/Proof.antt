@@ -2,9 +2,6 @@ use borrow.Author.Needs.{needs}
 use Rattle.collector.proofs.Numbers.{turn-unnamed, turn-off, turn-phase, turn-goes}
 use Rattle.collector.proofs.refusals.refuse.Statement.{statement}
 use Rattle.collector.proofs.refusals.refuse.Tie as tie
-use Rattle.collector.proofs.refusals.refuse.Reads as reads
-use Rattle.collector.proofs.refusals.refuse.Lts as lts
-use Rattle.image.proofs.running.Reads as running-reads
 
 returns : tie.Need-returns
 returns c = search turn-unnamed

@@ -1,8 +1,6 @@
 use Rattle.collector.proofs.Numbers.{set-three}
 use Rattle.collector.proofs.refusals.some_set.Statement.{statement}
 use Rattle.collector.proofs.refusals.some_set.Tie as tie
-use Rattle.collector.proofs.refusals.some_set.Reads as reads
-use Rattle.collector.proofs.refusals.some_set.Lts as lts
 
 returns : tie.Need-returns
 returns c = set-three (c .args .a) (c .args .b) (c .args .c)

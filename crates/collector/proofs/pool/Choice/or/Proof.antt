@@ -2,8 +2,6 @@ use borrow.Author.Needs.{needs}
 use Rattle.collector.proofs.Choosing.{chosen-yes, chosen-no}
 use Rattle.collector.proofs.pool.Choice.or.Statement.{statement}
 use Rattle.collector.proofs.pool.Choice.or.Tie as tie
-use Rattle.collector.proofs.pool.Choice.or.Reads as reads
-use Rattle.collector.proofs.pool.Choice.or.Lts as lts
 
 add-t6 : tie.Need-add-t6
 add-t6 c = search needs
