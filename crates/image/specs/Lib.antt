@@ -2,6 +2,6 @@ pub mod Sized
 pub mod Size
 pub mod Bits
 pub mod Clear
-pub mod Answer
 pub mod Made
 pub mod Runs
+pub mod Answer
