@@ -8,13 +8,8 @@ use lib.ListN.{getD, set, length}
 use Rattle.model.specs.Base.{nth, put}
 use Rattle.model.specs.Image.{mostCards, lengths, split, image, imageOf, withHeap, withStarts, withMarks, withCards, withRegs, withPackets, withTracers, withPlayers, withGeneral, sections, words, granules}
 use Rattle.image.specs.Sized.{narrow, Sized, Lengths}
-<<<<<<< HEAD
 use Rattle.image.proofs.Split.{place, split-get, split-put, split-length}
 use Rattle.model.proofs.Words.{Fits, total, join-split, split-lengths}
-=======
-use Rattle.image.proofs.Split.{place, split-get, split-put, total, join-split, split-lengths, split-length}
-use Rattle.model.proofs.Words.{Fits}
->>>>>>> collector
 
 -- ---- for all sections at once
 

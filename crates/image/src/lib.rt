@@ -6,11 +6,7 @@ ghost use Rattle.model.specs.Base.{nth, put};
 ghost use Rattle.model.specs.Image.{word, owed, scanned, running, firstRun, state, reg, withHeap, withStarts, withMarks, withRegs, withPackets, withTracers, withPlayers, withGeneral, setState, setReg, setTracer, setOwed, setScanned, setFirstRun, setWord};
 ghost use Rattle.image.specs.Sized.{Sized, narrow};
 
-<<<<<<< HEAD
 pub mod answer; // answer.rt: the answer of one step
-=======
-pub mod answer; // answer.rt: the answer of a step
->>>>>>> collector
 pub mod bits; // bits.rt: start and mark bits, by shift and mask
 pub mod clearing; // clearing.rt: stretches of the image cleared
 pub mod fresh; // fresh.rt: a fresh store made
