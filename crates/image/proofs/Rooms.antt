@@ -9,7 +9,6 @@ use borrow.Author.Tests.{le-leb, lt-leb, eq-eqb, ne-eqb}
 use Rattle.model.specs.Image.{Image, granules, word, firstRun}
 use Rattle.model.specs.Mutate.{fit, roomFor, Room, freeFrom, freeGranules}
 use Rattle.image.specs.Runs.{Linked, linked-end, linked-run}
-use Rattle.image.proofs.Split.{total}
 use Rattle.model.specs.Steps.{run}
 use native.Mathlib.Nat.{zero-add}
 use Rattle.model.specs.Mutate

@@ -13,7 +13,7 @@ use Rattle.model.specs.Finish.{keptSet, Kept, finishStep, found-reg, kept-found
 use Rattle.model.specs.Claim.{Finishes}
 use Rattle.model.proofs.Laws.{nth-put-same, length-put, nth-out}
 use Rattle.model.proofs.Bits.{no-bit}
-use Rattle.theory.specs.Cycle.{Facts, SweptTo}
+use Rattle.theory.specs.Cycle.{Facts}
 use Rattle.theory.specs.Lines.{NilOr, Start, Lines, Sound, Undamaged, HeapOk}
 use Rattle.theory.specs.Finish.{FinishMade}
 use Rattle.theory.proofs.Facts.{heap-filled-of, heap-sized-of, laid-of, proper-of, some-card, link-value, start-of}
@@ -48,11 +48,8 @@ module _ (m : Image) (u : Undamaged m) where
   made : FinishMade m (keptSet m) (finishStep m)
   made = finish-made m (heap-filled-of o) (heap-sized-of o)
 
-  pub finish-swept : SweptTo m ((finishStep m) .image)
-  finish-swept = record { starts-kept = made .starts; words-kept = λ g i s k l. made .words g i k l }
-
   pub finish-does : Finishes m ((finishStep m) .image)
-  finish-does = finishes m _ (facts-of (u .sound)) (u .cover) finish-swept
+  finish-does = finishes m (facts-of (u .sound)) (u .cover) made
 
   -- what is kept is a start of what is left
   kept-nil : (a : ℕ) → ((a ≡ 0 → ⊥) → Kept m a) → NilOr (Start m) a → NilOr (λ x. (x < 64 * m .k) × (isStart ((finishStep m) .image) x ≡ true)) a

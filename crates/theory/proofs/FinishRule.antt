@@ -7,15 +7,19 @@ use Prim.Native.Nat.{ℕ, _+_, _*_, _≤_, _<_}
 use native.Mathlib.Decide.{ℕ-discrete, decLt}
 use native.Mathlib.Omega.{arith}
 use lib.ListN.{length}
-use Rattle.model.specs.Image.{Image, granules, word, isStart, size, fits, parts}
+use Rattle.model.specs.Image.{Image, granules, word, isStart, size, lengths, sections, fits, image, imageOf, parts, words}
 use Rattle.model.specs.Undamaged.{sound}
 use Rattle.model.specs.Records.{Step, finish, kindOf}
 use Rattle.model.specs.Finish.{Finish, keptSet, Kept, finishWith, finishStep}
 use Rattle.model.specs.Steps.{accept, finishDone, act, step}
+use Rattle.model.specs.Batch.{finishAt}
 use Rattle.model.proofs.Found.{kept-is}
+use Rattle.model.proofs.Words.{Fits, parts-fit, parts-words}
 use Rattle.theory.specs.Pieces.{Unused}
 use Rattle.theory.specs.Finish.{FinishMade, FinishRule, FinishSafe}
 use Rattle.theory.specs.Lines.{Lines, Undamaged}
+use Rattle.theory.proofs.Beginning.{length-zeros}
+use Rattle.theory.proofs.Replaced.{off-length}
 use Rattle.theory.proofs.Facts.{heap-filled-of, heap-sized-of, laid-of, proper-of}
 use Rattle.theory.proofs.FinishKept.{finish-does, finish-keeps}
 use Rattle.theory.proofs.FinishMade.{finish-made, freed-run, freed-zero}
@@ -85,6 +89,39 @@ module _ (w : ℕ) (ws : List ℕ) (fit : fits w (length ws) ≡ true) (ok : sou
     in-run = freed-run made;
     zeroed = freed-zero made;
   }
+
+  -- ---- the same of the words that a finish alone leaves
+
+  left-fits : Fits (f .image)
+  unfolding finishStep finishWith sections lengths granules
+  left-fits =
+      let k : Fits m = parts-fit w ws fit in
+      let e : 4 * (64 * m .k) ≡ 256 * m .k = omega arith in
+      record {
+        some-card = k .some-card;
+        few-cards = k .few-cards;
+        section-lengths =
+            rw (
+              made .filled .heap-words,
+              e,
+              made .starts-length ∙ o .heap-ok .starts-sized,
+              length-zeros (m .marks) ∙ o .marks-ok .exact,
+              length-zeros (m .cards) ∙ o .cards-ok .sized,
+              o .regs-ok .sized,
+              length-zeros (m .packets) ∙ o .packets-ok .sized,
+              length-zeros (m .tracers) ∙ o .tracers-ok .sized,
+              off-length (m .players) ∙ o .players-ok .sized,
+              made .general-length ∙ o .general-ok .sized,
+            )
+            refl;
+      }
+
+  pub finish-rule-words : FinishRule m (record { image = parts w ((finishAt w ws) .image); value = (finishAt w ws) .value })
+  unfolding finishAt
+  finish-rule-words = rw left-is finish-rule
+    where
+      left-is : parts w (words (f .image)) ≡ f .image
+      left-is = unfold finishStep finishWith parts imageOf image in parts-words (f .image) left-fits
 
 -- ---- on undamaged images
 

@@ -10,14 +10,15 @@ use Rattle.model.specs.Base.{nth, first}
 use Rattle.model.specs.Image.{Image, isStart, reg, running}
 use Rattle.model.specs.Undamaged.{nilOrStart}
 use Rattle.model.specs.Records.{Step, begin, finish, kindOf}
-use Rattle.model.specs.Finish.{Kept}
+use Rattle.model.specs.Finish.{keptSet, Kept, finishStep}
 use Rattle.model.specs.Steps.{isNew, unnamed, offDesk, owing, noObject, pastEnd, badSize, noRoom, wrongPhase, nothingToDo, refusal, accept, act, step}
 use Rattle.model.specs.Claim.{anyField, Same, Finishes}
 use Rattle.model.proofs.Laws.{every-cons, every-nil, either-make}
 use Rattle.model.proofs.Sited.{Sited}
 use Rattle.model.proofs.Found.{set-kept, kept-set}
 use Rattle.theory.specs.Cover.{Cover}
-use Rattle.theory.specs.Cycle.{Facts, Live, Since, SweptTo}
+use Rattle.theory.specs.Cycle.{Facts, Live, Since}
+use Rattle.theory.specs.Finish.{FinishMade}
 use Rattle.theory.proofs.Safe.{chain-start, start-below, safe}
 use Rattle.theory.proofs.Live.{live-begin, live-carried}
 use Rattle.theory.proofs.Quiet.{quiet-begin}
@@ -72,14 +73,14 @@ facts-sited m f = record {
     place : (i : ℕ) → 16 * (i / 16) + i % 16 ≡ i
     place i = omega arith
 
-pub finishes : (m n : Image) → Facts m → Cover m → SweptTo m n → Finishes m n
-finishes m n f c w = record {
+pub finishes : (m : Image) → Facts m → Cover m → FinishMade m (keptSet m) (finishStep m) → Finishes m ((finishStep m) .image)
+finishes m f c w = record {
   kept-stay = stay;
-  only-kept = λ g h. set-kept m (facts-sited m f) g (sym (w .starts-kept g) ∙ h);
+  only-kept = λ g h. set-kept m (facts-sited m f) g (sym (w .starts g) ∙ h);
   reached-stay = λ g ch. stay g (chain-start m (f .proper) ch) (safe m c (f .proper) (f .laid) g ch);
 }
   where
-    stay : (g : ℕ) → isStart m g ≡ true → Kept m g → Same m n g
+    stay : (g : ℕ) → isStart m g ≡ true → Kept m g → Same m ((finishStep m) .image) g
     stay g h k =
         let i = kept-set m (facts-sited m f) g h k in
-        record { stays = w .starts-kept g ∙ i; same-words = λ j l. w .words-kept g j h i l }
+        record { stays = w .starts g ∙ i; same-words = λ j l. w .words g j i l }

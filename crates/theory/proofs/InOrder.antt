@@ -9,7 +9,9 @@ use Rattle.model.specs.Plain.{SameAnswers}
 use Rattle.theory.specs.Events.{Steady, Stored}
 use Rattle.theory.specs.Lines.{Passes}
 use Rattle.theory.proofs.Claim.{claim}
-use Rattle.theory.proofs.FinishKept.{facts-of, finish-swept}
+use Rattle.theory.proofs.FinishKept.{facts-of}
+use Rattle.theory.proofs.FinishMade.{finish-made}
+use Rattle.theory.proofs.Facts.{heap-filled-of, heap-sized-of}
 use Rattle.theory.proofs.Kept.{step-passes}
 use Rattle.theory.proofs.NewKept.{new-placed}
 use Rattle.theory.proofs.Passing.{judge-use, words-round, judge-make}
@@ -20,7 +22,7 @@ steady w = record {
   facts = λ m p. facts-of (p .is-undamaged .sound);
   covers = λ m p. p .is-undamaged .cover;
   new-placed = λ m s p. new-placed m s (p .is-undamaged .sound .lines);
-  swept = λ m p. finish-swept m (p .is-undamaged);
+  swept = λ m p. let o = p .is-undamaged .sound .lines in finish-made m (heap-filled-of o) (heap-sized-of o);
 }
 
 pub stored : (w : ℕ) → Stored w (Passes w)

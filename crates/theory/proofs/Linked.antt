@@ -7,7 +7,6 @@ use Prim.Native.Nat.{ℕ}
 use lib.Dec.{eqb}
 use Rattle.model.specs.Image.{Image, isStart, running}
 use Rattle.model.specs.Records.{Step, begin, finish}
-use Rattle.model.specs.Finish.{finishStep}
 use Rattle.model.specs.Steps.{Event, accept, finishDone, act, step, run, after}
 use Rattle.model.specs.Claim.{Chain, Is, Accepted, anyField, Finishes}
 use Rattle.model.proofs.Laws.{bool-cases}
@@ -64,7 +63,7 @@ module _ (Ok : Image → Type 0) (st : Steady Ok) where
   finish-event e k a =
       let z : (step (e .got) (e .request)) .number ≡ 0 = sym (ap (λ r. r .number) (k .is-step)) ∙ a .no-number in
       subst (Finishes (e .got)) (sym (ap (λ r. r .image) (k .is-step) ∙ accepted-image (e .got) (e .request) (a .is-kind) z))
-      (finishes (e .got) ((finishStep (e .got)) .image) (st .facts (e .got) (k .got-ok)) (st .covers (e .got) (k .got-ok)) (st .swept (e .got) (k .got-ok)))
+      (finishes (e .got) (st .facts (e .got) (k .got-ok)) (st .covers (e .got) (k .got-ok)) (st .swept (e .got) (k .got-ok)))
 
   -- ---- the parts of the claim, for linked events
 

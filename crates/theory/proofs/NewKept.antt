@@ -127,7 +127,7 @@ made-placed {m} {n} {b = b} {c = c} {g = g} o k hb fit = record {
 -- ---- the step
 
 module _ (m : Image) (s : Step) (o : Lines m) (e : refusal m s new ≡ 0) where
-  good-size : (1 ≤ s .b) × (s .b ≤ 1024) × (s .c ≤ 4 * s .b - 2)
+  pub good-size : (1 ≤ s .b) × (s .b ≤ 1024) × (s .c ≤ 4 * s .b - 2)
   unfolding badSize isNew
   good-size =
       let d = some-false _ (line m s new e 5) in

@@ -9,18 +9,20 @@ use native.Mathlib.Omega.{arith}
 use lib.Dec.{eqb, ltb}
 use borrow.Author.Tests.{eqb-true, eqb-false, eq-eqb, ne-eqb, ltb-true, lt-ltb, not-true, not-false}
 use Rattle.model.specs.Base.{some, first, lowest}
-use Rattle.model.specs.Image.{Image, state, count, input, output, owed, scanned}
+use Rattle.model.specs.Image.{Image, state, count, input, output, owed, scanned, running}
 use Rattle.model.specs.Records.{Step, new, barrier, scan, trace, clean, kindOf}
 use Rattle.model.specs.Mutate.{roomFor}
 use Rattle.model.specs.Collect.{held, fullest, hasEntries, traceLine, lowestDirty, cleanLine}
 use Rattle.model.specs.Steps.{someSet, isNew, unnamed, offDesk, badSize, owes, owing, noObject, pastEnd, noRoom, wrongPhase, nothingToDo, refusal, accept, act, step}
 use Rattle.model.proofs.Laws.{false≢, some-use, some-nil, some-make, every-use, every-cons, every-nil, any-use, any-make, best-ok, best-none, first-none, not-make}
+use Rattle.theory.specs.Heap.{HeapFilled, HeapSized}
 use Rattle.theory.specs.Lines.{Undamaged}
 use Rattle.theory.specs.Pieces.{Stretch}
 use Rattle.theory.specs.Numbers.{RefusedWhere, GoodNew, GoodBarrier, GoodScan, GoodTracer, NoEntries, InPool, NoTraceLine, NoCleanLine}
 use Rattle.theory.proofs.Facts.{heap-filled-of, heap-sized-of}
 use Rattle.theory.proofs.Room.{room-stretch, room-lowest, no-room}
-use Rattle.theory.proofs.Steps.{step-number, accepted}
+use Rattle.theory.proofs.NewKept.{good-size}
+use Rattle.theory.proofs.Steps.{step-number, line, accepted}
 
 -- ---- from the test of one line to the number
 
@@ -47,7 +49,7 @@ unfolding first
 room-line true = refl
 room-line false = refl
 
--- fields that pass: at most b, and 0
+-- a field that is at most b
 at-most : (b x : ℕ) → x < suc b → ltb b x ≡ false
 at-most b x h = not-true _ (not-make (ltb b x) (λ e. omega (arith, ltb-true b x e)))
 
@@ -75,17 +77,25 @@ module _ (m : Image) (s : Step) (u : Undamaged m) (k : kindOf (s .kind) ≡ new)
       refused-where m s 8 (eqb ((roomFor m (s .b)) .run) 0) (new-number f) (λ e. r .0 (eqb-true _ _ e)) (λ p. eq-eqb _ _ (r .1 p))
 
   -- an accepted new gives the lowest stretch
-  pub room-value : GoodNew m s → (step m s) .number ≡ 0 → Stretch m (s .b) ((step m s) .value) × ((v : ℕ) → Stretch m (s .b) v → (step m s) .value ≤ v)
-  room-value f e = go ((roomFor m (s .b)) .run) refl
+  pub room-value : (step m s) .number ≡ 0 → Stretch m (s .b) ((step m s) .value) × ((v : ℕ) → Stretch m (s .b) v → (step m s) .value ≤ v)
+  unfolding noRoom isNew
+  room-value e = go ((roomFor m (s .b)) .run) refl (eqb-false _ _ (line m s new r 6))
     where
-      value-is : (step m s) .value ≡ (roomFor m (s .b)) .run
-      value-is = ap (λ d. d .value) (accepted m s k (sym (step-number m s k) ∙ e)) ∙ (unfold act accept in refl)
+      r : refusal m s new ≡ 0
+      r = sym (step-number m s k) ∙ e
 
-      go : (g : ℕ) → (roomFor m (s .b)) .run ≡ g → Stretch m (s .b) ((step m s) .value) × ((v : ℕ) → Stretch m (s .b) v → (step m s) .value ≤ v)
-      go zero q = let x : (step m s) .number ≡ 9 = new-number f ∙ ap (λ b. cond b 9 0) (eq-eqb _ 0 q) in absurd (omega arith)
-      go (suc g) q =
-          rw (value-is, q)
-          (room-stretch m (s .b) (heap-filled-of (u .sound .lines)) (heap-sized-of (u .sound .lines)) g q, room-lowest m (s .b) (heap-filled-of (u .sound .lines)) (heap-sized-of (u .sound .lines)) (f .some-granules) g q)
+      o : HeapFilled m
+      o = heap-filled-of (u .sound .lines)
+
+      z : HeapSized m
+      z = heap-sized-of (u .sound .lines)
+
+      value-is : (step m s) .value ≡ (roomFor m (s .b)) .run
+      value-is = ap (λ d. d .value) (accepted m s k r) ∙ (unfold act accept in refl)
+
+      go : (g : ℕ) → (roomFor m (s .b)) .run ≡ g → ((roomFor m (s .b)) .run ≡ 0 → ⊥) → Stretch m (s .b) ((step m s) .value) × ((v : ℕ) → Stretch m (s .b) v → (step m s) .value ≤ v)
+      go zero q nz = absurd (nz q)
+      go (suc g) q nz = rw (value-is, q) (room-stretch m (s .b) o z g q, room-lowest m (s .b) o z (good-size m s (u .sound .lines) r .0) g q)
 
 -- ---- 11: "barrier with none owed; player scanned already"
 
@@ -196,16 +206,15 @@ module _ (m : Image) where
   none-clean t n = rw (n .hand-empty, n .no-card, none-dirty-card (n .none-dirty)) refl
 
 module _ (m : Image) (s : Step) (f : GoodTracer m s) where
+  -- of the lines of trace and clean, only the last can apply
+  tracer-lines : (b : Bool) → first 3 (someSet (s .a ∷ s .b ∷ s .c ∷ []) ∷ ltb 7 (s .who) ∷ false ∷ false ∷ false ∷ false ∷ false ∷ eqb (running m) 0 ∷ b ∷ []) ≡ cond b 11 0
+  unfolding someSet
+  tracer-lines b = rw (f .no-fields .0, f .no-fields .1, f .no-fields .2, at-most 7 (s .who) (f .tracer), f .in-cycle) (last-line b)
+
   pub trace-nothing : kindOf (s .kind) ≡ trace → RefusedWhere m s 11 (NoTraceLine m (s .who))
-  unfolding refusal unnamed someSet offDesk isNew badSize owing noObject pastEnd noRoom wrongPhase nothingToDo
-  trace-nothing k =
-      refused-where m s 10 (eqb (traceLine m (s .who)) 0)
-      (step-number m s k ∙ (rw (f .no-fields .0, f .no-fields .1, f .no-fields .2, at-most 7 (s .who) (f .tracer), f .in-cycle) (last-line (eqb (traceLine m (s .who)) 0))))
-      (λ e. trace-none m (s .who) (eqb-true _ _ e)) (λ p. eq-eqb _ _ (none-trace m (s .who) p))
+  unfolding refusal unnamed offDesk isNew badSize owing noObject pastEnd noRoom wrongPhase nothingToDo
+  trace-nothing k = refused-where m s 10 _ (step-number m s k ∙ tracer-lines (eqb (traceLine m (s .who)) 0)) (λ e. trace-none m (s .who) (eqb-true _ _ e)) (λ p. eq-eqb _ _ (none-trace m (s .who) p))
 
   pub clean-nothing : kindOf (s .kind) ≡ clean → RefusedWhere m s 11 (NoCleanLine m (s .who))
-  unfolding refusal unnamed someSet offDesk isNew badSize owing noObject pastEnd noRoom wrongPhase nothingToDo
-  clean-nothing k =
-      refused-where m s 10 (eqb (cleanLine m (s .who)) 0)
-      (step-number m s k ∙ (rw (f .no-fields .0, f .no-fields .1, f .no-fields .2, at-most 7 (s .who) (f .tracer), f .in-cycle) (last-line (eqb (cleanLine m (s .who)) 0))))
-      (λ e. clean-none m (s .who) (eqb-true _ _ e)) (λ p. eq-eqb _ _ (none-clean m (s .who) p))
+  unfolding refusal unnamed offDesk isNew badSize owing noObject pastEnd noRoom wrongPhase nothingToDo
+  clean-nothing k = refused-where m s 10 _ (step-number m s k ∙ tracer-lines (eqb (cleanLine m (s .who)) 0)) (λ e. clean-none m (s .who) (eqb-true _ _ e)) (λ p. eq-eqb _ _ (none-clean m (s .who) p))

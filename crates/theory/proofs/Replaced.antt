@@ -24,7 +24,7 @@ use Rattle.theory.proofs.Sections.{tracers-mono}
 abbrev pub cleared : Image → List ℕ → List ℕ → ℕ → Image
 cleared m hs ss f = record { width = m .width; k = m .k; heap = hs; starts = ss; marks = zeros (m .marks); cards = zeros (m .cards); regs = m .regs; packets = zeros (m .packets); tracers = zeros (m .tracers); players = scannedOff (m .players); general = put (put (m .general) 0 0) 1 f }
 
-off-length : (l : List ℕ) → length (scannedOff l) ≡ length l
+pub off-length : (l : List ℕ) → length (scannedOff l) ≡ length l
 unfolding scannedOff
 off-length [] = refl
 off-length (o ∷ []) = refl

@@ -2,10 +2,9 @@
 use mathlib.Core.Path.{_≡_}
 use mathlib.Core.Logic.{_⊎_}
 use mathlib.Core.Bool.{true, false}
-use Prim.Native.Nat.{ℕ, _*_, _<_}
-use lib.ListN.{length, getD}
-use Rattle.model.specs.Image.{Image, word, isStart, marked, size, links, link, reg, owed, hand, nextLink, running}
-use Rattle.model.specs.Finish.{keptSet}
+use Prim.Native.Nat.{ℕ, _<_}
+use lib.ListN.{length}
+use Rattle.model.specs.Image.{Image, word, isStart, marked, links, link, reg, owed, hand, nextLink, running}
 use Rattle.model.specs.Records.{Step, new, finish, kindOf}
 use Rattle.model.specs.Mutate.{roomFor, newObject}
 use Rattle.model.specs.Steps.{refusal, step}
@@ -81,10 +80,3 @@ pub record Live (S : ℕ → Type 0) (m : Image) : Type 0 where
 -- at a begin: an object of that image passes if a chain reaches it there
 unfoldable pub Since : Image → ℕ → Type 0
 Since m₀ g = isStart m₀ g ≡ true → Chain m₀ g
-
--- ---- finish
-
--- what a sweep leaves: the objects of the kept set, word for word
-pub record SweptTo (m n : Image) : Type 0 where
-  pub starts-kept : (g : ℕ) → isStart n g ≡ getD (keptSet m) g false
-  pub words-kept : (g i : ℕ) → isStart m g ≡ true → getD (keptSet m) g false ≡ true → i < 4 * size m g → word n g i ≡ word m g i

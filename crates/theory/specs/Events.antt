@@ -5,10 +5,11 @@ use Prim.Native.Nat.{ℕ}
 use Rattle.model.specs.Image.{Image, parts, words}
 use Rattle.model.specs.Undamaged.{judgeAt}
 use Rattle.model.specs.Records.{Step}
-use Rattle.model.specs.Finish.{finishStep}
+use Rattle.model.specs.Finish.{keptSet, finishStep}
 use Rattle.model.specs.Steps.{Event, step}
 use Rattle.theory.specs.Cover.{Cover}
-use Rattle.theory.specs.Cycle.{Facts, NewPlaced, SweptTo}
+use Rattle.theory.specs.Cycle.{Facts, NewPlaced}
+use Rattle.theory.specs.Finish.{FinishMade}
 
 -- ---- linked events
 
@@ -36,7 +37,7 @@ pub record Steady (Ok : Image → Type 0) : Type 0 where
   pub facts : (m : Image) → Ok m → Facts m
   pub covers : (m : Image) → Ok m → Cover m
   pub new-placed : (m : Image) (s : Step) → Ok m → NewPlaced m s
-  pub swept : (m : Image) → Ok m → SweptTo m ((finishStep m) .image)
+  pub swept : (m : Image) → Ok m → FinishMade m (keptSet m) (finishStep m)
 
 -- such an image is its words, which are judged undamaged
 pub record Stored (w : ℕ) (Ok : Image → Type 0) : Type 0 where

@@ -1,7 +1,6 @@
 use Rattle.image.specs.Sized.{narrow}
 use Rattle.image.proofs.Rooms.{over, Counting, count-first, count-end, count-in, count-next, count-less}
 use Rattle.image.proofs.Sections.{granules-narrow}
-use Rattle.image.proofs.Split.{total}
 use Rattle.model.specs.Image.{granules}
 use native.Mathlib.Omega.{arith}
 use borrow.Author.Needs.{needs}

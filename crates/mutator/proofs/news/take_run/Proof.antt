@@ -49,7 +49,7 @@ same-length-2 : tie.Need-same-length-2
 same-length-2 c = search needs
 
 returns-2 : tie.Need-returns-2
-returns-2 c = search take-part
+returns-2 c = let d = c .before .before .before .before .before .before .before .before .before .before .before .before in take-part _ _ _ _ _ _ (d .before .before .before .run-length .ensures) (d .before .word .ensures) (d .if1 .left) (d .before .before .before .before .before .before .pre .1 .suffices) _ _ _ (c .before .before .before .before .before .before .before .before .before .before .set-word .ensures) (c .before .before .before .before .before .before .set-word2 .ensures) (c .before .before .set-next2 .ensures)
 
 pub take-run-spec : {M : Type 1} → statement M
 take-run-spec =

@@ -25,13 +25,13 @@ same-length : tie.Need-same-length
 same-length c = search needs
 
 returns : tie.Need-returns
-returns c = (search sweep-keep, search needs)
+returns c = let I = c .before .before .before .before .before .before in (sweep-keep _ _ _ _ (I .before .is-marked .ensures) (I .if1 .taken) _ (c .before .before .before .before .heap-word .ensures) _ (c .before .before .close-gap .ensures), search needs)
 
 same-length-2 : tie.Need-same-length-2
 same-length-2 c = search needs
 
 returns-2 : tie.Need-returns-2
-returns-2 c = (search sweep-none, search needs)
+returns-2 c = (sweep-none _ _ _ _ (c .before .is-marked .ensures) (c .if1 .left), search needs)
 
 pub sweep-one-spec : {M : Type 1} → statement M
 sweep-one-spec =

@@ -1,0 +1,3 @@
+pub mod Pool
+pub mod Refusals
+pub mod Hands
