@@ -1,3 +1,8 @@
 pub mod Records
 pub mod Ran
-pub mod FreeRuns
+pub mod Dues
+pub mod Turns
+pub mod Calls
+pub mod Corollary
+pub mod ByKind
+pub mod Finishing

@@ -28,7 +28,7 @@ unfolding after
 after-append m [] fs = refl
 after-append m (e ∷ es) fs = after-append (e .done .image) es fs
 
-answers-append : (es fs : List Event) → answersOf (es ++ fs) ≡ answersOf es ++ answersOf fs
+pub answers-append : (es fs : List Event) → answersOf (es ++ fs) ≡ answersOf es ++ answersOf fs
 unfolding answersOf
 answers-append [] fs = refl
 answers-append (e ∷ es) fs = ap (λ l. e .done .number ∷ e .done .value ∷ l) (answers-append es fs)

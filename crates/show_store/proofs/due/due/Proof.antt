@@ -1,11 +1,12 @@
+use Rattle.mutator.proofs.Chain.{sound-linked}
 use borrow.Author.Needs.{needs}
-use Rattle.show_store.proofs.FreeRuns.{due-unnamed, due-yes, due-no}
+use Rattle.show_store.proofs.Dues.{due-unnamed, due-yes, due-no}
 use Rattle.show_store.proofs.due.due.Statement.{statement}
 use Rattle.show_store.proofs.due.due.Tie as tie
 use Rattle.show_store.proofs.due.due.Reads as reads
 use Rattle.show_store.proofs.due.due.Lts as lts
-use Rattle.show_store.proofs.due.any_set.Reads as any-set-reads
-use Rattle.show_store.proofs.due.free_granules.Reads as free-granules-reads
+use Rattle.mutator.proofs.refusals.any_set.Reads as any-set-reads
+use Rattle.image.proofs.runs.free_granules.Reads as free-granules-reads
 
 any-set-requires : tie.Need-any-set-requires
 any-set-requires c κs = search needs
@@ -14,7 +15,7 @@ returns : tie.Need-returns
 returns c = search due-unnamed
 
 free-granules-requires : tie.Need-free-granules-requires
-free-granules-requires c κs = search needs
+free-granules-requires c κs = (search needs, search sound-linked)
 
 returns-2 : tie.Need-returns-2
 returns-2 c = search due-yes
