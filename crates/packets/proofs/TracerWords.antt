@@ -78,6 +78,11 @@ module _ (m : Image) (t : ℕ) (h : t < 8) (l : length (m .tracers) ≡ 64) wher
   unfolding withTracer withCard tracerAt putCard setTracer withTracers put input output hand nextLink handCard nextGranule
   card-written c n = ap (withTracers m) (six-writes (m .tracers) (8 * t) _ _ _ _ c n (write 4 c ∷ write 5 n ∷ []) (omega arith) (omega arith, (omega arith, tt)) refl)
 
+  pub input-output-written : (v w : ℕ) → withTracer m t (withOutput (withInput (tracerAt m t) v) w) ≡ setTracer (setTracer m t 0 v) t 1 w
+  unfolding withTracer withOutput withInput tracerAt setTracer withTracers put input output hand nextLink handCard nextGranule
+  input-output-written v w =
+      ap (withTracers m) (six-writes (m .tracers) (8 * t) v w _ _ _ _ (write 0 v ∷ write 1 w ∷ []) (omega arith) (omega arith, (omega arith, tt)) refl)
+
 -- ---- the same as the code has it
 
 module _ (k : ℕ) (ws : List ℕ) (z : Sized k ws) (t : ℕ) (h : t < 8) (x y : Tracer) (e : x ≡ tracerAt (narrow k ws) t) (n : Image) (f : n ≡ withTracer (narrow k ws) t y) where
