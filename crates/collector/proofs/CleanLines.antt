@@ -67,9 +67,9 @@ module _ (k : ℕ) (ws : List ℕ) (o : Lines (narrow k ws)) (t : ℕ) (h : t < 
     unfolding cleanCard
     cleaned = rw (← read-card (narrow k ws) t x e, ← read-granule (narrow k ws) t x e, ← f)
 
-    pub card-let-go : g ≡ 0 → (y : Tracer) (n : Image) → y ≡ withCard x 0 0 → n ≡ withTracer (narrow k ws) t y → n ≡ cleanCard (narrow k ws) t
+    pub card-let-go : g ≡ 0 → (n : Image) → n ≡ withTracer (narrow k ws) t (withCard x 0 0) → n ≡ cleanCard (narrow k ws) t
     unfolding cleanTo
-    card-let-go q y n r s = s ∙ (rw (r, e) (card-written (narrow k ws) t h (o .tracers-ok .sized) 0 0) ∙ rw q at cleaned)
+    card-let-go q n s = s ∙ (rw e (card-written (narrow k ws) t h (o .tracers-ok .sized) 0 0) ∙ rw q at cleaned)
 
     pub card-object : (g ≡ 0 → ⊥) → (y : Tracer) (n n′ : Image) → y ≡ withCard x (x .card) g → n ≡ withTracer (narrow k ws) t y → n′ ≡ takeObject n t (g - 1) → n′ ≡ cleanCard (narrow k ws) t
     card-object u y n n′ r s w =

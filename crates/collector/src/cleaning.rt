@@ -7,11 +7,22 @@ ghost use Rattle.model.specs.Steps.{step};
 ghost use Rattle.theory.specs.Lines.{Lines, Sound};
 ghost use Rattle.image.specs.Sized.{Sized, narrow};
 ghost use Rattle.image.specs.Answer.{doneOf, asked};
-ghost use Rattle.packets.specs.Tracers.{tracerAt};
+ghost use Rattle.packets.specs.Tracers.{tracerAt, withCard, withTracer};
 ghost use Rattle.collector.specs.Refusals.{doneUnless};
 use crate::refusals::Turn;
 use image::answer::Answer;
 use packets::tracer::Tracer;
+
+// "the card is let go", its state as it is
+fn let_go(im: &mut [u16], k: usize, t: usize, x: Tracer)
+    requires { ⌜ Sized k (now im) ⌝ }
+    requires { ⌜ t < 8 ⌝ }
+    requires { ⌜ (0 < x .card) × (x .card ≤ k) ⌝ }
+    ensures { λ _. ⌜ narrow k (now (im .exit)) ≡ withTracer (narrow k (now (im .entry))) t (withCard x 0 0) ⌝ }
+{
+    let gone = x.with_card(0, 0);
+    packets::tracer::write_tracer(im, k, t, gone);
+}
 
 // "the next marked object from its next granule goes in hand at link 0 (unless without links) and the next granule is the
 // one after its start; if none is left, the card is let go"
@@ -24,13 +35,13 @@ fn clean_card(im: &mut [u16], k: usize, t: usize, x: Tracer)
     let c = x.card;
     let g = packets::marks::next_marked(im, k, x.granule as usize, c as usize);
     if g == 0 {
-        let y = x.with_card(0, 0);
-        packets::tracer::write_tracer(im, k, t, y);
+        let_go(im, k, t, x);
         return;
     }
+    let object = g - 1;
     let y = x.with_card(c, g as u16);
     packets::tracer::write_tracer(im, k, t, y);
-    crate::hands::take_object(im, k, t, (g - 1) as u16);
+    crate::hands::take_object(im, k, t, object as u16);
 }
 
 // "the lowest card in state 1 becomes 2 and is in hand at its first granule"

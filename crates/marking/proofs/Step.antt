@@ -25,13 +25,13 @@ pub record Through (k : ℕ) (m₀ m : Image) (g n : ℕ) (p : Placed) : Type 0 
   pub less : left k (p .image) ≤ left k m
 
 module _ (k : ℕ) (m₀ m : Image) (h g : ℕ) (w : Marking k m₀ m h) (q : Pending m g) where
-  is-objectBit : objectBit m₀ g ≡ 1
-  is-objectBit = omega (arith, w .grown .same g, q .is-marked, q .bare)
+  is-object : objectBit m₀ g ≡ 1
+  is-object = omega (arith, w .grown .same g, q .is-marked, q .bare)
 
   -- what a link of g leads to, in any later image
   leads : (m' : Image) → Grown k m₀ m' → Pending m' g → (i : ℕ) → i < links m₀ g → (link m₀ g i ≡ 0 → ⊥) → Reach m₀ (link m₀ g i) × (link m₀ g i < 64 * k) × (objectBit m' (link m₀ g i) ≡ 1)
   leads m' w' q' i l nz =
-      let t = w .world .target g i is-objectBit l nz in
+      let t = w .world .target g i is-object l nz in
       (found k m₀ m' g i w' q' l nz, t .0, w' .same (link m₀ g i) ∙ t .1)
 
   through-more : (n : ℕ) (p : Placed) → Through k m₀ m g n p → n < links m₀ g → Through k m₀ m g (suc n) (visited (p .image) (p .head) (link m₀ g n))

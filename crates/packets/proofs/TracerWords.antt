@@ -78,12 +78,6 @@ module _ (m : Image) (t : ℕ) (h : t < 8) (l : length (m .tracers) ≡ 64) wher
   unfolding withTracer withCard tracerAt putCard setTracer withTracers put input output hand nextLink handCard nextGranule
   card-written c n = ap (withTracers m) (six-writes (m .tracers) (8 * t) _ _ _ _ c n (write 4 c ∷ write 5 n ∷ []) (omega arith) (omega arith, (omega arith, tt)) refl)
 
-  pub card-hand-written : (c n g i : ℕ) → withTracer m t (withHand (withCard (tracerAt m t) c n) g i) ≡ putHand (putCard m t c n) t g i
-  unfolding withTracer withHand withCard tracerAt putHand putCard setTracer withTracers put input output hand nextLink handCard nextGranule
-  card-hand-written c n g i =
-      ap (withTracers m)
-      (six-writes (m .tracers) (8 * t) _ _ g i c n (write 4 c ∷ write 5 n ∷ write 2 g ∷ write 3 i ∷ []) (omega arith) (omega arith, (omega arith, (omega arith, (omega arith, tt)))) refl)
-
   pub input-output-written : (v w : ℕ) → withTracer m t (withOutput (withInput (tracerAt m t) v) w) ≡ setTracer (setTracer m t 0 v) t 1 w
   unfolding withTracer withOutput withInput tracerAt setTracer withTracers put input output hand nextLink handCard nextGranule
   input-output-written v w =

@@ -19,7 +19,8 @@ use Rattle.image.proofs.Sizes.{sized-cards}
 use Rattle.marking.specs.Mark
 use Rattle.marking.specs.Seeds.{KeptMarked}
 use Rattle.marking.proofs.Lengths.{narrow-width, narrow-k, sizes, start-words, mark-words}
-use Rattle.marking.proofs.Fits.{sound-lines, lines-filled}
+use Rattle.marking.proofs.Fits.{sound-lines}
+use Rattle.theory.proofs.Facts.{heap-filled-of}
 use Rattle.sweep.specs.Gaps.{goes, sweptAll, freedBelow}
 use Rattle.sweep.specs.Ending.{StartsKept, unscanned, ended, finished}
 use Rattle.sweep.proofs.Fold.{reheaped, swept-all}
@@ -115,7 +116,7 @@ module _ (k : ℕ) (ws ws1 : List ℕ) (z : Sized k ws) (z1 : Sized k ws1) (e : 
       ∙ ap (λ (hs : List ℕ). sweep (isStart (narrow k ws)) (λ g. getD (keptSet (narrow k ws)) g false) (granules (narrow k ws)) 1 (drop 4 hs)) (q .heap)
 
   heap-filled : HeapFilled (narrow k ws)
-  heap-filled = lines-filled (narrow k ws) (sound-lines k ws z e)
+  heap-filled = heap-filled-of (sound-lines k ws z e)
 
   filled : Filled (isStart (narrow k ws1)) 1 (drop 4 (narrow k ws1 .heap)) (firstRun (narrow k ws)) false
   filled =

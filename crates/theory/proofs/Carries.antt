@@ -1,21 +1,21 @@
 -- What each write carries: start bits stay, and what comes into registers, links and marks was there before.
 use mathlib.Core.Path.{_≡_, refl, sym, ap, subst, _∙_}
 use mathlib.Core.Logic.{_⊎_, inl, inr}
-use mathlib.Core.Bool.{true}
+use mathlib.Core.Bool.{true, false}
 use mathlib.Core.List.{List}
-use Prim.Native.Nat.{ℕ, _+_, _*_, _-_, _<_}
+use Prim.Native.Nat.{ℕ, _+_, _*_, _-_, _<_, _≤_}
 use native.Mathlib.Decide.{ℕ-discrete, decLt}
 use native.Mathlib.Omega.{arith}
 use lib.ListN.{length}
 use Rattle.model.specs.Base.{nth, put, bit}
-use Rattle.model.specs.Image.{Image, word, isStart, marked, size, links, link, reg, setReg, withRegs, setWord, withHeap, setStart, withStarts}
-use Rattle.model.specs.Mutate.{Room, roomFor, newObject}
-use Rattle.model.proofs.Laws.{nth-put-same, nth-put-other, put-out}
+use Rattle.model.specs.Image.{Image, word, isStart, marked, size, links, link, reg, setReg, withRegs, setWord, withHeap}
+use Rattle.model.proofs.Laws.{nth-put-same, nth-put-other, put-out, false≢}
 use Rattle.theory.specs.Heap.{Laid}
-use Rattle.theory.specs.Cycle.{Source, in-reg, is-marked, no-start, LinkFrom, had-link, to-source, Carries, Quiet, Placed}
+use Rattle.theory.specs.Cycle.{Source, in-reg, is-marked, no-start, LinkFrom, had-link, to-source, Carries, Quiet}
+use Rattle.theory.specs.New.{NewMade}
 use Rattle.theory.proofs.Quiet.{silent}
 use Rattle.theory.proofs.Walk.{same-place}
-use Rattle.theory.proofs.TakeRun.{take-only}
+use Rattle.theory.proofs.NewMade.{new-was-free, new-regs, new-marks}
 
 -- ---- steps without a write, and silent writes
 
@@ -104,22 +104,24 @@ setWord-carries m d g i v sg li ok = record {
 
 -- ---- a new object
 
-pub placed-carries : (m n : Image) (i a : ℕ) → Placed m n a → n .regs ≡ put (m .regs) i a → n .marks ≡ m .marks → n .width ≡ m .width → Carries m n
-unfolding reg marked
-placed-carries m n i a k er em ew = record {
-  starts-stay = k .old-starts;
-  regs-from = λ p r hp hr. subst (λ l. (nth l (16 * p + r) ≡ 0 → ⊥) → Source m (nth l (16 * p + r))) (sym er) (regs-put m i a (λ nz. no-start (k .was-free)) p r hp hr);
-  links-from = λ g j st l nz. by g j (k .new-starts g st) l nz;
-  marks-from = λ g h. is-marked (subst (λ w. bit w (m .marks) g ≡ true) ew (subst (λ l. bit (n .width) l g ≡ true) em h));
+pub new-carries : (m n : Image) {p r b c g : ℕ} → Laid m → NewMade m n p r b c g → c + 2 ≤ 4 * b → Carries m n
+unfolding reg marked links link size
+new-carries m n {p} {r} {b} {c} {g} d k hc = record {
+  starts-stay = λ h s. k .start-old h (λ e. false≢ (sym free ∙ subst (λ x. isStart m x ≡ true) e s)) ∙ s;
+  regs-from = λ u t hu ht. subst (λ l. (nth l (16 * u + t) ≡ 0 → ⊥) → Source m (nth l (16 * u + t))) (sym (new-regs k)) (regs-put m (16 * p + r) g (λ nz. no-start free) u t hu ht);
+  links-from = λ h j st l nz. by h j st l nz (ℕ-discrete h g);
+  marks-from = λ h e. is-marked (subst (λ w. bit w (m .marks) h ≡ true) (new-marks k .1) (subst (λ l. bit (n .width) l h ≡ true) (new-marks k .0) e));
 }
   where
-    by : (g j : ℕ) → (isStart m g ≡ true) ⊎ (g ≡ a) → j < links n g → (link n g j ≡ 0 → ⊥) → LinkFrom m g (link n g j)
-    by g j (inl s) l nz = let l′ : j < links m g = subst (λ x. j < x) (k .old-count g s) l in had-link j s l′ (sym (k .old-links g j s l′))
-    by g j (inr e) l nz = absurd (nz (ap (λ x. link n x j) e ∙ k .new-links j (subst (λ x. j < links n x) e l)))
+    free : isStart m g ≡ false
+    free = new-was-free k d (omega arith)
 
-pub new-carries : (m : Image) (p r b c : ℕ) → Placed m (newObject m p r b c) ((roomFor m b) .run) → Carries m (newObject m p r b c)
-unfolding newObject setReg withRegs setStart withStarts setWord withHeap
-new-carries m p r b c k =
-    let f : Room = roomFor m b in
-    let t = (take-only m (f .run) (f .before) b (word m (f .run) 0 - b)) .sections in
-    placed-carries m (newObject m p r b c) (16 * p + r) (f .run) k (ap (λ n. put (n .regs) (16 * p + r) (f .run)) t) (ap (λ n. n .marks) t) (ap (λ n. n .width) t)
+    old : (h i : ℕ) → isStart m h ≡ true → i < 2 + links m h → word n h i ≡ word m h i
+    old h i s l = k .words-old h i s (omega (arith, d .inside h s .0))
+
+    by : (h j : ℕ) → isStart n h ≡ true → j < links n h → (link n h j ≡ 0 → ⊥) → Dec (h ≡ g) → LinkFrom m h (link n h j)
+    by h j st l nz (yes e) = absurd (nz (ap (λ x. word n x (2 + j)) e ∙ k .zero-new j (omega (arith, k .links-new, subst (λ x. j < links n x) e l))))
+    by h j st l nz (no ne) =
+        let s : isStart m h ≡ true = sym (k .start-old h ne) ∙ st in
+        let l′ : j < links m h = subst (λ x. j < x) (old h 1 s (omega arith)) l in
+        had-link j s l′ (sym (old h (2 + j) s (omega arith)))

@@ -1,5 +1,5 @@
 -- The claim over whole histories, from facts of one step and the plain store's answers.
-use mathlib.Core.Path.{_≡_, refl, sym, subst, _∙_}
+use mathlib.Core.Path.{_≡_, refl, sym, subst, _∙_, ap}
 use mathlib.Core.Bool.{Bool, true, false, not}
 use mathlib.Core.List.{List, [], _∷_, _++_, List·Memᴰ, List·Memᴰ·cases-cons}
 use mathlib.Core.Logic.{_⊎_, inl, inr}
@@ -9,14 +9,15 @@ use borrow.Author.Tests.{not-false}
 use Rattle.model.specs.Base.{first}
 use Rattle.model.specs.Image.{Image, parts, words}
 use Rattle.model.specs.Undamaged.{undamaged, judgeAt}
-use Rattle.model.specs.Records.{records}
+use Rattle.model.specs.Records.{records, Step}
 use Rattle.model.specs.Steps.{run, after}
 use Rattle.model.specs.Batch.{Batch, events, misfit, callNumber, batchWith, batchAt}
 use Rattle.model.specs.Claim.{Lent, eventsOf, history, results, Claim}
 use Rattle.model.specs.Plain.{SameAnswers}
 use Rattle.model.proofs.Laws.{first-none}
-use Rattle.theory.specs.Events.{l-nil, LinkedFrom, Steady, Stored}
-use Rattle.theory.proofs.Linked.{linked-append, run-linked, linked-ok, linked-fine, done-ok, begin-numbers, finish-numbers, all-finish, unreached-freed}
+use Rattle.theory.specs.Events.{Linked, Steady, Stored}
+use Rattle.theory.proofs.Linked.{run-linked, linked-fine, done-ok, begin-numbers, finish-numbers, all-finish, unreached-freed}
+use Rattle.theory.proofs.Steps.{run-append, run-ok}
 
 module _ (w : ℕ) (Ok : Image → Type 0) (st : Steady Ok) (wd : Stored w Ok) where
   -- the image that the records of a batch leave
@@ -25,7 +26,7 @@ module _ (w : ℕ) (Ok : Image → Type 0) (st : Steady Ok) (wd : Stored w Ok) w
 
   left-ok : (ws : List ℕ) (b : Lent) → Ok (parts w ws) → Ok (left ws b)
   unfolding left
-  left-ok ws b o = linked-ok Ok st (run-linked (parts w ws) (records w (b .steps))) o
+  left-ok ws b o = run-ok Ok (st .step-ok) (parts w ws) (records w (b .steps)) o
 
   left-parts : (ws : List ℕ) (b : Lent) → Ok (parts w ws) → parts w (words (left ws b)) ≡ left ws b
   left-parts ws b o = wd .round-trip (left ws b) (left-ok ws b o)
@@ -33,18 +34,19 @@ module _ (w : ℕ) (Ok : Image → Type 0) (st : Steady Ok) (wd : Stored w Ok) w
   left-words : (ws : List ℕ) (b : Lent) → Ok (parts w ws) → Ok (parts w (words (left ws b)))
   left-words ws b o = subst Ok (sym (left-parts ws b o)) (left-ok ws b o)
 
-  -- "each batch gets the image that the last left, and a refused one adds no step"
-  pub history-linked : (ws : List ℕ) (bs : List Lent) → Ok (parts w ws) → LinkedFrom (parts w ws) (history w ws bs)
-  unfolding history eventsOf batchAt batchWith events left
-  history-linked ws [] o = record { last = parts w ws; linked = l-nil }
-  history-linked ws (b ∷ bs) o = go (λ vs. history-linked vs bs) (callNumber w ws (b .steps) (b .answers))
+  -- "each batch gets the image that the last left, and a refused one adds no step": the history is that of one list of steps
+  pub history-run : (ws : List ℕ) (bs : List Lent) → Ok (parts w ws) → (ss : List Step) × (history w ws bs ≡ run (parts w ws) ss)
+  unfolding history eventsOf batchAt batchWith events left run
+  history-run ws [] o = ([], refl)
+  history-run ws (b ∷ bs) o = go (λ vs. history-run vs bs) (callNumber w ws (b .steps) (b .answers))
     where
-      go : ((vs : List ℕ) → Ok (parts w vs) → LinkedFrom (parts w vs) (history w vs bs)) → (r : ℕ)
-          → let q : Batch = batchWith w ws (b .steps) (b .answers) r in LinkedFrom (parts w ws) (eventsOf w ws b (q .result) ++ history w (q .image) bs)
+      go : ((vs : List ℕ) → Ok (parts w vs) → (ss : List Step) × (history w vs bs ≡ run (parts w vs) ss)) → (r : ℕ)
+          → let q : Batch = batchWith w ws (b .steps) (b .answers) r in (ss : List Step) × (eventsOf w ws b (q .result) ++ history w (q .image) bs ≡ run (parts w ws) ss)
       go ih (suc r) = ih ws o
       go ih zero =
-          let t = subst (λ x. LinkedFrom x (history w (words (left ws b)) bs)) (left-parts ws b o) (ih (words (left ws b)) (left-words ws b o)) in
-          record { last = t .last; linked = linked-append (run-linked (parts w ws) (records w (b .steps))) (t .linked) }
+          let t = ih (words (left ws b)) (left-words ws b o) in
+          let rs : List Step = records w (b .steps) in
+          (rs ++ t .0, ap (λ l. run (parts w ws) rs ++ l) (t .1 ∙ ap (λ x. run x (t .0)) (left-parts ws b o)) ∙ sym (run-append (parts w ws) rs (t .0)))
 
   -- ---- results of batches
 
@@ -79,18 +81,21 @@ module _ (w : ℕ) (Ok : Image → Type 0) (st : Steady Ok) (wd : Stored w Ok) w
           pick (inl x) = omega arith
           pick (inr x) = ih (words (left ws b)) (left-words ws b o) r x e
 
-  -- ---- the claim, where the players' answers are the plain store's
+  -- ---- the claim, where the plain store answers lists of steps as the real one
 
-  pub claim : (ws : List ℕ) (bs : List Lent) → Ok (parts w ws) → SameAnswers (parts w ws) (history w ws bs) → Claim w ws bs
-  claim ws bs o plain = record {
-    all-undamaged = λ e k. let f = linked-fine Ok st (h .linked) o e k in (wd .judged (e .got) (f .got-ok), wd .judged (e .done .image) (done-ok Ok st e f));
+  pub claim : ((m : Image) (ss : List Step) → Ok m → SameAnswers m (run m ss)) → (ws : List ℕ) (bs : List Lent) → Ok (parts w ws) → Claim w ws bs
+  claim plain ws bs o = record {
+    all-undamaged = λ e k. let f = linked-fine Ok st linked o e k in (wd .judged (e .got) (f .got-ok), wd .judged (e .done .image) (done-ok Ok st e f));
     none-damaged = none-damaged ws bs o;
-    begin-number = begin-numbers Ok st (h .linked) o;
-    finish-number = finish-numbers Ok st (h .linked) o;
-    finishes = all-finish Ok st (h .linked) o;
-    frees-unreached = unreached-freed Ok st (h .linked) o;
-    plain-answers = plain;
+    begin-number = begin-numbers Ok st linked o;
+    finish-number = finish-numbers Ok st linked o;
+    finishes = all-finish Ok st linked o;
+    frees-unreached = unreached-freed Ok st linked o;
+    plain-answers = subst (SameAnswers (parts w ws)) (sym (h .1)) (plain (parts w ws) (h .0) o);
   }
     where
-      h : LinkedFrom (parts w ws) (history w ws bs)
-      h = history-linked ws bs o
+      h : (ss : List Step) × (history w ws bs ≡ run (parts w ws) ss)
+      h = history-run ws bs o
+
+      linked : Linked (parts w ws) (history w ws bs) (after (parts w ws) (run (parts w ws) (h .0)))
+      linked = subst (λ es. Linked (parts w ws) es (after (parts w ws) (run (parts w ws) (h .0)))) (sym (h .1)) (run-linked (parts w ws) (h .0))

@@ -1,6 +1,6 @@
 -- Every step keeps "undamaged", and so does every list of steps: a refused one leaves the image as it was, an accepted one goes by its kind.
 use mathlib.Core.Path.{_≡_, refl, _∙_}
-use mathlib.Core.List.{List, [], _∷_}
+use mathlib.Core.List.{List}
 use Prim.Native.Nat.{ℕ, zero, suc}
 use Rattle.model.specs.Image.{Image, parts}
 use Rattle.model.specs.Undamaged.{judgeAt}
@@ -9,7 +9,7 @@ use Rattle.model.specs.Steps.{step, run, after}
 use Rattle.model.specs.Batch.{callNumber, events, batchWith, batchAt}
 use Rattle.theory.specs.Lines.{Undamaged, Passes}
 use Rattle.theory.proofs.EachKind.{SameShape, kind-keeps, kind-shape}
-use Rattle.theory.proofs.Steps.{step-cases}
+use Rattle.theory.proofs.Steps.{step-cases, run-ok}
 pub use Rattle.theory.proofs.Steps.{refused-same}
 use Rattle.theory.proofs.Passing.{judge-use, judge-make}
 
@@ -29,14 +29,10 @@ step-passes w m s p =
 -- ---- lists of steps
 
 pub run-keeps : (m : Image) (ss : List Step) → Undamaged m → Undamaged (after m (run m ss))
-unfolding run after
-run-keeps m [] u = u
-run-keeps m (s ∷ ss) u = run-keeps ((step m s) .image) ss (step-keeps m s u)
+run-keeps m ss u = run-ok Undamaged step-keeps m ss u
 
 pub run-passes : (w : ℕ) (m : Image) (ss : List Step) → Passes w m → Passes w (after m (run m ss))
-unfolding run after
-run-passes w m [] p = p
-run-passes w m (s ∷ ss) p = run-passes w ((step m s) .image) ss (step-passes w m s p)
+run-passes w m ss p = run-ok (Passes w) (step-passes w) m ss p
 
 -- ---- calls
 

@@ -46,7 +46,6 @@ pub mod Carve
 pub mod PlainAccepted
 pub mod PlainFed
 pub mod PlainList
-pub mod PlainHistory
 pub mod Linked
 pub mod Claim
 pub mod TakeRun

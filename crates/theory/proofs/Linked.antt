@@ -19,10 +19,6 @@ use Rattle.theory.proofs.Steps.{accepted-image}
 
 -- ---- linked events
 
-pub linked-append : {l m n : Image} {es fs : List Event} → Linked l es m → Linked m fs n → Linked l (es ++ fs) n
-linked-append l-nil q = q
-linked-append (l-cons e g d p) q = l-cons e g d (linked-append p q)
-
 linked-parted : (m : Image) (es fs : List Event) (n : Image) → Linked m (es ++ fs) n → Parted m es fs n
 linked-parted m [] fs n p = record { middle = m; first-part = l-nil; second-part = p }
 linked-parted m (e ∷ es) fs n (l-cons _ g d p) = let r = linked-parted (e .done .image) es fs n p in record { middle = r .middle; first-part = l-cons e g d (r .first-part); second-part = r .second-part }
@@ -54,7 +50,7 @@ module _ (Ok : Image → Type 0) (st : Steady Ok) where
       let k : Fine Ok e = record { got-ok = subst Ok (sym g) o; is-step = d } in
       linked-live p (done-ok e k) (λ x q. nf x (List·Memᴰ·tail q)) S
       (subst (λ r. Live S (r .image)) (sym d)
-      (step-live (e .got) (e .request) (st .facts (e .got) (k .got-ok)) (st .new-placed (e .got) (e .request) (k .got-ok))
+      (step-live (e .got) (e .request) (st .facts (e .got) (k .got-ok)) (st .new-leaves (e .got) (e .request) (k .got-ok))
       (λ i z. nf e (List·Memᴰ·head refl) (record { is-kind = i; no-number = ap (λ r. r .number) d ∙ z })) S (subst (Live S) (sym g) v)))
 
   -- an accepted finish

@@ -13,11 +13,12 @@ use Rattle.model.specs.Steps.{offDesk, object, noObject, pastEnd, refusal, acce
 use Rattle.model.proofs.Laws.{some-false}
 use Rattle.model.proofs.Entries.{nth-take, nth-drop}
 use Rattle.model.proofs.Found.{place}
-use Rattle.theory.specs.Cycle.{Facts, Source, in-reg, in-link, is-marked, Carries, NewPlaced, NoFinish, Live}
+use Rattle.theory.specs.Cycle.{Facts, Source, in-reg, in-link, is-marked, Carries, NoFinish, Live}
 use Rattle.theory.proofs.Quiet.{Next, quiet-refl, quiet-begin, quiet-scan, quiet-trace, quiet-clean}
 use Rattle.theory.proofs.Carries.{quiet-carries, carries-silent, setReg-carries, setWord-carries, new-carries}
 use Rattle.theory.proofs.Live.{live-carried}
-use Rattle.theory.proofs.Steps.{step-number, line, step-cases, not-above}
+use Rattle.theory.proofs.Steps.{step-number, line, step-cases, not-above, good-size}
+use Rattle.theory.specs.New.{NewLeaves}
 
 carries-refl : (m : Image) → Carries m m
 carries-refl m = quiet-carries m m (quiet-refl m)
@@ -100,9 +101,9 @@ module _ (m : Image) (s : Step) (f : Facts m) where
   unfolding act accept offDesk
   clean-carries e = quiet-carries m _ (quiet-clean m (s .who) (next-source m f (s .who) (not-above 7 (s .who) (line m s clean e 1))))
 
-  act-carries : NewPlaced m s → (n : Kind) → refusal m s n ≡ 0 → (n ≡ finish → ⊥) → Carries m ((act m s n) .image)
+  act-carries : NewLeaves m s → (n : Kind) → refusal m s n ≡ 0 → (n ≡ finish → ⊥) → Carries m ((act m s n) .image)
   unfolding act accept
-  act-carries np new e nf = new-carries m (s .who) (s .a) (s .b) (s .c) (np e)
+  act-carries np new e nf = new-carries m _ (f .laid) (np e) (good-size s (line m s new e 5) .2)
   act-carries np load e nf = load-carries e
   act-carries np store e nf = store-carries e
   act-carries np barrier e nf = barrier-carries
@@ -120,9 +121,9 @@ module _ (m : Image) (s : Step) (f : Facts m) where
 
   -- ---- every step but an accepted finish
 
-  pub step-carries : NewPlaced m s → NoFinish m s → Carries m ((step m s) .image)
+  pub step-carries : NewLeaves m s → NoFinish m s → Carries m ((step m s) .image)
   step-carries np nf = step-cases m s (Carries m) (carries-refl m) (λ n k e. act-carries np n e (λ q. nf (k ∙ q) (step-number m s k ∙ e)))
 
   -- what is live stays so
-  pub step-live : NewPlaced m s → NoFinish m s → (S : ℕ → Type 0) → Live S m → Live S ((step m s) .image)
+  pub step-live : NewLeaves m s → NoFinish m s → (S : ℕ → Type 0) → Live S m → Live S ((step m s) .image)
   step-live np nf S = live-carried S m _ (step-carries np nf)

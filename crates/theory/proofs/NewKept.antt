@@ -1,24 +1,23 @@
 -- A new keeps "undamaged".
 use mathlib.Core.Path.{_≡_, refl, sym, ap, subst, _∙_}
-use mathlib.Core.Logic.{_⊎_, inl, inr}
-use mathlib.Core.Bool.{true, false}
+use mathlib.Core.Logic.{inl, inr}
+use mathlib.Core.Bool.{true}
 use Prim.Native.Nat.{ℕ, suc, _+_, _*_, _-_, _≤_, _<_, zero-le, zero}
 use native.Mathlib.Decide.{ℕ-discrete}
 use native.Mathlib.Omega.{arith}
-use borrow.Author.Tests.{ltb-false, eqb-false, eqb-true, not-false}
+use borrow.Author.Tests.{eqb-false, eqb-true, not-false}
 use Rattle.model.specs.Base.{nth, bit}
-use Rattle.model.specs.Image.{Image, granules, word, isStart, links, link, owed, firstRun, withRegs, setReg, size}
+use Rattle.model.specs.Image.{Image, granules, word, isStart, links, link, owed, firstRun, withRegs, setReg}
 use Rattle.model.specs.Undamaged.{filled}
 use Rattle.model.specs.Records.{Step, new}
 use Rattle.model.specs.Mutate.{roomFor, newObject}
-use Rattle.model.specs.Steps.{isNew, badSize, noRoom, refusal, offDesk, owes, owing, accept, act}
-use Rattle.model.proofs.Laws.{bool-cases, some-false, false≢}
-use Rattle.theory.specs.Cycle.{Placed}
+use Rattle.model.specs.Steps.{isNew, noRoom, refusal, offDesk, owes, owing, accept, act}
+use Rattle.model.proofs.Laws.{some-false}
 use Rattle.theory.specs.Heap.{HeapFilled}
 use Rattle.theory.specs.Lines.{NilOr, GeneralOk, HeapOk, Start, Lines, Undamaged}
 use Rattle.theory.specs.New.{reheaped, NewMade}
 use Rattle.theory.proofs.Facts.{some-card, laid-of, link-value, start-of, heap-filled-of, heap-sized-of}
-use Rattle.theory.proofs.Steps.{line, not-above}
+use Rattle.theory.proofs.Steps.{line, not-above, good-size}
 use Rattle.theory.proofs.Mutating.{reg-keeps, is-start}
 use Rattle.theory.proofs.NewMade.{new-made}
 use Rattle.theory.proofs.Replaced.{nil-mono, reheaped-keeps}
@@ -97,41 +96,11 @@ module _ {m n : Image} {p r b c g : ℕ} (u : Undamaged m) (k : NewMade m n p r 
       s : bit (m .width) (n .starts) g ≡ true
       s = sym (new-start g) ∙ k .start-new
 
--- ---- the same as the list claims need it
-
-made-placed : {m n : Image} {p r b c g : ℕ} → Lines m → NewMade m n p r b c g → 1 ≤ b → c ≤ 4 * b - 2 → Placed m n g
-unfolding links link size
-made-placed {m} {n} {b = b} {c = c} {g = g} o k hb fit = record {
-  was-free = free (bool-cases (isStart m g));
-  old-starts = λ h s. k .start-old h (other h s) ∙ s;
-  new-starts = λ h s. from h s (ℕ-discrete h g);
-  old-count = λ h s. k .words-old h 1 s (omega (arith, inside h s));
-  old-links = λ h i s l. k .words-old h (2 + i) s (omega (arith, inside h s));
-  new-links = λ i l. k .zero-new i (omega (arith, k .links-new));
-}
-  where
-    inside : (h : ℕ) → isStart m h ≡ true → word m h 1 + 2 ≤ 4 * word m h 0
-    inside h s = laid-of o .inside h s .0
-
-    free : (isStart m g ≡ true) ⊎ (isStart m g ≡ false) → isStart m g ≡ false
-    free (inl s) = absurd (k .was-unused g (omega arith) (omega arith) .in-no-object g s (omega arith) (omega (arith, inside g s)))
-    free (inr s) = s
-
-    other : (h : ℕ) → isStart m h ≡ true → h ≡ g → ⊥
-    other h s e = false≢ (sym (free (bool-cases (isStart m g))) ∙ subst (λ x. isStart m x ≡ true) e s)
-
-    from : (h : ℕ) → isStart n h ≡ true → Dec (h ≡ g) → (isStart m h ≡ true) ⊎ (h ≡ g)
-    from h s (yes e) = inr e
-    from h s (no ne) = inl (sym (k .start-old h ne) ∙ s)
-
 -- ---- the step
 
 module _ (m : Image) (s : Step) (o : Lines m) (e : refusal m s new ≡ 0) where
-  pub good-size : (1 ≤ s .b) × (s .b ≤ 1024) × (s .c ≤ 4 * s .b - 2)
-  unfolding badSize isNew
-  good-size =
-      let d = some-false _ (line m s new e 5) in
-      (omega (arith, eqb-false (s .b) 0 (d 0)), ltb-false 1024 (s .b) (d 1), ltb-false (4 * s .b - 2) (s .c) (d 2))
+  size-ok : (1 ≤ s .b) × (s .b ≤ 1024) × (s .c + 2 ≤ 4 * s .b)
+  size-ok = good-size s (line m s new e 5)
 
   -- what an accepted new leaves
   pub new-does : NewMade m (newObject m (s .who) (s .a) (s .b) (s .c)) (s .who) (s .a) (s .b) (s .c) ((roomFor m (s .b)) .run)
@@ -140,13 +109,10 @@ module _ (m : Image) (s : Step) (o : Lines m) (e : refusal m s new ≡ 0) where
     where
       go : (g : ℕ) → (roomFor m (s .b)) .run ≡ g → ((roomFor m (s .b)) .run ≡ 0 → ⊥) → NewMade m (newObject m (s .who) (s .a) (s .b) (s .c)) (s .who) (s .a) (s .b) (s .c) ((roomFor m (s .b)) .run)
       go zero q nz = absurd (nz q)
-      go (suc g) q nz = rw q (new-made m (s .b) (s .c) g (heap-filled-of o) (heap-sized-of o) (good-size .0) (good-size .1) (good-size .2) q (s .who) (s .a))
-
-  pub new-placed : Placed m (newObject m (s .who) (s .a) (s .b) (s .c)) ((roomFor m (s .b)) .run)
-  new-placed = made-placed o new-does (good-size .0) (good-size .2)
+      go (suc g) q nz = rw q (new-made m (s .b) (s .c) g (heap-filled-of o) (heap-sized-of o) (size-ok .0) (size-ok .1) (omega (arith, size-ok .2)) q (s .who) (s .a))
 
 pub new-step : (m : Image) (s : Step) → Undamaged m → refusal m s new ≡ 0 → Undamaged ((act m s new) .image)
 unfolding act accept offDesk owing owes
 new-step m s u e =
     let d = some-false _ (line m s new e 1) in
-    new-keeps u (new-does m s (u .sound .lines) e) (good-size m s (u .sound .lines) e .2) (not-above 15 (s .who) (d 0)) (not-above 15 (s .a) (d 1)) (eqb-true _ _ (not-false _ (line m s new e 2)))
+    new-keeps u (new-does m s (u .sound .lines) e) (omega (arith, good-size s (line m s new e 5) .2)) (not-above 15 (s .who) (d 0)) (not-above 15 (s .a) (d 1)) (eqb-true _ _ (not-false _ (line m s new e 2)))

@@ -6,10 +6,10 @@ use Prim.Native.Nat.{ℕ, suc, _+_, _*_, _-_, _≤_, _<_}
 use native.Mathlib.Decide.{ℕ-discrete}
 use native.Mathlib.Omega.{arith}
 use Rattle.model.specs.Base.{nth, put}
-use Rattle.model.specs.Image.{Image, granules, word, isStart, size, links, reg, firstRun, withRegs, setReg}
+use Rattle.model.specs.Image.{Image, granules, word, isStart, size, links, reg, firstRun, withRegs, setReg, owed}
 use Rattle.model.specs.Mutate.{roomFor, newObject}
-use Rattle.model.proofs.Laws.{nth-put-other}
-use Rattle.theory.specs.Heap.{HeapFilled, HeapSized}
+use Rattle.model.proofs.Laws.{nth-put-other, not-make}
+use Rattle.theory.specs.Heap.{HeapFilled, HeapSized, Laid}
 use Rattle.theory.specs.Pieces.{Pieces, PiecesIn, PlaceIn, RunApart}
 use Rattle.theory.specs.New.{placed, reheaped, nextOf, Carved, NewMade}
 use Rattle.theory.proofs.Pieces.{pieces-image}
@@ -17,6 +17,7 @@ use Rattle.theory.proofs.Unused.{clear-one}
 use Rattle.theory.proofs.Room.{room-place, room-stretch, place-apart, before-apart}
 use Rattle.theory.proofs.Carve.{place-below, carve, word-before, word-behind}
 use Rattle.theory.proofs.NewHeap.{placed-sections, placed-granules, placed-length, placed-first, placed-general-word, placed-general-length, placed-starts-length, placed-sized, placed-carved}
+use borrow.Author.Tests.{not-true}
 
 module _ (m : Image) (b c g : ℕ) (o : HeapFilled m) (z : HeapSized m) (hb : 1 ≤ b) (few : b ≤ 1024) (fits : c ≤ 4 * b - 2) (e : (roomFor m b) .run ≡ suc g) where
   abbrev before : ℕ
@@ -111,12 +112,33 @@ module _ (m : Image) (b c g : ℕ) (o : HeapFilled m) (z : HeapSized m) (hb : 1 
   pub new-made : (p r : ℕ) → NewMade m (newObject m p r b c) p r b c (suc g)
   new-made p r = subst (λ n. NewMade m n p r b c (suc g)) (sym (new-is p r)) (with-reg p r)
 
--- ---- no register but the one that is named changes
+-- ---- what that says of the object and of the other sections
 
-pub new-regs : {m n : Image} {p r b c g : ℕ} → NewMade m n p r b c g → n .regs ≡ put (m .regs) (16 * p + r) g
-unfolding setReg withRegs
-new-regs k = ap (λ x. x .regs) (k .sections)
+module _ {m n : Image} {p r b c g : ℕ} (k : NewMade m n p r b c g) where
+  pub new-not-nil : g ≡ 0 → ⊥
+  new-not-nil z = omega (arith, k .filled .start-range g (k .start-new) .0)
 
-pub new-reg-other : {m n : Image} {p r b c g : ℕ} → NewMade m n p r b c g → (q s : ℕ) → (16 * q + s ≡ 16 * p + r → ⊥) → reg n q s ≡ reg m q s
-unfolding reg
-new-reg-other {m} {p = p} {r} {g = g} k q s ne = ap (λ l. nth l (16 * q + s)) (new-regs k) ∙ nth-put-other (m .regs) (16 * p + r) (16 * q + s) g ne
+  -- no object was there
+  pub new-was-free : Laid m → 1 ≤ b → isStart m g ≡ false
+  new-was-free d h = not-true _ (not-make (isStart m g) (λ s. k .was-unused g (omega arith) (omega arith) .in-no-object g s (omega arith) (omega (arith, d .inside g s .0))))
+
+  pub new-regs : n .regs ≡ put (m .regs) (16 * p + r) g
+  unfolding setReg withRegs
+  new-regs = ap (λ x. x .regs) (k .sections)
+
+  pub new-marks : (n .marks ≡ m .marks) × (n .width ≡ m .width)
+  unfolding setReg withRegs
+  new-marks = (ap (λ x. x .marks) (k .sections), ap (λ x. x .width) (k .sections))
+
+  pub new-owed : (q : ℕ) → owed n q ≡ owed m q
+  unfolding owed setReg withRegs
+  new-owed q = ap (λ x. nth (x .players) (2 * q)) (k .sections)
+
+  pub new-reg : (q s : ℕ) → reg n q s ≡ reg (setReg m p r g) q s
+  unfolding reg setReg withRegs
+  new-reg q s = ap (λ l. nth l (16 * q + s)) new-regs
+
+  -- no register but the one that is named changes
+  pub new-reg-other : (q s : ℕ) → (16 * q + s ≡ 16 * p + r → ⊥) → reg n q s ≡ reg m q s
+  unfolding reg
+  new-reg-other q s ne = ap (λ l. nth l (16 * q + s)) new-regs ∙ nth-put-other (m .regs) (16 * p + r) (16 * q + s) g ne

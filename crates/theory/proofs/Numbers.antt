@@ -21,8 +21,7 @@ use Rattle.theory.specs.Pieces.{Stretch}
 use Rattle.theory.specs.Numbers.{RefusedWhere, GoodNew, GoodBarrier, GoodScan, GoodTracer, NoEntries, InPool, NoTraceLine, NoCleanLine}
 use Rattle.theory.proofs.Facts.{heap-filled-of, heap-sized-of}
 use Rattle.theory.proofs.Room.{room-stretch, room-lowest, no-room}
-use Rattle.theory.proofs.NewKept.{good-size}
-use Rattle.theory.proofs.Steps.{step-number, line, accepted}
+use Rattle.theory.proofs.Steps.{step-number, line, accepted, good-size}
 
 -- ---- from the test of one line to the number
 
@@ -95,7 +94,7 @@ module _ (m : Image) (s : Step) (u : Undamaged m) (k : kindOf (s .kind) ≡ new)
 
       go : (g : ℕ) → (roomFor m (s .b)) .run ≡ g → ((roomFor m (s .b)) .run ≡ 0 → ⊥) → Stretch m (s .b) ((step m s) .value) × ((v : ℕ) → Stretch m (s .b) v → (step m s) .value ≤ v)
       go zero q nz = absurd (nz q)
-      go (suc g) q nz = rw (value-is, q) (room-stretch m (s .b) o z g q, room-lowest m (s .b) o z (good-size m s (u .sound .lines) r .0) g q)
+      go (suc g) q nz = rw (value-is, q) (room-stretch m (s .b) o z g q, room-lowest m (s .b) o z (good-size s (line m s new r 5) .0) g q)
 
 -- ---- 11: "barrier with none owed; player scanned already"
 

@@ -1,24 +1,26 @@
 -- A player's step on an image and on a plain store that agree: they answer alike and agree again.
 use mathlib.Core.Path.{_≡_, refl, sym, ap, subst, _∙_}
 use mathlib.Core.Bool.{true, false, not}
-use Prim.Native.Nat.{ℕ, zero, suc, _+_, _*_, _-_, _/_, _≤_, _<_}
+use Prim.Native.Nat.{ℕ, zero, suc, _+_, _-_, _/_, _<_}
 use native.Mathlib.Omega.{arith}
 use lib.Dec.{eqb}
 use lib.ListN.{length}
-use borrow.Author.Tests.{eqb-false, ne-eqb, ltb-false, leb-false}
+use borrow.Author.Tests.{eqb-false, ne-eqb, leb-false}
 use Rattle.model.specs.Image.{Image, word, links, link, reg, owed, withHeap, withCards, setWord, setState, dirtyCard}
 use Rattle.model.specs.Records.{Step, Kind, new, load, store, barrier, handOver, dropReg, read, write, begin, scan, trace, clean, finish, isDue, unknown, kindOf}
-use Rattle.model.specs.Steps.{isNew, offDesk, badSize, object, noObject, pastEnd, refusal, accept, act, outcome}
+use Rattle.model.specs.Steps.{offDesk, object, noObject, pastEnd, refusal, accept, act, outcome}
 use Rattle.model.specs.Plain.{Object, made, PlainStore, putLink, Value, as-is, PlainDone, byPlayerKind, holding, plainRefusal, plainAccept, plainAct, plainOutcome, feeds, objectAt, upd, named, reading}
 use Rattle.model.specs.Claim.{Chain, chain-link}
 use Rattle.model.proofs.Laws.{false≢, some-false}
-use Rattle.theory.specs.Same.{Names, SameStore, Related, KeptWords, ObjectMade, NewMakes, event, Admitted}
+use Rattle.theory.specs.Same.{Names, SameStore, Related, KeptWords, event, Admitted}
 use Rattle.theory.specs.Cycle.{Facts}
 use Rattle.theory.proofs.PlainLaws.{upd-same, names-more, names-new, same-kept}
 use Rattle.theory.proofs.PlainWrites.{same-setReg, same-stored, same-written, same-setOwed}
 use Rattle.theory.proofs.PlainNew.{same-new}
 use Rattle.theory.proofs.PlainAlike.{admitted, in-register, held-chain, same-number}
-use Rattle.theory.proofs.Steps.{not-above}
+use Rattle.theory.proofs.Steps.{not-above, good-size}
+use Rattle.theory.specs.New.{NewMade, NewLeaves}
+use Rattle.theory.proofs.NewMade.{new-not-nil}
 
 abbrev replied : PlainStore → ℕ → Value → PlainDone
 replied q r v = record { plain = q; reply = record { number = r; value = v } }
@@ -55,13 +57,6 @@ unfolding objectAt
 object-at name i zero ns = sym (ns .name-nil)
 object-at name i (suc g) ns = refl
 
--- 8 does not apply
-size-fits : (s : Step) → badSize s new ≡ false → s .c + 2 ≤ 4 * s .b
-unfolding badSize isNew
-size-fits s e =
-    let nz : s .b ≡ 0 → ⊥ = eqb-false (s .b) 0 (some-false _ e 0) in
-    omega (arith, ltb-false (4 * s .b - 2) (s .c) (some-false _ e 2))
-
 module _ (m : Image) (f : Facts m) (s : Step) (q : PlainStore) (name : ℕ → Object) (i : ℕ) (ns : Names name i) (S : SameStore name m q) where
   abbrev Alike : Kind → Type 0
   Alike n = kindOf (s .kind) ≡ n → Admitted m s n → Related name i (event m s (act m s n)) (plainAct q s i n)
@@ -83,18 +78,18 @@ module _ (m : Image) (f : Facts m) (s : Step) (q : PlainStore) (name : ℕ → O
       off : eqb (suc r) 0 ≡ false
       off = ne-eqb (suc r) 0 (λ e. omega arith)
 
-  new-alike : NewMakes m s → refusal m s new ≡ 0 → Alike new
+  new-alike : NewLeaves m s → refusal m s new ≡ 0 → Alike new
   unfolding act accept plainAct plainAccept named reading offDesk
   new-alike made-by z k a = record {
-    names-after = rw k (names-new ns g (o .not-nil));
-    same-after = rw k (same-new m _ f (s .who) (s .a) (s .b) (s .c) g (not-above 15 (s .who) (some-false _ (a .on-desk) 0)) (not-above 15 (s .a) (some-false _ (a .on-desk) 1)) (size-fits s (a .good-size)) o name i ns q S);
-    same-reply = rw (k, object-at (upd name g (made i)) (suc i) g (names-new ns g (o .not-nil)), upd-same name g (made i));
+    names-after = rw k (names-new ns g (new-not-nil o));
+    same-after = rw k (same-new m _ f (s .who) (s .a) (s .b) (s .c) g (not-above 15 (s .who) (some-false _ (a .on-desk) 0)) (not-above 15 (s .a) (some-false _ (a .on-desk) 1)) (good-size s (a .good-size) .2) o name i ns q S);
+    same-reply = rw (k, object-at (upd name g (made i)) (suc i) g (names-new ns g (new-not-nil o)), upd-same name g (made i));
   }
     where
       g : ℕ
       g = (act m s new) .value
 
-      o : ObjectMade m ((act m s new) .image) (s .who) (s .a) (s .b) (s .c) g
+      o : NewMade m ((act m s new) .image) (s .who) (s .a) (s .b) (s .c) g
       o = made-by z
 
   load-alike : Alike load
@@ -203,7 +198,7 @@ module _ (m : Image) (f : Facts m) (s : Step) (q : PlainStore) (name : ℕ → O
       number-reply write k refl refl _ 0 _ 0 refl
       (rw (in-reg (s .a) hp ha) (same-written m f g (s .b) (s .c) (reach-of (s .a) hp ha (eqb-false _ _ (a .has-object))) (leb-false _ _ (a .not-past)) name (ns .name-one) q S))
 
-  accepted-alike : NewMakes m s → (n : Kind) → feeds n 0 ≡ true → refusal m s n ≡ 0 → kindOf (s .kind) ≡ n → Related name i (event m s (act m s n)) (plainAct q s i n)
+  accepted-alike : NewLeaves m s → (n : Kind) → feeds n 0 ≡ true → refusal m s n ≡ 0 → kindOf (s .kind) ≡ n → Related name i (event m s (act m s n)) (plainAct q s i n)
   unfolding feeds
   accepted-alike o new e z k = new-alike o z k (admitted m s new z)
   accepted-alike o load e z k = load-alike k (admitted m s load z)
@@ -222,7 +217,7 @@ module _ (m : Image) (f : Facts m) (s : Step) (q : PlainStore) (name : ℕ → O
   accepted-alike o unknown e z k = false≢ e
 
   -- a player's step, but for a new answered 9
-  pub fed-alike : NewMakes m s → (n : Kind) → feeds n 0 ≡ true → (refusal m s n ≡ 9 → ⊥) → kindOf (s .kind) ≡ n → Related name i (event m s (outcome m s n (refusal m s n))) (plainOutcome q s i n (plainRefusal q s n))
+  pub fed-alike : NewLeaves m s → (n : Kind) → feeds n 0 ≡ true → (refusal m s n ≡ 9 → ⊥) → kindOf (s .kind) ≡ n → Related name i (event m s (outcome m s n (refusal m s n))) (plainOutcome q s i n (plainRefusal q s n))
   fed-alike o n e ne k = subst (λ t. Related name i (event m s (outcome m s n (refusal m s n))) (plainOutcome q s i n t)) (same-number m s q name i ns S n e ne) (go (refusal m s n) refl)
     where
       go : (r : ℕ) → refusal m s n ≡ r → Related name i (event m s (outcome m s n r)) (plainOutcome q s i n r)

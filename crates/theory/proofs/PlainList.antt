@@ -1,31 +1,20 @@
--- Over a whole list of steps, and over several lists one after the other, the plain store answers as the real one.
+-- Over a whole list of steps the plain store answers as the real one.
 use mathlib.Core.Path.{_≡_, refl, sym, ap, subst, _∙_}
 use mathlib.Core.Bool.{Bool, true, false, cond}
-use mathlib.Core.List.{List, [], _∷_, _++_}
+use mathlib.Core.List.{List, [], _∷_}
 use Prim.Native.Nat.{ℕ, suc}
 use Rattle.model.specs.Image.{Image}
 use Rattle.model.specs.Records.{Step, Kind, finish, kindOf}
-use Rattle.model.specs.Steps.{Done, Event, refusal, act, outcome, step, run, after}
+use Rattle.model.specs.Steps.{Done, Event, refusal, act, outcome, step, run}
 use Rattle.model.specs.Plain.{Object, old, PlainStore, plainOf, Reply, PlainDone, plainRefusal, plainOutcome, plainStep, Fed, feeds, feedsEvent, feed, plainRun, named, reading, readings, SameAnswers}
-use Rattle.theory.specs.Same.{Names, SameStore, Related, event, WordsStay, NewMakes, Runs, runs-none, runs-more}
+use Rattle.theory.specs.Same.{Names, SameStore, Related, event, WordsStay}
 use Rattle.theory.specs.Cycle.{Facts}
 use Rattle.theory.proofs.PlainLaws.{names-old, names-more, agrees-first, same-kept}
 use Rattle.theory.proofs.Steps.{outcome-number}
+pub use Rattle.theory.proofs.Steps.{run-append}
 use Rattle.theory.proofs.PlainAccepted.{fed-alike}
 use Rattle.theory.proofs.PlainFed.{fed-zero, fed-not-nine, unfed-named, unfed-kept}
-
--- ---- lists of steps one after the other
-
-pub run-append : (m : Image) (ss ts : List Step) → run m (ss ++ ts) ≡ run m ss ++ run (after m (run m ss)) ts
-unfolding run after
-run-append m [] ts = refl
-run-append m (s ∷ ss) ts = ap (λ l. event m s (step m s) ∷ l) (run-append ((step m s) .image) ss ts)
-
--- they give the events of one list
-pub runs-one : {m : Image} {es : List Event} → Runs m es → (ss : List Step) × (es ≡ run m ss)
-unfolding run
-runs-one runs-none = ([], refl)
-runs-one {m} (runs-more ss rest) = let k = runs-one rest in (ss ++ k .0, ap (λ l. run m ss ++ l) (k .1) ∙ sym (run-append m ss (k .0)))
+use Rattle.theory.specs.New.{NewLeaves}
 
 -- ---- the plain store's answers
 
@@ -33,7 +22,7 @@ runs-one {m} (runs-more ss rest) = let k = runs-one rest in (ss ++ k .0, ap (λ 
 module _ (Ok : Image → Type 0)
     (step-ok : (m : Image) (s : Step) → Ok m → Ok ((step m s) .image))
     (facts : (m : Image) → Ok m → Facts m)
-    (new-made : (m : Image) (s : Step) → Ok m → NewMakes m s)
+    (new-made : (m : Image) (s : Step) → Ok m → NewLeaves m s)
     (finish-stays : (m : Image) (s : Step) → Ok m → refusal m s finish ≡ 0 → WordsStay m ((act m s finish) .image)) where
   abbrev SameFrom : List Step → Type 0
   SameFrom ss = (name : ℕ → Object) (i : ℕ) (m : Image) (q : PlainStore) → Ok m → Names name i → SameStore name m q → readings name i (run m ss) ≡ plainRun q (feed i (run m ss))
@@ -92,7 +81,3 @@ module _ (Ok : Image → Type 0)
   pub plain-store : (m : Image) (ss : List Step) → Ok m → SameAnswers m (run m ss)
   unfolding SameAnswers
   plain-store m ss o = same-from ss old 0 m (plainOf m) o names-old (agrees-first m)
-
-  -- and every list of batches
-  pub plain-store-runs : (m : Image) (es : List Event) → Runs m es → Ok m → SameAnswers m es
-  plain-store-runs m es h o = let k = runs-one h in subst (SameAnswers m) (sym (k .1)) (plain-store m (k .0) o)

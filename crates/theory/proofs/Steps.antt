@@ -1,20 +1,28 @@
--- A step by its number: the lines that an accepted one has passed, and the image and value that a step leaves.
+-- A step by its number: the lines that an accepted one has passed, and the image and value that a step leaves. Lists of steps.
 use mathlib.Core.Path.{_≡_, refl, sym, ap, _∙_}
 use mathlib.Core.Bool.{false}
-use mathlib.Core.List.{[], _∷_}
-use Prim.Native.Nat.{ℕ, zero, suc, _<_}
+use mathlib.Core.List.{[], _∷_, List, _++_}
+use Prim.Native.Nat.{ℕ, zero, suc, _<_, _+_, _*_, _-_, _≤_}
 use native.Mathlib.Omega.{arith}
 use lib.ListN.{getD}
 use lib.Dec.{ltb}
-use borrow.Author.Tests.{ltb-false}
+use borrow.Author.Tests.{ltb-false, eqb-false}
 use Rattle.model.specs.Image.{Image}
 use Rattle.model.specs.Records.{Step, Kind, new, load, store, barrier, handOver, dropReg, read, write, begin, scan, trace, clean, finish, isDue, unknown, kindOf}
-use Rattle.model.specs.Steps.{Done, unnamed, offDesk, owing, noObject, pastEnd, badSize, noRoom, wrongPhase, nothingToDo, refusal, accept, finishDone, act, outcome, step}
-use Rattle.model.proofs.Laws.{first-none}
+use Rattle.model.specs.Steps.{Done, unnamed, offDesk, owing, noObject, pastEnd, badSize, noRoom, wrongPhase, nothingToDo, refusal, accept, finishDone, act, outcome, step, isNew, run, after}
+use Rattle.model.proofs.Laws.{first-none, some-false}
 
 -- a player, register or tracer that is on the desk
 pub not-above : (b x : ℕ) → ltb b x ≡ false → x < suc b
 not-above b x e = omega (arith, ltb-false b x e)
+
+-- a new that 8 does not refuse
+pub good-size : (s : Step) → badSize s new ≡ false → (1 ≤ s .b) × (s .b ≤ 1024) × (s .c + 2 ≤ 4 * s .b)
+unfolding badSize isNew
+good-size s e =
+    let d = some-false _ e in
+    let nz : s .b ≡ 0 → ⊥ = eqb-false (s .b) 0 (d 0) in
+    (omega arith, ltb-false 1024 (s .b) (d 1), omega (arith, ltb-false (4 * s .b - 2) (s .c) (d 2)))
 
 module _ (m : Image) (s : Step) where
   -- ---- numbers
@@ -79,3 +87,16 @@ module _ (m : Image) (s : Step) where
       go : (r : ℕ) → refusal m s (kindOf (s .kind)) ≡ r → P ((outcome m s (kindOf (s .kind)) r) .image)
       go zero e = f (kindOf (s .kind)) refl e
       go (suc r) e = same
+
+-- ---- lists of steps
+
+pub run-append : (m : Image) (ss ts : List Step) → run m (ss ++ ts) ≡ run m ss ++ run (after m (run m ss)) ts
+unfolding run after
+run-append m [] ts = refl
+run-append m (s ∷ ss) ts = ap (λ l. record { got = m; request = s; done = step m s } ∷ l) (run-append ((step m s) .image) ss ts)
+
+-- what every step keeps, a list of steps keeps
+pub run-ok : (P : Image → Type 0) → ((m : Image) (s : Step) → P m → P ((step m s) .image)) → (m : Image) (ss : List Step) → P m → P (after m (run m ss))
+unfolding run after
+run-ok P f m [] o = o
+run-ok P f m (s ∷ ss) o = run-ok P f ((step m s) .image) ss (f m s o)

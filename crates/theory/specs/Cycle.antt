@@ -5,9 +5,8 @@ use mathlib.Core.Bool.{true, false}
 use Prim.Native.Nat.{ℕ, _<_}
 use lib.ListN.{length}
 use Rattle.model.specs.Image.{Image, word, isStart, marked, links, link, reg, owed, hand, nextLink, running}
-use Rattle.model.specs.Records.{Step, new, finish, kindOf}
-use Rattle.model.specs.Mutate.{roomFor, newObject}
-use Rattle.model.specs.Steps.{refusal, step}
+use Rattle.model.specs.Records.{Step, finish, kindOf}
+use Rattle.model.specs.Steps.{step}
 use Rattle.model.specs.Claim.{Chain}
 use Rattle.theory.specs.Heap.{Proper, Laid}
 use Rattle.theory.specs.Cover.{Counted}
@@ -50,19 +49,6 @@ pub record Quiet (P : ℕ → Type 0) (m n : Image) : Type 0 where
   pub same-reg : (p r : ℕ) → reg n p r ≡ reg m p r
   pub same-owed : (p : ℕ) → owed n p ≡ owed m p
   pub new-marks : (g : ℕ) → marked n g ≡ true → (marked m g ≡ true) ⊎ P g
-
--- what an accepted new at granule a leaves of start bits and links
-pub record Placed (m n : Image) (a : ℕ) : Type 0 where
-  pub was-free : isStart m a ≡ false
-  pub old-starts : (g : ℕ) → isStart m g ≡ true → isStart n g ≡ true
-  pub new-starts : (g : ℕ) → isStart n g ≡ true → (isStart m g ≡ true) ⊎ (g ≡ a)
-  pub old-count : (g : ℕ) → isStart m g ≡ true → links n g ≡ links m g
-  pub old-links : (g i : ℕ) → isStart m g ≡ true → i < links m g → link n g i ≡ link m g i
-  pub new-links : (i : ℕ) → i < links n a → link n a i ≡ 0
-
--- that, where a new is accepted
-abbrev pub NewPlaced : Image → Step → Type 0
-NewPlaced m s = refusal m s new ≡ 0 → Placed m (newObject m (s .who) (s .a) (s .b) (s .c)) ((roomFor m (s .b)) .run)
 
 -- the record is no finish that is accepted
 abbrev pub NoFinish : Image → Step → Type 0

@@ -8,7 +8,8 @@ use Rattle.model.specs.Records.{Step}
 use Rattle.model.specs.Finish.{keptSet, finishStep}
 use Rattle.model.specs.Steps.{Event, step}
 use Rattle.theory.specs.Cover.{Cover}
-use Rattle.theory.specs.Cycle.{Facts, NewPlaced}
+use Rattle.theory.specs.Cycle.{Facts}
+use Rattle.theory.specs.New.{NewLeaves}
 use Rattle.theory.specs.Finish.{FinishMade}
 
 -- ---- linked events
@@ -18,11 +19,6 @@ pub data Linked : Image → List Event → Image → Type 0 where
   l-nil : {m : Image} → Linked m [] m
   l-cons : {m n : Image} {es : List Event} (e : Event) → e .got ≡ m → e .done ≡ step (e .got) (e .request)
       → Linked (e .done .image) es n → Linked m (e ∷ es) n
-
--- events linked from an image on
-pub record LinkedFrom (m : Image) (es : List Event) : Type 0 where
-  pub last : Image
-  pub linked : Linked m es last
 
 -- events linked in two parts
 pub record Parted (m : Image) (es fs : List Event) (n : Image) : Type 0 where
@@ -36,7 +32,7 @@ pub record Steady (Ok : Image → Type 0) : Type 0 where
   pub step-ok : (m : Image) (s : Step) → Ok m → Ok ((step m s) .image)
   pub facts : (m : Image) → Ok m → Facts m
   pub covers : (m : Image) → Ok m → Cover m
-  pub new-placed : (m : Image) (s : Step) → Ok m → NewPlaced m s
+  pub new-leaves : (m : Image) (s : Step) → Ok m → NewLeaves m s
   pub swept : (m : Image) → Ok m → FinishMade m (keptSet m) (finishStep m)
 
 -- such an image is its words, which are judged undamaged

@@ -7,7 +7,9 @@ use lib.Dec.{eqb}
 use lib.ListN.{length}
 use Rattle.model.specs.Base.{nth}
 use Rattle.model.specs.Image.{Image, granules, word, isStart, size, links, setWord, setStart, setReg}
-use Rattle.model.specs.Mutate.{takeRun}
+use Rattle.model.specs.Records.{Step, new}
+use Rattle.model.specs.Mutate.{roomFor, takeRun, newObject}
+use Rattle.model.specs.Steps.{refusal}
 use Rattle.theory.specs.Heap.{HeapFilled, HeapSized}
 use Rattle.theory.specs.Pieces.{Stretch}
 
@@ -77,3 +79,7 @@ pub record NewMade (m n : Image) (p r b c g : ℕ) : Type 0 where
   pub general-length : length (n .general) ≡ length (m .general)
   pub starts-length : length (n .starts) ≡ length (m .starts)
   pub sections : n ≡ setReg (reheaped m (n .heap) (n .starts) (n .general)) p r g
+
+-- what an accepted new leaves
+abbrev pub NewLeaves : Image → Step → Type 0
+NewLeaves m s = refusal m s new ≡ 0 → NewMade m (newObject m (s .who) (s .a) (s .b) (s .c)) (s .who) (s .a) (s .b) (s .c) ((roomFor m (s .b)) .run)

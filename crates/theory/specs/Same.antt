@@ -1,12 +1,11 @@
 -- An image and a plain store agree; what a step leaves of that.
 use mathlib.Core.Path.{_≡_}
 use mathlib.Core.Bool.{Bool, false, not}
-use mathlib.Core.List.{List, [], _++_}
-use Prim.Native.Nat.{ℕ, suc, _+_, _*_, _<_}
+use Prim.Native.Nat.{ℕ, suc, _*_, _<_}
 use lib.Dec.{eqb}
-use Rattle.model.specs.Image.{Image, word, isStart, size, links, link, levels, level, reg, owed, setReg}
-use Rattle.model.specs.Records.{Step, Kind, new}
-use Rattle.model.specs.Steps.{Done, Event, offDesk, badSize, noObject, pastEnd, refusal, act, run, after}
+use Rattle.model.specs.Image.{Image, word, size, links, link, levels, level, reg, owed}
+use Rattle.model.specs.Records.{Step, Kind}
+use Rattle.model.specs.Steps.{Done, Event, offDesk, badSize, noObject, pastEnd}
 use Rattle.model.specs.Plain.{Object, old, made, PlainStore, PlainDone, named, reading}
 use Rattle.model.specs.Claim.{Chain}
 
@@ -69,25 +68,3 @@ pub record KeptWords (m m′ : Image) : Type 0 where
   pub kept-reg : (p r : ℕ) → reg m′ p r ≡ reg m p r
   pub kept-owed : (p : ℕ) → owed m′ p ≡ owed m p
   pub kept-word : WordsStay m m′
-
--- a new of b granules and c links in register r of player p was made at g
-pub record ObjectMade (m m′ : Image) (p r b c g : ℕ) : Type 0 where
-  pub not-nil : g ≡ 0 → ⊥
-  pub no-start : isStart m g ≡ false
-  pub made-reg : (u t : ℕ) → u < 16 → t < 16 → reg m′ u t ≡ reg (setReg m p r g) u t
-  pub made-owed : (u : ℕ) → u < 16 → owed m′ u ≡ owed m u
-  pub made-size : size m′ g ≡ b
-  pub made-count : links m′ g ≡ c
-  pub made-zero : (i : ℕ) → 2 + i < 4 * b → word m′ g (2 + i) ≡ 0
-  pub made-kept : WordsStay m m′
-
--- what an accepted new leaves
-abbrev pub NewMakes : Image → Step → Type 0
-NewMakes m s = refusal m s new ≡ 0 → ObjectMade m ((act m s new) .image) (s .who) (s .a) (s .b) (s .c) ((act m s new) .value)
-
--- ---- lists of steps
-
--- the events of lists of steps that are run one after the other, each on the image that the last left
-pub data Runs : Image → List Event → Type 0 where
-  runs-none : {m : Image} → Runs m []
-  runs-more : {m : Image} {es : List Event} (ss : List Step) → Runs (after m (run m ss)) es → Runs m (run m ss ++ es)
