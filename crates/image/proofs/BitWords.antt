@@ -6,7 +6,7 @@ use Prim.Native.Nat.{ℕ, _/_, _%_}
 use Rattle.model.specs.Base.{nth, testBit, bit, put, withBit, setBit}
 use Rattle.model.specs.Image.{imageOf, image, isStart, marked, Image, withStarts, withMarks, setStart, setMark}
 use Rattle.image.specs.Sized.{narrow}
-use Rattle.image.specs.Bits.{withoutBit, clearBit, clearStart, clearMark}
+use Rattle.image.specs.Bits.{withoutBit, clearBit, clearStart}
 
 module _ (k : ℕ) (ws : List ℕ) (g x : ℕ) (b : Bool) where
   pub start-read : x ≡ nth (narrow k ws .starts) (g / 16) → b ≡ testBit x (g % 16) → b ≡ isStart (narrow k ws) g
@@ -29,7 +29,3 @@ module _ (k : ℕ) (ws : List ℕ) (g x v : ℕ) (m : Image) where
   pub mark-set : x ≡ nth (narrow k ws .marks) (g / 16) → v ≡ withBit x (g % 16) → m ≡ withMarks (narrow k ws) (put (narrow k ws .marks) (g / 16) v) → m ≡ setMark (narrow k ws) g
   unfolding setMark setBit narrow imageOf image
   mark-set e f h = h ∙ rw (f, e)
-
-  pub mark-cleared : x ≡ nth (narrow k ws .marks) (g / 16) → v ≡ withoutBit x (g % 16) → m ≡ withMarks (narrow k ws) (put (narrow k ws .marks) (g / 16) v) → m ≡ clearMark (narrow k ws) g
-  unfolding clearMark clearBit narrow imageOf image
-  mark-cleared e f h = h ∙ rw (f, e)

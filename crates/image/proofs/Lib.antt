@@ -6,3 +6,4 @@ pub mod Masks
 pub mod BitWords
 pub mod FreshStore
 pub mod Rooms
+pub mod Reading

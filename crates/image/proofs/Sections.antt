@@ -6,7 +6,7 @@ use native.Mathlib.Nat.{zero-add}
 use native.Mathlib.Omega.{arith}
 use lib.ListN.{getD, set, length}
 use Rattle.model.specs.Base.{nth, put}
-use Rattle.model.specs.Image.{mostCards, lengths, split, image, imageOf, withHeap, withStarts, withMarks, withCards, withRegs, withPackets, withTracers, withPlayers, withGeneral, sections, words, granules}
+use Rattle.model.specs.Image.{mostCards, lengths, split, image, imageOf, withHeap, withStarts, withMarks, withCards, withRegs, withTracers, withPlayers, withGeneral, sections, words, granules}
 use Rattle.image.specs.Sized.{narrow, Sized, Lengths}
 use Rattle.image.proofs.Split.{place, split-get, split-put, split-length}
 use Rattle.model.proofs.Words.{Fits, total, join-split, split-lengths}
@@ -80,10 +80,6 @@ module _ (k : ℕ) (ws : List ℕ) (i v : ℕ) where
   pub put-regs : i < 256 → narrow k (put ws (265 * k + i) v) ≡ withRegs (narrow k ws) (put (narrow k ws .regs) i v)
   unfolding narrow imageOf image lengths split withRegs
   put-regs h = put-section k ws 4 i (265 * k + i) (omega arith) (omega arith) v
-
-  pub put-packets : i < 1024 → narrow k (put ws (265 * k + 256 + i) v) ≡ withPackets (narrow k ws) (put (narrow k ws .packets) i v)
-  unfolding narrow imageOf image lengths split withPackets
-  put-packets h = put-section k ws 5 i (265 * k + 256 + i) (omega arith) (omega arith) v
 
   pub put-tracers : i < 64 → narrow k (put ws (265 * k + 1280 + i) v) ≡ withTracers (narrow k ws) (put (narrow k ws .tracers) i v)
   unfolding narrow imageOf image lengths split withTracers

@@ -4,7 +4,7 @@ ghost use Prim.Native.Nat.{ℕ, _+_, _*_, _≤_, _<_};
 ghost use Rattle.model.specs.Base.{testBit, withBit};
 ghost use Rattle.model.specs.Image.{isStart, marked, setStart, setMark};
 ghost use Rattle.image.specs.Sized.{Sized, narrow};
-ghost use Rattle.image.specs.Bits.{withoutBit, clearStart, clearMark};
+ghost use Rattle.image.specs.Bits.{withoutBit, clearStart};
 
 pub fn has_bit(w: u16, j: u16) -> bool
     requires { ⌜ j < 16 ⌝ }
@@ -70,15 +70,5 @@ pub fn set_mark(im: &mut [u16], k: usize, g: usize)
 {
     let marks = crate::mark_word(im, k, g / 16);
     let v = with_bit(marks, (g % 16) as u16);
-    crate::set_mark_word(im, k, g / 16, v);
-}
-
-pub fn clear_mark(im: &mut [u16], k: usize, g: usize)
-    requires { ⌜ Sized k (now im) ⌝ }
-    requires { ⌜ g < 64 * k ⌝ }
-    ensures { λ _. ⌜ narrow k (now (im .exit)) ≡ clearMark (narrow k (now (im .entry))) g ⌝ }
-{
-    let marks = crate::mark_word(im, k, g / 16);
-    let v = without_bit(marks, (g % 16) as u16);
     crate::set_mark_word(im, k, g / 16, v);
 }

@@ -3,13 +3,14 @@ ghost use mathlib.Core.Path.{_≡_};
 ghost use Prim.Native.Nat.{ℕ, _+_, _*_, _≤_, _<_};
 ghost use lib.ListN.{length};
 ghost use Rattle.model.specs.Base.{nth, put};
-ghost use Rattle.model.specs.Image.{word, owed, scanned, running, firstRun, state, reg, withHeap, withStarts, withMarks, withRegs, withPackets, withTracers, withPlayers, withGeneral, setState, setReg, setTracer, setOwed, setScanned, setFirstRun, setWord};
+ghost use Rattle.model.specs.Image.{word, owed, scanned, running, firstRun, state, reg, withHeap, withStarts, withMarks, withRegs, withTracers, withPlayers, withGeneral, setState, setReg, setTracer, setOwed, setScanned, setFirstRun, setWord};
 ghost use Rattle.image.specs.Sized.{Sized, narrow};
 
 pub mod answer; // answer.rt: the answer of one step
 pub mod bits; // bits.rt: start and mark bits, by shift and mask
 pub mod clearing; // clearing.rt: stretches of the image cleared
 pub mod fresh; // fresh.rt: a fresh store made
+pub mod parts; // parts.rt: parts of the slice read as a whole
 pub mod runs; // runs.rt: the chain of free runs
 pub mod size; // size.rt: the number of cards, from the length
 
@@ -182,14 +183,6 @@ pub fn set_reg_word(im: &mut [u16], k: usize, i: usize, v: u16)
     ensures { λ _. ⌜ narrow k (now (im .exit)) ≡ withRegs (narrow k (now (im .entry))) (put (narrow k (now (im .entry)) .regs) i v) ⌝ }
 {
     im[265 * k + i] = v;
-}
-
-pub fn set_packet_word(im: &mut [u16], k: usize, i: usize, v: u16)
-    requires { ⌜ Sized k (now im) ⌝ }
-    requires { ⌜ i < 1024 ⌝ }
-    ensures { λ _. ⌜ narrow k (now (im .exit)) ≡ withPackets (narrow k (now (im .entry))) (put (narrow k (now (im .entry)) .packets) i v) ⌝ }
-{
-    im[265 * k + 256 + i] = v;
 }
 
 pub fn set_tracer_word(im: &mut [u16], k: usize, i: usize, v: u16)

@@ -1,6 +1,6 @@
 -- Cover, in the order in which the code asks.
 use mathlib.Core.Path.{_≡_, refl, sym, _∙_}
-use mathlib.Core.Bool.{Bool, true, false, not, _&&_, _||_}
+use mathlib.Core.Bool.{Bool, true, false, not, _&&_, _||_, and-true, or-false}
 use mathlib.Core.List.{List, [], _∷_}
 use Prim.Native.Nat.{ℕ, suc, _+_, _*_, _/_, _≤_, _<_}
 use native.Mathlib.Numerals.{add-one}
@@ -13,7 +13,7 @@ use Rattle.model.specs.Undamaged.{entered, linkToCome, granuleToCome, owedWith,
 use Rattle.model.proofs.Laws.{false≢, all-use, all-make}
 use Rattle.image.specs.Sized.{narrow}
 use Rattle.judge_lines.specs.Tests.{atWord, wordwise}
-use Rattle.judge_lines.proofs.Loops.{and-true, or-false, all-cong}
+use Rattle.judge_lines.proofs.Loops.{all-cong}
 use Rattle.judge_lines.proofs.Idle.{no-bit}
 use Rattle.judge_lines.proofs.MarkWords.{by-words}
 use Rattle.judge.specs.Order.{Ready, handComes, cardComes, holds, owes, plain, coming, late, objectCovered}

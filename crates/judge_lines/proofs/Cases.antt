@@ -1,6 +1,6 @@
 -- The ways out of the tests, as the code finds them.
 use mathlib.Core.Path.{_≡_, refl, sym, ap, _∙_}
-use mathlib.Core.Bool.{Bool, true, false, not, _&&_, _||_}
+use mathlib.Core.Bool.{Bool, true, false, not, _&&_, _||_, and-true, and-assoc}
 use mathlib.Core.List.{List, [], _∷_}
 use Prim.Native.Nat.{ℕ, _+_, _*_, _-_, _≤_, _<_, min}
 use native.Mathlib.Decide.{decLt}
@@ -15,8 +15,8 @@ use Rattle.model.proofs.Laws.{every-use}
 use Rattle.model.proofs.Entries.{nth-drop, nth-take}
 use Rattle.image.specs.Sized.{Sized, narrow}
 use Rattle.judge_lines.specs.Tests.{Room, linkOk, packetAt, entryAt, apart}
-use Rattle.judge_lines.proofs.Loops.{and-true, and-assoc, all-cong}
-use Rattle.judge_lines.proofs.Sections.{start-past, mark-past}
+use Rattle.judge_lines.proofs.Loops.{all-cong}
+use Rattle.judge_lines.proofs.Past.{start-past, mark-past}
 
 -- ---- bits of granules that may lie past the end
 

@@ -1,6 +1,6 @@
 -- Packets by index; their entries packet after packet; no granule entered twice, by a set of those seen.
 use mathlib.Core.Path.{_≡_, refl, sym, ap, _∙_}
-use mathlib.Core.Bool.{Bool, true, false, not, _&&_, _||_}
+use mathlib.Core.Bool.{Bool, true, false, not, _&&_, _||_, and-true, and-assoc, and-false}
 use mathlib.Core.List.{List, [], _∷_, _++_, append-assoc}
 use Prim.Native.Nat.{ℕ, zero, suc, _+_, _*_, _/_, _<_}
 use native.Mathlib.Decide.{ℕ-discrete}
@@ -14,8 +14,9 @@ use Rattle.model.specs.Image.{entriesOf}
 use Rattle.model.proofs.Laws.{length-put}
 use Rattle.model.proofs.Bits.{setBit-same, setBit-other, bit-zeros}
 use Rattle.model.proofs.Entries.{nth-drop}
+use Rattle.image.proofs.Reading.{all-none, all-first}
 use Rattle.judge_lines.specs.Once.{noneIn, Once}
-use Rattle.judge_lines.proofs.Loops.{all-none, and-true, and-assoc, and-false, all-first, all-cong}
+use Rattle.judge_lines.proofs.Loops.{all-cong}
 
 -- ---- pieces by index
 
@@ -41,15 +42,6 @@ entries-more (suc n) ps =
     let b : 32 + (32 * n + 2) ≡ 32 * suc n + 2 = omega arith in
     rw (append-assoc) (ap (λ r. take (nth ps 0) (drop 2 ps) ++ r)
     (entries-more n (drop 32 ps) ∙ rw (nth-drop 32 ps (32 * n), drop-drop (32 * n + 2) 32 ps, a, b)))
-
-pub elem-append : (g : ℕ) (l r : List ℕ) → elem g (l ++ r) ≡ (elem g l || elem g r)
-unfolding elem
-elem-append g [] r = refl
-elem-append g (x ∷ l) r = rw (elem-append g l r) (sym (or-assoc (eqb g x) _ _))
-  where
-    or-assoc : (a b c : Bool) → ((a || b) || c) ≡ (a || (b || c))
-    or-assoc true b c = refl
-    or-assoc false b c = refl
 
 -- ---- no granule twice, by the set of those seen
 

@@ -1,6 +1,6 @@
 -- The walk as a loop: pieces fill the heap, and the links of every object are nil or starts. Every start is an object.
 use mathlib.Core.Path.{_≡_, refl, sym, ap, _∙_}
-use mathlib.Core.Bool.{Bool, true, false, not, cond, _&&_}
+use mathlib.Core.Bool.{Bool, true, false, not, cond, _&&_, and-true}
 use mathlib.Core.List.{List, [], _∷_}
 use Prim.Native.Nat.{ℕ, zero, suc, _+_, _*_, _-_, _≤_, _<_}
 use native.Mathlib.Decide.{ℕ-discrete, decLt}
@@ -15,9 +15,10 @@ use Rattle.model.specs.Image.{image, imageOf, granules, word, isStart, links, f
 use Rattle.model.specs.Undamaged.{bare, piece, fill, filled, linksOk}
 use Rattle.model.proofs.Laws.{false≢, and-split, all-use, all-make, every-use}
 use Rattle.image.specs.Sized.{Sized, narrow}
+use Rattle.image.proofs.Reading.{all-first}
+use Rattle.image.proofs.Sections.{narrow-lengths}
 use Rattle.judge_lines.specs.Tests.{Room, notStart, clear, objectAt, pieceAt, nextRun}
-use Rattle.judge_lines.proofs.Loops.{and-true, all-append, all-first}
-use Rattle.judge_lines.proofs.Sections.{heap-long}
+use Rattle.judge_lines.proofs.Loops.{all-append}
 use Rattle.judge_lines.proofs.Walk.{head-is, tail-at, tail-long, bare-is, object-is, head-use}
 
 -- ---- one turn of the model's walk
@@ -52,7 +53,7 @@ module _ (k : ℕ) (l : List ℕ) where
 
   module _ (z : Sized k l) where
     past-end : (n g next : ℕ) (run : Bool) → 64 * k ≤ g → fillFrom (suc n) g next run ≡ eqb next 0
-    past-end n g next run h = rw (drop-of-length-le (narrow k l .heap) {i = 4 * g} (omega (arith, heap-long k l z))) (fill-end (isStart (narrow k l)) n g next run)
+    past-end n g next run h = rw (drop-of-length-le (narrow k l .heap) {i = 4 * g} (omega (arith, narrow-lengths k l z .heap-length))) (fill-end (isStart (narrow k l)) n g next run)
 
     module _ (g next : ℕ) (run : Bool) (hg : g < 64 * k) where
       next-is : cond (isStart (narrow k l) g) next (nth (drop (suc (4 * g)) (narrow k l .heap)) 0) ≡ nextRun (narrow k l) g next

@@ -1,6 +1,6 @@
 -- With no cycle the lines on marks, packets and tracers follow from their words being 0; the ways out of a cycle's lines and of all lines.
 use mathlib.Core.Path.{_≡_, refl, sym, _∙_}
-use mathlib.Core.Bool.{Bool, true, false, not, _&&_}
+use mathlib.Core.Bool.{Bool, true, false, not, _&&_, and-true, and-false, and-assoc}
 use mathlib.Core.List.{List, []}
 use Prim.Native.Nat.{ℕ, zero, suc, _+_, _*_, _/_, _%_, _^_, _≤_, _<_}
 use native.Mathlib.Nat.{zero-div}
@@ -13,9 +13,9 @@ use Rattle.model.specs.Image.{image, imageOf, granules, marked, count, entry, e
 use Rattle.model.specs.Undamaged.{zeroGranule, filled, linksOk, regOk, cardOk, playerOk, generalOk, markOk, entryOk, packetOk, handOk, handCardOk, tracerOk, heldAt, heldOnce, idleOk, sound}
 use Rattle.model.proofs.Laws.{all-use, all-make, every-use, every-cons, every-nil}
 use Rattle.image.specs.Sized.{Sized, narrow}
-use Rattle.judge_lines.specs.Tests.{Packed, isZero, packetAt, entryAt, unscanned, idle, cycleLines}
-use Rattle.judge_lines.proofs.Loops.{and-true, and-false, and-assoc}
-use Rattle.judge_lines.proofs.Stretch.{zeroes-all}
+use Rattle.image.specs.Reading.{isZero}
+use Rattle.image.proofs.Reading.{zeroes-all}
+use Rattle.judge_lines.specs.Tests.{Packed, packetAt, entryAt, unscanned, idle, cycleLines}
 use Rattle.judge_lines.proofs.Entered.{each-piece, entries-more}
 use Rattle.judge_lines.proofs.Cases.{packet-is}
 

@@ -1,6 +1,6 @@
 pub mod Loops
 pub mod Entered
-pub mod Sections
+pub mod Past
 pub mod Searched
 pub mod Stretch
 pub mod MarkWords

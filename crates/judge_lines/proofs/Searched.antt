@@ -2,67 +2,36 @@
 use mathlib.Core.Path.{_≡_, refl, sym, _∙_}
 use mathlib.Core.Bool.{Bool, true, false, not, _&&_, _||_}
 use mathlib.Core.List.{List, [], _∷_, _++_}
-use Prim.Native.Nat.{ℕ, zero, suc, _+_, _*_, _-_, _/_, _≤_, _<_}
+use Prim.Native.Nat.{ℕ, suc, _+_, _*_, _/_, _≤_, _<_}
 use native.Mathlib.Numerals.{add-one}
 use native.Mathlib.Omega.{arith}
-use lib.Dec.{eqb}
 use lib.ListN.{length, getD, take, drop, length-take, length-drop}
-use lib.Seq.{take-suc, take-all, take-take, drop-drop}
+use lib.Seq.{take-suc, take-all}
 use Rattle.model.specs.Base.{nth, elem, bit, setBit}
-use Rattle.model.specs.Image.{count, entry, entries, entriesOf}
+use Rattle.model.specs.Image.{Image, count, entry, entries, entriesOf}
 use Rattle.model.specs.Undamaged.{entered}
 use Rattle.model.proofs.Entries.{nth-drop, nth-take}
 use Rattle.image.specs.Sized.{Sized, narrow}
-use Rattle.judge_lines.specs.Tests.{Packed, packetEntries}
+use Rattle.image.specs.Reading.{packetEntries}
+use Rattle.image.proofs.Reading.{elem-append}
+use Rattle.image.proofs.Sections.{narrow-lengths}
+use Rattle.judge_lines.specs.Tests.{Packed}
 use Rattle.judge_lines.specs.Once.{Once}
-use Rattle.judge_lines.proofs.Loops.{or-false}
-use Rattle.judge_lines.proofs.Entered.{entries-more, elem-append, once-none, once-one, once-append}
-use Rattle.judge_lines.proofs.Sections.{packets-at, packets-long}
+use Rattle.judge_lines.proofs.Entered.{entries-more, once-none, once-one, once-append}
 
--- ---- a word among the words so far
+-- ---- the entries of a packet, none of them twice
 
-pub record Met (s : List ℕ) (g : ℕ) (found : Bool) (i : ℕ) : Type 0 where
-  pub within : i ≤ length s
-  pub so-far : found ≡ elem g (take i s)
-
-pub met-none : {s : List ℕ} {g : ℕ} → Met s g false 0
-unfolding elem
-met-none = record { within = omega arith; so-far = refl }
-
-pub met-more : (s : List ℕ) (g : ℕ) (found : Bool) (i : ℕ) → Met s g found i → i < length s → Met s g (found || eqb g (getD s i 0)) (i + 1)
-unfolding elem
-met-more s g found i m h = rw add-one (record { within = omega arith; so-far = rw (take-suc s i 0 h, elem-append g (take i s) (getD s i 0 ∷ []), ← (m .so-far), or-false) })
-
-pub met-end : (s : List ℕ) (g : ℕ) (found : Bool) (i : ℕ) → Met s g found i → length s ≤ i → found ≡ elem g s
-met-end s g found i m h = rw (take-all i s h) at (m .so-far)
-
--- ---- the entries of a packet, as they stand in the slice
-
-stretch : (n j m : ℕ) (l : List ℕ) → j + n ≤ m → take n (drop j (take m l)) ≡ take n (drop j l)
-stretch n zero m l h = take-take n m l (omega arith)
-stretch n (suc j) zero l h = absurd (omega arith)
-stretch n (suc j) (suc m) [] h = refl
-stretch n (suc j) (suc m) (x ∷ l) h = stretch n j m l (omega arith)
+pub counted : (m : Image) (p : ℕ) → Packed m → p < 32 → count m p ≤ 30
+counted m p packed h = packed .counts p h
 
 module _ (k : ℕ) (l : List ℕ) (z : Sized k l) (packed : Packed (narrow k l)) (p : ℕ) (hp : p < 32) where
   pub few : (n : ℕ) → n ≡ nth (narrow k l .packets) (32 * p) → n ≤ 30
   unfolding count
   few n e = omega (arith, e, packed .counts p hp)
 
-  pub in-packet : (g n a : ℕ) (r : Bool) → n ≡ nth (narrow k l .packets) (32 * p) → a ≡ 265 * k + 256 + (32 * p + 2) → r ≡ elem g (take (a + n - a) (drop a l)) → r ≡ elem g (packetEntries (narrow k l) p)
-  unfolding packetEntries count
-  in-packet g n a r en ea e =
-      let b : n ≤ 30 = few n en in
-      let q : a + n - a ≡ n = omega arith in
-      let s : take n (drop (32 * p + 2) (narrow k l .packets)) ≡ take n (drop a l) =
-      rw (packets-at k l, stretch n (32 * p + 2) 1024 (drop (265 * k + 256) l) (omega arith), drop-drop (32 * p + 2) (265 * k + 256) l, ← ea) refl in
-      rw (← en, s) (rw q at e)
-
-  -- ---- none of them twice
-
   entries-length : length (packetEntries (narrow k l) p) ≡ count (narrow k l) p
   unfolding packetEntries
-  entries-length = omega (arith, length-take (count (narrow k l) p) (drop (32 * p + 2) (narrow k l .packets)), length-drop (32 * p + 2) (narrow k l .packets), packets-long k l z, packed .counts p hp)
+  entries-length = omega (arith, length-take (count (narrow k l) p) (drop (32 * p + 2) (narrow k l .packets)), length-drop (32 * p + 2) (narrow k l .packets), narrow-lengths k l z .packets-length, packed .counts p hp)
 
   entries-nth : (e : ℕ) → e < count (narrow k l) p → getD (packetEntries (narrow k l) p) e 0 ≡ nth (narrow k l .packets) (32 * p + 2 + e)
   unfolding packetEntries nth

@@ -1,7 +1,7 @@
 -- Stretches of words that are 0, and of bits within a word and over words.
 use mathlib.Core.Path.{_≡_, refl, sym, ap, _∙_}
 use mathlib.Core.Bool.{Bool, true, false, not, _&&_}
-use mathlib.Core.List.{List, [], _∷_}
+use mathlib.Core.List.{List}
 use Prim.Native.Nat.{ℕ, zero, suc, _+_, _*_, _-_, _/_, _%_, _^_, _≤_, _<_, min}
 use native.Mathlib.Nat.{mod-one, one-mul}
 use native.Mathlib.Decide.{ℕ-discrete}
@@ -15,15 +15,12 @@ use Rattle.model.specs.Base.{nth, all, zeroes, testBit, bit}
 use Rattle.model.specs.Image.{image, imageOf, isStart}
 use Rattle.model.proofs.Entries.{nth-drop, nth-take}
 use Rattle.image.specs.Sized.{narrow}
-use Rattle.judge_lines.specs.Tests.{isZero, bitClear, notStart, clear}
-use Rattle.judge_lines.proofs.Loops.{all-cong, all-append, all-first, all-none}
+use Rattle.image.specs.Reading.{isZero}
+use Rattle.image.proofs.Reading.{zeroes-all}
+use Rattle.judge_lines.specs.Tests.{bitClear, notStart, clear}
+use Rattle.judge_lines.proofs.Loops.{all-cong, all-append}
 
 -- ---- words
-
-pub zeroes-all : (l : List ℕ) → all (length l) (isZero l) ≡ zeroes l
-unfolding zeroes isZero nth
-zeroes-all [] = sym (all-none _)
-zeroes-all (x ∷ l) = all-first (length l) (isZero (x ∷ l)) ∙ ap (λ b. eqb x 0 && b) (zeroes-all l)
 
 -- n words from a on
 pub zero-stretch : (ws : List ℕ) (a n : ℕ) → a + n ≤ length ws → zeroes (take n (drop a ws)) ≡ all n (λ i. eqb (nth ws (a + i)) 0)
@@ -32,10 +29,6 @@ zero-stretch ws a n h =
     let e : length (take n (drop a ws)) ≡ n = length-take-le n (drop a ws) (simp length-drop (omega arith)) in
     (rw e at (sym (zeroes-all (take n (drop a ws)))))
     ∙ all-cong n _ _ (λ i q. rw (nth-take n (drop a ws) i q, nth-drop a ws i))
-
--- the words of a run behind its two
-pub run-zero : (l : List ℕ) (g s : ℕ) (r : Bool) → 1 ≤ s → r ≡ zeroes (take (4 * g + 4 * s - (4 * g + 2)) (drop (4 * g + 2) l)) → r ≡ zeroes (take (4 * s - 2) (drop (4 * g + 2) l))
-run-zero l g s r h e = let n : 4 * g + 4 * s - (4 * g + 2) ≡ 4 * s - 2 = omega arith in rw n at e
 
 -- ---- bits within a word
 

@@ -14,10 +14,9 @@ use Rattle.model.specs.Undamaged.{bare, piece}
 use Rattle.model.proofs.Laws.{and-split, and-join, every-use, every-cons, every-nil}
 use Rattle.model.proofs.Entries.{nth-drop}
 use Rattle.image.specs.Sized.{Sized, narrow}
-use Rattle.image.proofs.Sections.{get-heap}
+use Rattle.image.proofs.Sections.{narrow-lengths}
 use Rattle.judge_lines.specs.Tests.{notStart, clear, objectAt, runAt, pieceAt, nextRun}
 use Rattle.judge_lines.proofs.Loops.{same-test, all-cong}
-use Rattle.judge_lines.proofs.Sections.{heap-long}
 use Rattle.judge_lines.proofs.Stretch.{zero-stretch}
 
 -- ---- the head of an object, and of a run
@@ -74,11 +73,11 @@ module _ (k : ℕ) (l : List ℕ) (z : Sized k l) (g : ℕ) (hg : g < 64 * k) wh
   tail-at i = let e : suc (4 * g) + i ≡ 4 * g + (1 + i) = omega arith in rw (nth-drop (suc (4 * g)) (narrow k l .heap) i, e)
 
   pub tail-long : length (drop (suc (4 * g)) (narrow k l .heap)) ≡ 256 * k - suc (4 * g)
-  tail-long = rw (length-drop, heap-long k l z)
+  tail-long = rw (length-drop, narrow-lengths k l z .heap-length)
 
   pub head-is : drop (4 * g) (narrow k l .heap) ≡ word (narrow k l) g 0 ∷ drop (suc (4 * g)) (narrow k l .heap)
   unfolding word nth
-  head-is = let e : 4 * g + 0 ≡ 4 * g = omega arith in rw e (drop-cons (narrow k l .heap) (4 * g) 0 (omega (arith, heap-long k l z)))
+  head-is = let e : 4 * g + 0 ≡ 4 * g = omega arith in rw e (drop-cons (narrow k l .heap) (4 * g) 0 (omega (arith, narrow-lengths k l z .heap-length)))
 
   pub bare-is : (s : ℕ) → bare (isStart (narrow k l)) g s ≡ clear (narrow k l) (g + 1) (s - 1)
   unfolding bare clear notStart
@@ -118,17 +117,17 @@ module _ (k : ℕ) (l : List ℕ) (z : Sized k l) (g : ℕ) (hg : g < 64 * k) wh
     pub object-yes : (a : Bool) → not (headOk k g s n) ≡ false → a ≡ clear (narrow k l) (g + 1) (s - 1) → a ≡ objectAt (narrow k l) g
     object-yes a h p = rw (object-is, not-false (headOk k g s n) h, p)
 
-  -- the words behind a run's two, as they stand in the slice
-  tail-zero : (s : ℕ) → 1 ≤ s → g + s ≤ 64 * k → all (4 * s - 2) (λ i. eqb (nth (drop (suc (4 * g)) (narrow k l .heap)) (suc i)) 0) ≡ zeroes (take (4 * s - 2) (drop (4 * g + 2) l))
+  -- the words behind a run's two, as they stand in the heap
+  tail-zero : (s : ℕ) → 1 ≤ s → g + s ≤ 64 * k → all (4 * s - 2) (λ i. eqb (nth (drop (suc (4 * g)) (narrow k l .heap)) (suc i)) 0) ≡ zeroes (take (4 * s - 2) (drop (4 * g + 2) (narrow k l .heap)))
   unfolding word
   tail-zero s a b =
       all-cong (4 * s - 2) _ _ (λ i h.
       let e : 4 * g + (1 + suc i) ≡ 4 * g + 2 + i = omega arith in
-      rw (tail-at (suc i), e, ← (get-heap k l (4 * g + 2 + i) (omega arith))))
-      ∙ sym (zero-stretch l (4 * g + 2) (4 * s - 2) (omega (arith, z .long)))
+      rw (tail-at (suc i), e))
+      ∙ sym (zero-stretch (narrow k l .heap) (4 * g + 2) (4 * s - 2) (omega (arith, narrow-lengths k l z .heap-length)))
 
   module _ (next : ℕ) (run : Bool) (s : ℕ) (es : s ≡ word (narrow k l) g 0) where
-    run-is : runAt (narrow k l) g next run ≡ (runHeadOk k g next run s && (clear (narrow k l) (g + 1) (s - 1) && zeroes (take (4 * s - 2) (drop (4 * g + 2) l))))
+    run-is : runAt (narrow k l) g next run ≡ (runHeadOk k g next run s && (clear (narrow k l) (g + 1) (s - 1) && zeroes (take (4 * s - 2) (drop (4 * g + 2) (narrow k l .heap)))))
     unfolding runAt piece
     run-is = rw (← es) (same-test _ _ to from)
       where
@@ -136,7 +135,7 @@ module _ (k : ℕ) (l : List ℕ) (z : Sized k l) (g : ℕ) (hg : g < 64 * k) wh
         ws = drop (suc (4 * g)) (narrow k l .heap)
 
         to : every (leb 1 s ∷ leb (4 * s) (suc (length ws)) ∷ bare (isStart (narrow k l)) g s ∷ not run ∷ eqb g next ∷ all (4 * s - 2) (λ i. eqb (nth ws (suc i)) 0) ∷ []) ≡ true
-            → (runHeadOk k g next run s && (clear (narrow k l) (g + 1) (s - 1) && zeroes (take (4 * s - 2) (drop (4 * g + 2) l)))) ≡ true
+            → (runHeadOk k g next run s && (clear (narrow k l) (g + 1) (s - 1) && zeroes (take (4 * s - 2) (drop (4 * g + 2) (narrow k l .heap))))) ≡ true
         to e =
             let a : 1 ≤ s = leb-true _ _ (every-use _ e 0) in
             let b : 4 * s ≤ suc (length ws) = leb-true _ _ (every-use _ e 1) in
@@ -144,7 +143,7 @@ module _ (k : ℕ) (l : List ℕ) (z : Sized k l) (g : ℕ) (hg : g < 64 * k) wh
             and-join _ _ (and-join _ _ (and-join _ _ (and-join _ _ (every-use _ e 3) (every-use _ e 4)) (le-leb _ _ a)) (le-leb _ _ i))
             (and-join _ _ (sym (bare-is s) ∙ every-use _ e 2) (sym (tail-zero s a i) ∙ every-use _ e 5))
 
-        from : (runHeadOk k g next run s && (clear (narrow k l) (g + 1) (s - 1) && zeroes (take (4 * s - 2) (drop (4 * g + 2) l)))) ≡ true
+        from : (runHeadOk k g next run s && (clear (narrow k l) (g + 1) (s - 1) && zeroes (take (4 * s - 2) (drop (4 * g + 2) (narrow k l .heap))))) ≡ true
             → every (leb 1 s ∷ leb (4 * s) (suc (length ws)) ∷ bare (isStart (narrow k l)) g s ∷ not run ∷ eqb g next ∷ all (4 * s - 2) (λ i. eqb (nth ws (suc i)) 0) ∷ []) ≡ true
         from e =
             let a = and-split _ _ e in
@@ -160,7 +159,7 @@ module _ (k : ℕ) (l : List ℕ) (z : Sized k l) (g : ℕ) (hg : g < 64 * k) wh
     pub run-no : not (runHeadOk k g next run s) ≡ true → false ≡ runAt (narrow k l) g next run
     run-no h = rw (run-is, not-true (runHeadOk k g next run s) h)
 
-    pub run-yes : (a b : Bool) → not (runHeadOk k g next run s) ≡ false → a ≡ clear (narrow k l) (g + 1) (s - 1) → b ≡ zeroes (take (4 * s - 2) (drop (4 * g + 2) l)) → (a && b) ≡ runAt (narrow k l) g next run
+    pub run-yes : (a b : Bool) → not (runHeadOk k g next run s) ≡ false → a ≡ clear (narrow k l) (g + 1) (s - 1) → b ≡ zeroes (take (4 * s - 2) (drop (4 * g + 2) (narrow k l .heap))) → (a && b) ≡ runAt (narrow k l) g next run
     run-yes a b h p q = rw (run-is, not-false (runHeadOk k g next run s) h, p, q)
 
   -- ---- a piece is an object or a run

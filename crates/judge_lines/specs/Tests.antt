@@ -1,17 +1,13 @@
 -- Lines of "undamaged" by index, as the code asks them.
 use mathlib.Core.Path.{_≡_}
 use mathlib.Core.Bool.{Bool, true, false, not, cond}
-use mathlib.Core.List.{List, [], _∷_}
+use mathlib.Core.List.{[], _∷_}
 use Prim.Native.Nat.{ℕ, suc, _+_, _*_, _≤_, _<_}
 use lib.Dec.{eqb, ltb}
 use lib.ListN.{take, drop}
 use Rattle.model.specs.Base.{nth, all, every, distinct, eachPiece, zeroes, testBit}
 use Rattle.model.specs.Image.{Image, granules, word, isStart, links, link, count, entry, entries, scanned}
 use Rattle.model.specs.Undamaged.{piece, nilOrStart, markOk, entryOk, packetOk, tracerOk, heldAt, heldOnce}
-
--- word i of the list is 0
-unfoldable pub isZero : List ℕ → ℕ → Bool
-isZero l i = eqb (nth l i) 0
 
 -- bit j + i of the word is 0
 unfoldable pub bitClear : ℕ → ℕ → ℕ → Bool
@@ -62,10 +58,6 @@ module _ (m : Image) where
 
   unfoldable pub entryAt : ℕ → ℕ → Bool
   entryAt p e = entryOk m (ltb e (count m p)) (entry m p e)
-
-  -- the entries of packet p
-  unfoldable pub packetEntries : ℕ → List ℕ
-  packetEntries p = take (count m p) (drop (32 * p + 2) (m .packets))
 
   -- places x and y hold no packet in common
   unfoldable pub apart : ℕ → ℕ → Bool

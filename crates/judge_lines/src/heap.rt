@@ -108,7 +108,7 @@ pub fn run_ok(im: &[u16], k: usize, g: usize, next: usize, run: bool) -> bool
     if !fits {
         return false;
     }
-    crate::bare::is_clear(im, k, g + 1, s - 1) & crate::bare::run_zero(im, k, g, s)
+    crate::bare::is_clear(im, k, g + 1, s - 1) & image::parts::run_zero(im, k, g, s)
 }
 
 pub fn piece_ok(im: &[u16], k: usize, g: usize, next: usize, run: bool) -> bool

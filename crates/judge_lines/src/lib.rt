@@ -115,9 +115,9 @@ pub fn is_idle(im: &[u16], k: usize) -> bool
     requires { ⌜ Sized k (now im) ⌝ }
     ensures { λ r. ⌜ r ≡ idle (narrow k (now (im .entry))) ⌝ }
 {
-    bare::zero_marks(im, k)
-        & bare::zero_packets(im, k)
-        & bare::zero_tracers(im, k)
+    image::parts::zero_marks(im, k)
+        & image::parts::zero_packets(im, k)
+        & image::parts::zero_tracers(im, k)
         & all_unscanned(im, k)
 }
 

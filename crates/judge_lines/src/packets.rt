@@ -3,11 +3,12 @@ ghost use mathlib.Core.Path.{_≡_};
 ghost use mathlib.Core.Bool.{not};
 ghost use Prim.Native.Nat.{_/_, _<_};
 ghost use lib.ListN.{length};
-ghost use Rattle.model.specs.Base.{all, elem, distinct, bit, setBit};
+ghost use Rattle.model.specs.Base.{all, distinct, bit, setBit};
 ghost use Rattle.model.specs.Image.{entries};
 ghost use Rattle.model.specs.Undamaged.{entered};
 ghost use Rattle.image.specs.Sized.{Sized, narrow};
-ghost use Rattle.judge_lines.specs.Tests.{entryAt, packetAt, packetEntries, Packed};
+ghost use Rattle.image.specs.Reading.{packetEntries};
+ghost use Rattle.judge_lines.specs.Tests.{entryAt, packetAt, Packed};
 ghost use Rattle.judge_lines.specs.Once.{Once};
 
 // ---- each packet
@@ -119,30 +120,6 @@ pub fn once_ok(im: &[u16], k: usize) -> bool
 
 // ---- whether g is entered
 
-pub fn has(s: &[u16], g: u16) -> bool
-    ensures { λ r. ⌜ r ≡ elem g (now (s .entry)) ⌝ }
-{
-    let mut found = false;
-    let mut i = 0;
-    while i < s.len() {
-        found = found | (g == s[i]);
-        i += 1;
-    }
-    found
-}
-
-pub fn in_packet(im: &[u16], k: usize, p: usize, g: u16) -> bool
-    requires { ⌜ Sized k (now im) ⌝ }
-    requires { ⌜ Packed (narrow k (now im)) ⌝ }
-    requires { ⌜ p < 32 ⌝ }
-    ensures { λ r. ⌜ r ≡ elem g (packetEntries (narrow k (now (im .entry))) p) ⌝ }
-{
-    let n = image::packet_word(im, k, 32 * p) as usize;
-    let a = 265 * k + 256 + (32 * p + 2);
-    let e = a + n;
-    has(&im[a..e], g)
-}
-
 pub fn is_entered(im: &[u16], k: usize, g: u16) -> bool
     requires { ⌜ Sized k (now im) ⌝ }
     requires { ⌜ Packed (narrow k (now im)) ⌝ }
@@ -151,7 +128,7 @@ pub fn is_entered(im: &[u16], k: usize, g: u16) -> bool
     let mut found = false;
     let mut p = 0;
     while p < 32 {
-        found = found | in_packet(im, k, p, g);
+        found = found | image::parts::in_packet(im, k, p, g);
         p += 1;
     }
     found

@@ -12,8 +12,6 @@ use Rattle.model.specs.Collect.{putHand, putCard}
 use Rattle.packets.specs.declared.tracer.Tracer.{Tracer}
 use Rattle.packets.specs.Tracers.{tracerAt, withInput, withOutput, withHand, withCard, withTracer}
 use Rattle.packets.proofs.Writes.{Write, write, Below, inStretch, inList, writes}
-use Rattle.image.specs.Sized.{Sized, narrow}
-use Rattle.image.proofs.Sections.{narrow-lengths}
 
 -- the six words from o on
 abbrev six : List ℕ → ℕ → List ℕ
@@ -66,10 +64,6 @@ module _ (m : Image) (t : ℕ) (h : t < 8) (l : length (m .tracers) ≡ 64) wher
   unfolding withTracer withInput tracerAt setTracer withTracers put input output hand nextLink handCard nextGranule
   input-written v = ap (withTracers m) (six-writes (m .tracers) (8 * t) v _ _ _ _ _ (write 0 v ∷ []) (omega arith) (omega arith, tt) refl)
 
-  pub output-written : (v : ℕ) → withTracer m t (withOutput (tracerAt m t) v) ≡ setTracer m t 1 v
-  unfolding withTracer withOutput tracerAt setTracer withTracers put input output hand nextLink handCard nextGranule
-  output-written v = ap (withTracers m) (six-writes (m .tracers) (8 * t) _ v _ _ _ _ (write 1 v ∷ []) (omega arith) (omega arith, tt) refl)
-
   pub hand-written : (g i : ℕ) → withTracer m t (withHand (tracerAt m t) g i) ≡ putHand m t g i
   unfolding withTracer withHand tracerAt putHand setTracer withTracers put input output hand nextLink handCard nextGranule
   hand-written g i = ap (withTracers m) (six-writes (m .tracers) (8 * t) _ _ g i _ _ (write 2 g ∷ write 3 i ∷ []) (omega arith) (omega arith, (omega arith, tt)) refl)
@@ -82,21 +76,3 @@ module _ (m : Image) (t : ℕ) (h : t < 8) (l : length (m .tracers) ≡ 64) wher
   unfolding withTracer withOutput withInput tracerAt setTracer withTracers put input output hand nextLink handCard nextGranule
   input-output-written v w =
       ap (withTracers m) (six-writes (m .tracers) (8 * t) v w _ _ _ _ (write 0 v ∷ write 1 w ∷ []) (omega arith) (omega arith, (omega arith, tt)) refl)
-
--- ---- the same as the code has it
-
-module _ (k : ℕ) (ws : List ℕ) (z : Sized k ws) (t : ℕ) (h : t < 8) (x y : Tracer) (e : x ≡ tracerAt (narrow k ws) t) (n : Image) (f : n ≡ withTracer (narrow k ws) t y) where
-  long : length (narrow k ws .tracers) ≡ 64
-  long = narrow-lengths k ws z .tracers-length
-
-  pub hand-done : (g i : ℕ) → y ≡ withHand x g i → n ≡ putHand (narrow k ws) t g i
-  hand-done g i s = f ∙ rw (s, e) (hand-written (narrow k ws) t h long g i)
-
-  pub card-done : (c d : ℕ) → y ≡ withCard x c d → n ≡ putCard (narrow k ws) t c d
-  card-done c d s = f ∙ rw (s, e) (card-written (narrow k ws) t h long c d)
-
-  pub input-done : (v : ℕ) → y ≡ withInput x v → n ≡ setTracer (narrow k ws) t 0 v
-  input-done v s = f ∙ rw (s, e) (input-written (narrow k ws) t h long v)
-
-  pub output-done : (v : ℕ) → y ≡ withOutput x v → n ≡ setTracer (narrow k ws) t 1 v
-  output-done v s = f ∙ rw (s, e) (output-written (narrow k ws) t h long v)

@@ -1,8 +1,6 @@
 // Tracers by value: "input packet + 1, output packet + 1, object in hand, its next link, card in hand + 1, next granule on it".
 ghost use mathlib.Core.Path.{_≡_};
 ghost use Prim.Native.Nat.{ℕ, _+_, _*_, _<_};
-ghost use Rattle.model.specs.Image.{setTracer};
-ghost use Rattle.model.specs.Collect.{putHand, putCard};
 ghost use Rattle.image.specs.Sized.{Sized, narrow};
 ghost use Rattle.packets.specs.Tracers.{tracerAt, withInput, withOutput, withHand, withCard, withTracer};
 
@@ -75,48 +73,4 @@ pub fn write_tracer(im: &mut [u16], k: usize, t: usize, x: Tracer)
     image::set_tracer(im, k, t, 3, x.link);
     image::set_tracer(im, k, t, 4, x.card);
     image::set_tracer(im, k, t, 5, x.granule);
-}
-
-// Tracer t takes object g in hand, link i its next; 0 and 0: its hand is empty.
-pub fn put_hand(im: &mut [u16], k: usize, t: usize, g: u16, i: u16)
-    requires { ⌜ Sized k (now im) ⌝ }
-    requires { ⌜ t < 8 ⌝ }
-    ensures { λ _. ⌜ narrow k (now (im .exit)) ≡ putHand (narrow k (now (im .entry))) t g i ⌝ }
-{
-    let x = read_tracer(im, k, t);
-    let y = x.with_hand(g, i);
-    write_tracer(im, k, t, y);
-}
-
-// Tracer t takes card c - 1 in hand, granule n its next; 0 and 0: it lets its card go.
-pub fn put_card(im: &mut [u16], k: usize, t: usize, c: u16, n: u16)
-    requires { ⌜ Sized k (now im) ⌝ }
-    requires { ⌜ t < 8 ⌝ }
-    ensures { λ _. ⌜ narrow k (now (im .exit)) ≡ putCard (narrow k (now (im .entry))) t c n ⌝ }
-{
-    let x = read_tracer(im, k, t);
-    let y = x.with_card(c, n);
-    write_tracer(im, k, t, y);
-}
-
-// The input of tracer t goes back, and packet v - 1 becomes its input.
-pub fn put_input(im: &mut [u16], k: usize, t: usize, v: u16)
-    requires { ⌜ Sized k (now im) ⌝ }
-    requires { ⌜ t < 8 ⌝ }
-    ensures { λ _. ⌜ narrow k (now (im .exit)) ≡ setTracer (narrow k (now (im .entry))) t 0 v ⌝ }
-{
-    let x = read_tracer(im, k, t);
-    let y = x.with_input(v);
-    write_tracer(im, k, t, y);
-}
-
-// The output of tracer t goes back, and packet v - 1 becomes its output.
-pub fn put_output(im: &mut [u16], k: usize, t: usize, v: u16)
-    requires { ⌜ Sized k (now im) ⌝ }
-    requires { ⌜ t < 8 ⌝ }
-    ensures { λ _. ⌜ narrow k (now (im .exit)) ≡ setTracer (narrow k (now (im .entry))) t 1 v ⌝ }
-{
-    let x = read_tracer(im, k, t);
-    let y = x.with_output(v);
-    write_tracer(im, k, t, y);
 }

@@ -1,9 +1,9 @@
 use borrow.Author.Needs.{needs}
 use Rattle.judge_lines.specs.Tests.{spareOk}
-use Rattle.judge_lines.proofs.Loops.{and-true}
 use Rattle.model.specs.Base.{every}
 use Rattle.model.specs.Image.{running}
 use Rattle.model.specs.Undamaged.{generalOk}
+use mathlib.Core.Bool.{and-true}
 use Rattle.judge_lines.proofs.general_ok.Statement.{statement}
 use Rattle.judge_lines.proofs.general_ok.Tie as tie
 

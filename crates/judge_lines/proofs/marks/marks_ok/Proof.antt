@@ -1,5 +1,4 @@
 use Rattle.judge_lines.specs.Tests.{wordwise}
-use Rattle.judge_lines.proofs.Loops.{Gathered, g-none, g-end, g-more}
 use Rattle.judge_lines.proofs.MarkWords.{by-words, mark-word}
 use Rattle.model.specs.Undamaged.{markOk}
 use Rattle.image.specs.Sized.{narrow}
@@ -7,6 +6,7 @@ use Prim.Native.Nat.{_*_, _-_}
 use native.Mathlib.Omega.{arith}
 use borrow.Author.Needs.{needs}
 use Rattle.model.specs.Cases.{ok}
+use Rattle.image.proofs.Reading.{Gathered, g-none, g-end, g-more}
 use Rattle.judge_lines.proofs.marks.marks_ok.Statement.{statement}
 use Rattle.judge_lines.proofs.marks.marks_ok.Tie as tie
 

@@ -1,4 +1,4 @@
-use Rattle.judge_lines.proofs.Searched.{Reached, e-none, e-more, e-end}
+use Rattle.judge_lines.proofs.Searched.{counted, Reached, e-none, e-more, e-end}
 use Prim.Native.Nat.{_-_}
 use borrow.Author.Needs.{needs}
 use Rattle.judge_lines.proofs.packets.is_entered.Statement.{statement}
@@ -14,7 +14,7 @@ loop-holds : tie.Need-loop-holds Inv-loop μ-loop
 loop-holds c = search e-none
 
 in-packet-requires : tie.Need-in-packet-requires Inv-loop μ-loop
-in-packet-requires c κs = search needs
+in-packet-requires c κs = (search needs, (search needs, search counted))
 
 add-p : tie.Need-add-p Inv-loop μ-loop
 add-p c = search needs

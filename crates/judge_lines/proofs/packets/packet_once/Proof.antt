@@ -1,10 +1,10 @@
-use Rattle.judge_lines.specs.Tests.{packetEntries}
 use Rattle.judge_lines.proofs.Searched.{Along, a-none, a-place, a-more, a-end, few}
 use Rattle.model.specs.Cases.{ok}
 use Rattle.image.specs.Sized.{narrow}
 use Prim.Native.Nat.{_-_}
 use borrow.Author.Needs.{needs}
 use native.Mathlib.Omega.{arith}
+use Rattle.image.specs.Reading.{packetEntries}
 use Rattle.judge_lines.proofs.packets.packet_once.Statement.{statement}
 use Rattle.judge_lines.proofs.packets.packet_once.Tie as tie
 

@@ -1,7 +1,8 @@
 use borrow.Author.Needs.{needs}
-use Rattle.judge_lines.proofs.Sections.{tracers-zero}
-use Rattle.judge_lines.proofs.bare.zero_tracers.Statement.{statement}
-use Rattle.judge_lines.proofs.bare.zero_tracers.Tie as tie
+use Rattle.image.proofs.Reading.{run-zero}
+use Rattle.model.specs.Base.{zeros}
+use Rattle.image.proofs.parts.run_zero.Statement.{statement}
+use Rattle.image.proofs.parts.run_zero.Tie as tie
 
 mul-a : tie.Need-mul-a
 mul-a c = search needs
@@ -11,6 +12,9 @@ add-a c = search needs
 
 mul-e : tie.Need-mul-e
 mul-e c = search needs
+
+mul-e-2 : tie.Need-mul-e-2
+mul-e-2 c = search needs
 
 add-e : tie.Need-add-e
 add-e c = search needs
@@ -31,15 +35,16 @@ zeros-requires : tie.Need-zeros-requires
 zeros-requires c κs = search needs
 
 returns : tie.Need-returns
-returns c = search tracers-zero
+returns c = run-zero _ _ _ _ _ (c .before .before .before .pre .1 .0) (c .before .before .before .pre .1 .1) (c .zeros .ensures)
 
-pub zero-tracers-spec : {M : Type 1} → statement M
-zero-tracers-spec =
+pub run-zero-spec : {M : Type 1} → statement M
+run-zero-spec =
     tie.close
     (tie.spec
     mul-a
     add-a
     mul-e
+    mul-e-2
     add-e
     mul-zeros
     sub-zeros

@@ -1,8 +1,7 @@
 use borrow.Author.Needs.{needs}
-use Rattle.judge_lines.proofs.Stretch.{run-zero}
-use Rattle.model.specs.Base.{zeros}
-use Rattle.judge_lines.proofs.bare.run_zero.Statement.{statement}
-use Rattle.judge_lines.proofs.bare.run_zero.Tie as tie
+use Rattle.image.proofs.Reading.{tracers-zero}
+use Rattle.image.proofs.parts.zero_tracers.Statement.{statement}
+use Rattle.image.proofs.parts.zero_tracers.Tie as tie
 
 mul-a : tie.Need-mul-a
 mul-a c = search needs
@@ -12,9 +11,6 @@ add-a c = search needs
 
 mul-e : tie.Need-mul-e
 mul-e c = search needs
-
-mul-e-2 : tie.Need-mul-e-2
-mul-e-2 c = search needs
 
 add-e : tie.Need-add-e
 add-e c = search needs
@@ -35,16 +31,15 @@ zeros-requires : tie.Need-zeros-requires
 zeros-requires c κs = search needs
 
 returns : tie.Need-returns
-returns c = run-zero _ _ _ _ (c .before .before .before .pre .1 .0) (c .zeros .ensures)
+returns c = search tracers-zero
 
-pub run-zero-spec : {M : Type 1} → statement M
-run-zero-spec =
+pub zero-tracers-spec : {M : Type 1} → statement M
+zero-tracers-spec =
     tie.close
     (tie.spec
     mul-a
     add-a
     mul-e
-    mul-e-2
     add-e
     mul-zeros
     sub-zeros

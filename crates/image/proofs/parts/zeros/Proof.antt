@@ -1,14 +1,13 @@
-use Rattle.judge_lines.specs.Tests.{isZero}
-use Rattle.judge_lines.proofs.Loops.{Gathered, g-none, g-more, g-end}
-use Rattle.judge_lines.proofs.Stretch.{zeroes-all}
+use Rattle.image.specs.Reading.{isZero}
+use Rattle.image.proofs.Reading.{Gathered, g-none, g-more, g-end, zeroes-all}
 use Rattle.model.specs.Base.{nth}
 use Prim.Native.Nat.{_-_}
 use mathlib.Core.Path.{refl, _∙_}
 use native.Mathlib.Omega.{arith}
 use borrow.Author.Needs.{needs}
 use lib.ListN.{length}
-use Rattle.judge_lines.proofs.bare.zeros.Statement.{statement}
-use Rattle.judge_lines.proofs.bare.zeros.Tie as tie
+use Rattle.image.proofs.parts.zeros.Statement.{statement}
+use Rattle.image.proofs.parts.zeros.Tie as tie
 
 abbrev Inv-loop : tie.InvT-loop
 Inv-loop s bad₀ i₀ bad i = Gathered (length s) (isZero s) bad i

@@ -1,13 +1,19 @@
 use borrow.Author.Needs.{needs}
-use Rattle.judge_lines.proofs.Sections.{marks-zero}
-use Rattle.judge_lines.proofs.bare.zero_marks.Statement.{statement}
-use Rattle.judge_lines.proofs.bare.zero_marks.Tie as tie
+use Rattle.image.proofs.Reading.{packets-zero}
+use Rattle.image.proofs.parts.zero_packets.Statement.{statement}
+use Rattle.image.proofs.parts.zero_packets.Tie as tie
 
 mul-a : tie.Need-mul-a
 mul-a c = search needs
 
+add-a : tie.Need-add-a
+add-a c = search needs
+
 mul-e : tie.Need-mul-e
 mul-e c = search needs
+
+add-e : tie.Need-add-e
+add-e c = search needs
 
 mul-zeros : tie.Need-mul-zeros
 mul-zeros c = search needs
@@ -25,14 +31,16 @@ zeros-requires : tie.Need-zeros-requires
 zeros-requires c κs = search needs
 
 returns : tie.Need-returns
-returns c = search marks-zero
+returns c = search packets-zero
 
-pub zero-marks-spec : {M : Type 1} → statement M
-zero-marks-spec =
+pub zero-packets-spec : {M : Type 1} → statement M
+zero-packets-spec =
     tie.close
     (tie.spec
     mul-a
+    add-a
     mul-e
+    add-e
     mul-zeros
     sub-zeros
     part-zeros-start

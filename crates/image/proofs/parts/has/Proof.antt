@@ -1,9 +1,9 @@
-use Rattle.judge_lines.proofs.Searched.{Met, met-none, met-more, met-end}
+use Rattle.image.proofs.Reading.{Met, met-none, met-more, met-end}
 use Prim.Native.Nat.{_-_}
 use borrow.Author.Needs.{needs}
 use lib.ListN.{length}
-use Rattle.judge_lines.proofs.packets.has.Statement.{statement}
-use Rattle.judge_lines.proofs.packets.has.Tie as tie
+use Rattle.image.proofs.parts.has.Statement.{statement}
+use Rattle.image.proofs.parts.has.Tie as tie
 
 abbrev Inv-loop : tie.InvT-loop
 Inv-loop s g found₀ i₀ found i = Met s g found i

@@ -1,8 +1,9 @@
+use Rattle.model.specs.Image.{count}
 use borrow.Author.Needs.{needs}
-use Rattle.judge_lines.proofs.Searched.{in-packet, few}
+use Rattle.image.proofs.Reading.{in-packet}
 use native.Mathlib.Omega.{arith}
-use Rattle.judge_lines.proofs.packets.in_packet.Statement.{statement}
-use Rattle.judge_lines.proofs.packets.in_packet.Tie as tie
+use Rattle.image.proofs.parts.in_packet.Statement.{statement}
+use Rattle.image.proofs.parts.in_packet.Tie as tie
 
 mul-packet-word : tie.Need-mul-packet-word
 mul-packet-word c = search needs
@@ -41,7 +42,8 @@ part-has-start : tie.Need-part-has-start
 part-has-start c = search needs
 
 part-has-end : tie.Need-part-has-end
-part-has-end c = omega (arith, few _ _ (c .before .before .pre .0) (c .before .before .pre .1 .0) _ (c .before .before .pre .1 .1) _ (c .packet-word .ensures))
+unfolding count
+part-has-end c = omega (arith, c .before .before .pre .1 .1, c .packet-word .ensures)
 
 has-requires : tie.Need-has-requires
 has-requires c κs = search needs

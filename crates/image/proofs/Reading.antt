@@ -1,0 +1,145 @@
+-- Parts of the slice read as a whole: words that are 0, gathered by a loop, and a granule sought among the entries of a packet.
+use Rattle.image.specs.Reading.{isZero, packetEntries}
+use Rattle.image.specs.Sized.{Sized, narrow}
+use Rattle.image.proofs.Split.{place, split-part}
+use Rattle.image.proofs.Stretches.{part-packet}
+use Rattle.model.specs.Base.{nth, all, zeroes, elem}
+use Rattle.model.specs.Image.{lengths, split, image, imageOf, count}
+use Prim.Native.Nat.{ℕ, zero, suc, _+_, _*_, _-_, _≤_, _<_}
+use mathlib.Core.Path.{_≡_, refl, sym, ap, _∙_}
+use mathlib.Core.Bool.{Bool, true, false, _&&_, _||_, and-true, and-assoc, or-false, or-assoc}
+use mathlib.Core.List.{List, [], _∷_, _++_}
+use native.Mathlib.Omega.{arith}
+use lib.Dec.{eqb}
+use lib.ListN.{length, getD, take, drop}
+use lib.Seq.{take-all, take-suc, drop-drop}
+use borrow.Author.Tests.{eq-eqb, ne-eqb}
+use lib.Bits.{bitOr, and-le-l, and-le-r, or-add-and}
+use native.Mathlib.Numerals.{add-one}
+use native.Mathlib.Decide.{ℕ-discrete}
+
+-- ---- all of the numbers below n
+
+pub all-none : (p : ℕ → Bool) → true ≡ all 0 p
+unfolding all
+all-none p = refl
+
+pub all-first : (n : ℕ) (p : ℕ → Bool) → all (suc n) p ≡ (p 0 && all n (λ i. p (suc i)))
+unfolding all
+all-first zero p = sym (and-true (p 0))
+all-first (suc n) p = rw (all-first n p) (and-assoc (p 0) _ _)
+
+-- ---- `bad` is 0 as long as all below i passed
+
+pub record Gathered (n : ℕ) (p : ℕ → Bool) (bad i : ℕ) : Type 0 where
+  pub within : i ≤ n
+  pub so-far : eqb bad 0 ≡ all i p
+
+pub g-none : {n : ℕ} {p : ℕ → Bool} → Gathered n p 0 0
+unfolding all
+g-none = record { within = omega arith; so-far = eq-eqb 0 0 refl }
+
+or-zero : (a b : ℕ) → eqb (bitOr a b) 0 ≡ (eqb a 0 && eqb b 0)
+or-zero a b = go (ℕ-discrete a 0) (ℕ-discrete b 0)
+  where
+    go : Dec (a ≡ 0) → Dec (b ≡ 0) → eqb (bitOr a b) 0 ≡ (eqb a 0 && eqb b 0)
+    go (yes p) (yes q) =
+        let e : bitOr a b ≡ 0 = omega (arith, or-add-and a b) in
+        rw (eq-eqb (bitOr a b) 0 e, eq-eqb a 0 p, eq-eqb b 0 q)
+    go (no p) d =
+        let n : bitOr a b ≡ 0 → ⊥ = λ e. p (omega (arith, or-add-and a b, and-le-r a b)) in
+        rw (ne-eqb (bitOr a b) 0 n, ne-eqb a 0 p)
+    go (yes p) (no q) =
+        let n : bitOr a b ≡ 0 → ⊥ = λ e. q (omega (arith, or-add-and a b, and-le-l a b)) in
+        rw (ne-eqb (bitOr a b) 0 n, eq-eqb a 0 p, ne-eqb b 0 q)
+
+pub g-more : (n : ℕ) (p : ℕ → Bool) (bad i x : ℕ) → Gathered n p bad i → i < n → eqb x 0 ≡ p i → Gathered n p (bitOr bad x) (i + 1)
+unfolding all
+g-more n p bad i x s h e = rw add-one (record { within = omega arith; so-far = rw (or-zero bad x, s .so-far, e) })
+
+pub g-end : {n : ℕ} {p : ℕ → Bool} {bad i : ℕ} → Gathered n p bad i → n ≤ i → eqb bad 0 ≡ all n p
+g-end {n} {p} {bad} {i} s h = let e : i ≡ n = omega (arith, s .within) in rw e at (s .so-far)
+
+-- ---- words that are 0
+
+pub zeroes-all : (l : List ℕ) → all (length l) (isZero l) ≡ zeroes l
+unfolding zeroes isZero nth
+zeroes-all [] = sym (all-none _)
+zeroes-all (x ∷ l) = all-first (length l) (isZero (x ∷ l)) ∙ ap (λ b. eqb x 0 && b) (zeroes-all l)
+
+-- ---- sections, and parts of them, by their stretch of the slice
+
+split-is : (ns ws : List ℕ) (s : ℕ) → s < length ns → getD (split ns ws) s [] ≡ take (getD ns s 0) (drop (place ns s) ws)
+unfolding split
+split-is [] ws s h = absurd (omega arith)
+split-is (n ∷ ns) ws zero h = refl
+split-is (n ∷ ns) ws (suc s) h = split-is ns (drop n ws) s (omega arith) ∙ rw (drop-drop (place ns s) n ws)
+
+module _ (k : ℕ) (ws : List ℕ) where
+  section-at : (s n o : ℕ) → s < 9 → getD (lengths 16 k) s 0 ≡ n → place (lengths 16 k) s ≡ o → getD (split (lengths 16 k) ws) s [] ≡ take n (drop o ws)
+  unfolding lengths
+  section-at s n o h a b = split-is (lengths 16 k) ws s h ∙ rw (a, b)
+
+  marks-at : narrow k ws .marks ≡ take (4 * k) (drop (260 * k) ws)
+  unfolding narrow imageOf image lengths
+  marks-at = section-at 2 (4 * k) (260 * k) (omega arith) (omega arith) (omega arith)
+
+  packets-at : narrow k ws .packets ≡ take 1024 (drop (265 * k + 256) ws)
+  unfolding narrow imageOf image lengths
+  packets-at = section-at 5 1024 (265 * k + 256) (omega arith) refl (omega arith)
+
+  tracers-at : narrow k ws .tracers ≡ take 64 (drop (265 * k + 1280) ws)
+  unfolding narrow imageOf image lengths
+  tracers-at = section-at 6 64 (265 * k + 1280) (omega arith) refl (omega arith)
+
+  module _ (r : Bool) where
+    section-zero : (s : List ℕ) (o n e : ℕ) → s ≡ take n (drop o ws) → e - o ≡ n → r ≡ zeroes (take (e - o) (drop o ws)) → r ≡ zeroes s
+    section-zero s o n e q d h = rw q (rw d at h)
+
+    pub marks-zero : r ≡ zeroes (take (264 * k - 260 * k) (drop (260 * k) ws)) → r ≡ zeroes (narrow k ws .marks)
+    marks-zero h = section-zero (narrow k ws .marks) (260 * k) (4 * k) (264 * k) marks-at (omega arith) h
+
+    pub packets-zero : r ≡ zeroes (take (265 * k + 1280 - (265 * k + 256)) (drop (265 * k + 256) ws)) → r ≡ zeroes (narrow k ws .packets)
+    packets-zero h = section-zero (narrow k ws .packets) (265 * k + 256) 1024 (265 * k + 1280) packets-at (omega arith) h
+
+    pub tracers-zero : r ≡ zeroes (take (265 * k + 1344 - (265 * k + 1280)) (drop (265 * k + 1280) ws)) → r ≡ zeroes (narrow k ws .tracers)
+    tracers-zero h = section-zero (narrow k ws .tracers) (265 * k + 1280) 64 (265 * k + 1344) tracers-at (omega arith) h
+
+-- the words of a run of s granules at g, behind its two
+pub run-zero : (k : ℕ) (ws : List ℕ) (g s : ℕ) (r : Bool) → 1 ≤ s → g + s ≤ 64 * k → r ≡ zeroes (take (4 * g + 4 * s - (4 * g + 2)) (drop (4 * g + 2) ws)) → r ≡ zeroes (take (4 * s - 2) (drop (4 * g + 2) (narrow k ws .heap)))
+unfolding narrow imageOf image lengths split
+run-zero k ws g s r h f e =
+    let n : 4 * g + 4 * s - (4 * g + 2) ≡ 4 * s - 2 = omega arith in
+    let p : place (lengths 16 k) 0 + (4 * g + 2) ≡ 4 * g + 2 = omega arith in
+    (rw n at e) ∙ ap zeroes (sym (rw p at (split-part (lengths 16 k) ws 0 (4 * g + 2) (4 * s - 2) (omega arith))))
+
+-- ---- a word among the words so far
+
+pub elem-append : (g : ℕ) (l r : List ℕ) → elem g (l ++ r) ≡ (elem g l || elem g r)
+unfolding elem
+elem-append g [] r = refl
+elem-append g (x ∷ l) r = rw (elem-append g l r) (sym (or-assoc (eqb g x) _ _))
+
+pub record Met (s : List ℕ) (g : ℕ) (found : Bool) (i : ℕ) : Type 0 where
+  pub within : i ≤ length s
+  pub so-far : found ≡ elem g (take i s)
+
+pub met-none : {s : List ℕ} {g : ℕ} → Met s g false 0
+unfolding elem
+met-none = record { within = omega arith; so-far = refl }
+
+pub met-more : (s : List ℕ) (g : ℕ) (found : Bool) (i : ℕ) → Met s g found i → i < length s → Met s g (found || eqb g (getD s i 0)) (i + 1)
+unfolding elem
+met-more s g found i m h = rw add-one (record { within = omega arith; so-far = rw (take-suc s i 0 h, elem-append g (take i s) (getD s i 0 ∷ []), ← (m .so-far), or-false) })
+
+pub met-end : (s : List ℕ) (g : ℕ) (found : Bool) (i : ℕ) → Met s g found i → length s ≤ i → found ≡ elem g s
+met-end s g found i m h = rw (take-all i s h) at (m .so-far)
+
+-- ---- a granule among the entries of a packet
+
+pub in-packet : (k : ℕ) (ws : List ℕ) (p g n a : ℕ) (r : Bool) → Sized k ws → p < 32 → count (narrow k ws) p ≤ 30 → n ≡ nth (narrow k ws .packets) (32 * p) → a ≡ 265 * k + 256 + (32 * p + 2) → r ≡ elem g (take (a + n - a) (drop a ws)) → r ≡ elem g (packetEntries (narrow k ws) p)
+unfolding packetEntries count
+in-packet k ws p g n a r z h b en ea e =
+    let q : a + n - a ≡ n = omega arith in
+    let f : 265 * k + 256 + 32 * p + 2 ≡ a = omega arith in
+    rw (← en) ((rw q at e) ∙ ap (elem g) (rw f at (part-packet k ws [] z p h 2 n (omega arith))))
