@@ -2,20 +2,20 @@
 use mathlib.Core.Path.{_≡_, refl, sym, ap, _∙_}
 use mathlib.Core.Bool.{Bool, true, false, not}
 use mathlib.Core.List.{List, [], _∷_}
-use Prim.Native.Nat.{ℕ, zero, suc, _+_, _*_, _/_, _%_}
+use Prim.Native.Nat.{ℕ, _*_, _/_, _%_}
 use lib.Dec.{eqb}
 use lib.ListN.{length}
 use borrow.Author.Tests.{eq-eqb, ne-eqb}
 use Rattle.model.specs.Base.{some, first}
-use Rattle.model.specs.Image.{Image, fits, parts, words}
+use Rattle.model.specs.Image.{fits, parts, words}
 use Rattle.model.specs.Undamaged.{undamaged}
 use Rattle.model.specs.Records.{recordBytes, records}
-use Rattle.model.specs.Steps.{Event, run, after, answersOf}
-use Rattle.model.specs.Batch.{Batch, misfit, callNumber, events, batchWith, batchAt, batchOf}
+use Rattle.model.specs.Steps.{run, after, answersOf}
+use Rattle.model.specs.Batch.{misfit, callNumber, events, batchWith, batchAt, batchOf}
 use Rattle.theory.specs.Lines.{Undamaged}
 use Rattle.theory.proofs.Passing.{parts-pass}
 use Rattle.image.specs.Size.{sizeOf}
-use Rattle.image.specs.Sized.{Sized, narrow}
+use Rattle.image.specs.Sized.{narrow}
 use Rattle.image.specs.declared.size.Size.{Size}
 use Rattle.image.specs.declared.size.Size.the-variants.{Cards, Misfit}
 use Rattle.image.proofs.Sections.{words-narrow}

@@ -1,10 +1,10 @@
 -- What the contract of `batch` says over a row of calls: demand 3, and an undamaged image is handed back undamaged.
 use mathlib.Core.Path.{_≡_, refl, sym, ap, subst, _∙_}
-use mathlib.Core.List.{List, [], _∷_, _++_, map, List·Memᴰ, List·Memᴰ·cases-cons}
+use mathlib.Core.List.{List, _∷_, _++_, map, List·Memᴰ, List·Memᴰ·cases-cons}
 use mathlib.Core.Logic.{⊎-elim}
 use Prim.Native.Nat.{ℕ, zero, suc}
-use Rattle.model.specs.Steps.{Event, answersOf}
-use Rattle.model.specs.Batch.{Batch, callNumber, events, batchWith, batchAt, batchOf, judgeOf}
+use Rattle.model.specs.Steps.{answersOf}
+use Rattle.model.specs.Batch.{Batch, callNumber, batchWith, batchAt, batchOf, judgeOf}
 use Rattle.model.specs.Claim.{Lent, eventsOf, history, results, Claim}
 use Rattle.model.specs.Undamaged.{judgeAt}
 use Rattle.theory.proofs.Kept.{batch-judged}

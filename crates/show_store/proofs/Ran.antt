@@ -1,14 +1,14 @@
 -- The invariant of the batch's loop: the records so far have run, and their answers stand before what is left of the answer space.
 use mathlib.Core.Path.{_≡_, refl, sym, ap, _∙_}
 use mathlib.Core.List.{List, [], _∷_, _++_, append-assoc, append-nil}
-use Prim.Native.Nat.{ℕ, zero, suc, _+_, _*_, _/_, _%_, _≤_, _<_, zero-le}
+use Prim.Native.Nat.{ℕ, zero, suc, _+_, _*_, _/_, _≤_, _<_, zero-le}
 use native.Mathlib.Omega.{arith}
 use native.Mathlib.Numerals.{add-one}
-use lib.ListN.{length, set, take, drop, length-append, length-drop, drop-of-length-le}
+use lib.ListN.{length, set, drop, length-append, length-drop, drop-of-length-le}
 use lib.Seq.{drop-drop}
 use Rattle.model.specs.Base.{table}
 use Rattle.model.specs.Image.{Image}
-use Rattle.model.specs.Records.{Step, recordBytes, records}
+use Rattle.model.specs.Records.{recordBytes, records}
 use Rattle.model.specs.Steps.{Done, Event, step, run, after, answersOf}
 use Rattle.theory.specs.Lines.{Undamaged}
 use Rattle.theory.proofs.Kept.{step-keeps}

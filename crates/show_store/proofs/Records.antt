@@ -1,14 +1,13 @@
 -- A record of the code is the model's.
 use mathlib.Core.Path.{_≡_, refl, sym, ap, _∙_}
 use mathlib.Core.List.{List, [], _∷_}
-use Prim.Native.Nat.{ℕ, zero, suc, _+_, _*_, _<_, _≤_}
+use Prim.Native.Nat.{ℕ, _+_, _*_, _<_, _≤_}
 use native.Mathlib.Omega.{arith}
-use lib.ListN.{length, getD, take, drop, length-take, length-drop}
-use lib.Seq.{drop-cons, drop-drop, getD-take, getD-drop}
+use lib.ListN.{length, getD, take, drop, length-drop}
+use lib.Seq.{drop-drop, getD-drop}
 use Rattle.model.specs.Base.{nth, zeroes}
-use Rattle.model.specs.Records.{Step, little, stepOf}
+use Rattle.model.specs.Records.{little, stepOf}
 use Rattle.show_store.specs.Record.{requested, Narrow}
-use Rattle.show_store.specs.declared.record.Record.{Record}
 
 two : (l : List ℕ) → 2 ≤ length l → take 2 l ≡ getD l 0 0 ∷ getD l 1 0 ∷ []
 two [] h = absurd (omega arith)

@@ -1,5 +1,5 @@
 -- A record of the code as the model's, and the range of its fields.
-use Prim.Native.Nat.{ℕ, _<_}
+use Prim.Native.Nat.{_<_}
 use Rattle.model.specs.Records.{Step}
 use Rattle.show_store.specs.declared.record.Record.{Record}
 

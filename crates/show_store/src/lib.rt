@@ -4,12 +4,12 @@ ghost use Rattle.model.specs.Batch.{freshOf, judgeOf, batchOf};
 ghost use Rattle.image.specs.Made.{madeOf};
 ghost use Rattle.show_store.specs.Run.{batched};
 
-pub mod run; // run.rt: the records of a batch, one after the other
 pub mod due; // due.rt: kind 14
-pub mod finish; // finish.rt: kind 13
+pub mod finish; // finish.rt: kind 13, as a step
 pub mod perform; // perform.rt: a record's step, by its kind
 pub mod reader; // reader.rt: the step bytes and a position in them
 pub mod record; // record.rt: a step record from its bytes
+pub mod run; // run.rt: the records of a batch, one after the other
 
 // "Making one overwrites a slice of fitting length and gives 0, else gives 1 and writes nothing."
 #[no_mangle]

@@ -1,6 +1,6 @@
 // A step record from its eight bytes.
 ghost use mathlib.Core.Path.{_≡_};
-ghost use Prim.Native.Nat.{ℕ, _+_, _*_, _≤_, _<_};
+ghost use Prim.Native.Nat.{_+_, _*_, _≤_, _<_};
 ghost use lib.ListN.{length, take, drop};
 ghost use Rattle.model.specs.Records.{little, stepOf};
 ghost use Rattle.show_store.specs.Record.{requested, Narrow};

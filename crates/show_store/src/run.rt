@@ -1,6 +1,6 @@
 // The records of a batch, one after the other.
 ghost use mathlib.Core.Path.{_≡_};
-ghost use Prim.Native.Nat.{ℕ, _+_, _*_, _≤_};
+ghost use Prim.Native.Nat.{_+_, _*_, _≤_};
 ghost use lib.ListN.{length};
 ghost use Rattle.model.specs.Records.{records};
 ghost use Rattle.model.specs.Steps.{step, run, after, answersOf};

@@ -4,11 +4,6 @@ use Rattle.image.proofs.Sizes.{cards-sized}
 use native.Mathlib.Omega.{arith}
 use Rattle.show_store.proofs.batch.Statement.{statement}
 use Rattle.show_store.proofs.batch.Tie as tie
-use Rattle.show_store.proofs.batch.Reads as reads
-use Rattle.show_store.proofs.batch.Lts as lts
-use Rattle.image.proofs.size.cards.Reads as cards-reads
-use Rattle.show_store.proofs.run.run_all.Reads as run-all-reads
-use Rattle.judge.proofs.is_undamaged.Reads as is-undamaged-reads
 
 cards-requires : tie.Need-cards-requires
 cards-requires c κs = search needs

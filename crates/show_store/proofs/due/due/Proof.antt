@@ -1,12 +1,8 @@
 use Rattle.mutator.proofs.Chain.{sound-linked}
 use borrow.Author.Needs.{needs}
-use Rattle.show_store.proofs.Dues.{due-unnamed, due-yes, due-no}
+use Rattle.show_store.proofs.WholeStore.{due-unnamed, due-yes, due-no}
 use Rattle.show_store.proofs.due.due.Statement.{statement}
 use Rattle.show_store.proofs.due.due.Tie as tie
-use Rattle.show_store.proofs.due.due.Reads as reads
-use Rattle.show_store.proofs.due.due.Lts as lts
-use Rattle.mutator.proofs.refusals.any_set.Reads as any-set-reads
-use Rattle.image.proofs.runs.free_granules.Reads as free-granules-reads
 
 any-set-requires : tie.Need-any-set-requires
 any-set-requires c κs = search needs

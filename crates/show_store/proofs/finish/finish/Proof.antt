@@ -1,13 +1,8 @@
 use borrow.Author.Needs.{needs}
-use Rattle.show_store.proofs.Finishing.{finish-who, finish-unnamed, finish-idle, finish-done}
+use Rattle.show_store.proofs.WholeStore.{finish-who, finish-unnamed, finish-idle, finish-done}
 use Rattle.theory.proofs.Judged.{sound-make}
 use Rattle.show_store.proofs.finish.finish.Statement.{statement}
 use Rattle.show_store.proofs.finish.finish.Tie as tie
-use Rattle.show_store.proofs.finish.finish.Reads as reads
-use Rattle.show_store.proofs.finish.finish.Lts as lts
-use Rattle.image.proofs.running.Reads as running-reads
-use Rattle.mutator.proofs.refusals.any_set.Reads as any-set-reads
-use Rattle.sweep.proofs.finish.Reads as finish-reads
 
 returns : tie.Need-returns
 returns c = search finish-who

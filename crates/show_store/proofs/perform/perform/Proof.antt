@@ -1,24 +1,7 @@
 use borrow.Author.Needs.{needs}
 use Rattle.show_store.proofs.ByKind.{by-kind, by-no-kind}
-use native.Mathlib.Omega.{arith}
 use Rattle.show_store.proofs.perform.perform.Statement.{statement}
 use Rattle.show_store.proofs.perform.perform.Tie as tie
-use Rattle.show_store.proofs.perform.perform.Reads as reads
-use Rattle.show_store.proofs.perform.perform.Lts as lts
-use Rattle.collector.proofs.begin.begin.Reads as begin-reads
-use Rattle.collector.proofs.cleaning.clean.Reads as clean-reads
-use Rattle.collector.proofs.scanning.scan.Reads as scan-reads
-use Rattle.collector.proofs.tracing.trace.Reads as trace-reads
-use Rattle.mutator.proofs.levels.read.Reads as read-reads
-use Rattle.mutator.proofs.levels.write.Reads as write-reads
-use Rattle.mutator.proofs.news.new.Reads as new-reads
-use Rattle.mutator.proofs.objects.load.Reads as load-reads
-use Rattle.mutator.proofs.objects.store.Reads as store-reads
-use Rattle.mutator.proofs.registers.barrier.Reads as barrier-reads
-use Rattle.mutator.proofs.registers.drop.Reads as drop-reads
-use Rattle.mutator.proofs.registers.hand.Reads as hand-reads
-use Rattle.show_store.proofs.due.due.Reads as due-reads
-use Rattle.show_store.proofs.finish.finish.Reads as finish-reads
 
 new-requires : tie.Need-new-requires
 new-requires c κs = search needs

@@ -4,12 +4,6 @@ use native.Mathlib.Omega.{arith}
 use lib.ListN.{length-set}
 use Rattle.show_store.proofs.run.one.Statement.{statement}
 use Rattle.show_store.proofs.run.one.Tie as tie
-use Rattle.show_store.proofs.run.one.Reads as reads
-use Rattle.show_store.proofs.run.one.Lts as lts
-use Rattle.image.proofs.answer.Answer.number.Reads as number-reads
-use Rattle.image.proofs.answer.Answer.value.Reads as value-reads
-use Rattle.show_store.proofs.perform.perform.Reads as perform-reads
-use Rattle.show_store.proofs.reader.read.Reads as read-reads
 
 mul-read : tie.Need-mul-read
 mul-read c = search needs

@@ -5,9 +5,6 @@ use borrow.Author.Needs.{needs}
 use mathlib.Core.Path.{_≡_, subst}
 use Rattle.show_store.proofs.run.run_all.Statement.{statement}
 use Rattle.show_store.proofs.run.run_all.Tie as tie
-use Rattle.show_store.proofs.run.run_all.Reads as reads
-use Rattle.show_store.proofs.run.run_all.Lts as lts
-use Rattle.show_store.proofs.run.one.Reads as one-reads
 
 abbrev Inv-loop : tie.InvT-loop
 Inv-loop im₀ k steps answers₀ n i₀ im answers i = Ran k im₀ steps answers₀ n im answers i
