@@ -30,6 +30,9 @@ fn pass(image: &[u16]) -> f64 {
     }))
 }
 
+/// Never slower than the second implementation, within the error of measuring.
+const NOT_SLOWER: f64 = 1.05;
+
 struct Goals {
     check: bool,
     missed: usize,
@@ -45,28 +48,35 @@ impl Goals {
 }
 
 fn judging(goals: &mut Goals) {
-    println!("judge                       library ns  second ns  library/second  library/pass");
+    println!("judge                         library ns  second ns  library/second  library/pass");
     let mut random = Random::new(7);
     let mut per_card = Vec::new();
     for k in [1, 16, 64, 512] {
-        let images = [("fresh", fresh_image(k)), ("no cycle", idle(&mut random, k)), ("in a cycle", running(&mut random, k)), ("large objects", work::compact(k))];
+        let images = [
+            ("fresh", fresh_image(k)),
+            ("no cycle", work::compact(k)),
+            ("no cycle, random", idle(&mut random, k)),
+            ("in a cycle", work::half_marked(k)),
+            ("in a cycle, random", running(&mut random, k)),
+        ];
         for (what, image) in images {
             let ours = shortest(60, || timed(|| { black_box(library::judge(black_box(&image))); }));
             let theirs = shortest(15, || timed(|| { black_box(reference::judge(black_box(&image))); }));
             let passes = ours / pass(&image);
-            println!("  k = {k:3}, {what:13} {ours:12.0} {theirs:10.0} {:14.2} {passes:13.1}", ours / theirs);
-            goals.at_most("judge against the second implementation", ours / theirs, 1.0);
-            if what == "large objects" && k == 512 {
+            println!("  k = {k:3}, {what:18} {ours:11.0} {theirs:10.0} {:14.2} {passes:13.1}", ours / theirs);
+            goals.at_most("judge against the second implementation", ours / theirs, NOT_SLOWER);
+            if what == "no cycle" && k == 512 {
                 goals.at_most("judge with no cycle at k = 512, in plain passes", passes, 5.0);
             }
-            if what == "no cycle" {
-                per_card.push((k, ours / k as f64));
-            }
+            per_card.push((what, k, ours / k as f64));
         }
     }
-    let card = |k: usize| per_card.iter().find(|&&(n, _)| n == k).expect("measured").1;
-    println!("  cost of a card, k = 512 against k = 64: {:.2}", card(512) / card(64));
-    goals.at_most("cost of a card, k = 512 against k = 64", card(512) / card(64), 1.3);
+    for what in ["no cycle", "in a cycle"] {
+        let card = |k: usize| per_card.iter().find(|&&(name, n, _)| name == what && n == k).expect("measured").2;
+        let growth = card(512) / card(64);
+        println!("  cost of a card, {what}, k = 512 against k = 64: {growth:.2}");
+        goals.at_most("cost of a card, k = 512 against k = 64", growth, 1.3);
+    }
 }
 
 fn making(goals: &mut Goals) {
@@ -76,7 +86,7 @@ fn making(goals: &mut Goals) {
         let ours = shortest(60, || timed(|| { black_box(library::fresh(black_box(&mut image))); }));
         let theirs = shortest(60, || timed(|| { black_box(reference::fresh(black_box(&mut image))); }));
         println!("  k = {k:3}               {ours:12.0} {theirs:10.0} {:14.2}", ours / theirs);
-        goals.at_most("fresh against the second implementation", ours / theirs, 1.0);
+        goals.at_most("fresh against the second implementation", ours / theirs, NOT_SLOWER);
     }
 }
 
@@ -103,7 +113,7 @@ fn stepping(goals: &mut Goals) {
             let ours = shortest(5, || in_batches(library::batch, &image, part, size)) / count as f64;
             let theirs = shortest(3, || in_batches(reference::batch, &image, part, size)) / count as f64;
             println!("  k = {k:3}, batches of {size:5} {ours:11.0} {theirs:10.0} {:14.2}", ours / theirs);
-            goals.at_most("steps against the second implementation", ours / theirs, 1.0);
+            goals.at_most("steps against the second implementation", ours / theirs, NOT_SLOWER);
         }
     }
 }
@@ -129,7 +139,7 @@ fn finishing(goals: &mut Goals) {
             let ours = pause(library::batch, image);
             let theirs = pause(reference::batch, image);
             println!("  k = {k:3}, {what:19} {ours:9.0} {theirs:10.0} {:14.2}", ours / theirs);
-            goals.at_most("finish against the second implementation", ours / theirs, 1.0);
+            goals.at_most("finish against the second implementation", ours / theirs, NOT_SLOWER);
             pauses.push(ours);
         }
         println!("  pause ratio, right after a begin against after marking: {:.1} (the paper, Table I: 3.4)", pauses[0] / pauses[1]);

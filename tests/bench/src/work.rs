@@ -58,6 +58,17 @@ pub fn marked(begun: &[u16]) -> Vec<u16> {
     }
 }
 
+/// The middle of a cycle: one player scanned and a tracer's steps run, as many as there are cues.
+pub fn half_marked(k: usize) -> Vec<u16> {
+    let show = compact_show(k);
+    let mut steps: Vec<u8> = Record::new(9, 0, 0, 0, 0).to_bytes().to_vec();
+    steps.extend(Record::new(10, 0, 0, 0, 0).to_bytes());
+    for _ in 0..16 * k {
+        steps.extend(Record::new(11, 0, 0, 0, 0).to_bytes());
+    }
+    after(&show, &steps)
+}
+
 /// A store half full and a list of a show: players' steps mostly, tracing between.
 pub fn show(k: usize, count: usize) -> (Vec<u16>, Vec<u8>) {
     let mut random = Random::new(11);
