@@ -125,18 +125,6 @@ module _ (k : ℕ) (ws : List ℕ) (z : Sized k ws) where
         general-length = n 8 (omega (arith, z .long));
       }
 
--- the words are known by their image
-pub narrow-inj : (k : ℕ) (ws vs : List ℕ) → Sized k ws → Sized k vs → narrow k ws ≡ narrow k vs → ws ≡ vs
-narrow-inj k ws vs z y e = sym (words-narrow k ws z) ∙ (ap words e ∙ words-narrow k vs y)
-
 pub granules-narrow : (k : ℕ) (ws : List ℕ) → granules (narrow k ws) ≡ 64 * k
 unfolding granules narrow imageOf image
 granules-narrow k ws = refl
-
-pub cards-narrow : (k : ℕ) (ws : List ℕ) → narrow k ws .k ≡ k
-unfolding narrow imageOf image
-cards-narrow k ws = refl
-
-pub width-narrow : (k : ℕ) (ws : List ℕ) → narrow k ws .width ≡ 16
-unfolding narrow imageOf image
-width-narrow k ws = refl

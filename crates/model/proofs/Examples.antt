@@ -1,11 +1,13 @@
 -- What the worked images give, by computation.
-use mathlib.Core.Path.{_≡_, refl}
+use mathlib.Core.Path.{_≡_, refl, sym, _∙_}
 use mathlib.Core.Bool.{true}
 use Rattle.model.specs.Image.{parts}
 use Rattle.model.specs.Undamaged.{sound}
-use Rattle.model.specs.Batch.{judgeOf, finishOf, model-open}
+use Rattle.model.specs.Batch.{judgeOf, finishOf}
+use Rattle.model.specs.Plain.{old, plainOf, feed, plainRun, readings, SameAnswers}
+use Rattle.model.specs.Open.{model-open}
 use Rattle.model.specs.Cases.{oneCard, cases-open}
-use Rattle.model.specs.Examples.{linkBehind, owedByOne, owedAndHeld, allFreed, examples-open}
+use Rattle.model.specs.Examples.{linkBehind, owedByOne, owedAndHeld, allFreed, again, againSaid, examples-open}
 
 -- a link before the next one of an object in hand: Cover fails, and a finish, which goes by object, keeps what it links to
 pub behind-sound : sound (parts 16 linkBehind) ≡ true
@@ -33,3 +35,16 @@ owed-together = refl
 pub runs-joined : allFreed ≡ oneCard
 unfolding model-open cases-open examples-open
 runs-joined = refl
+
+-- a granule that is used again is another object: the real answers, read, and the plain store's
+pub again-read : readings old 0 again ≡ againSaid
+unfolding model-open cases-open examples-open
+again-read = refl
+
+pub again-plain : plainRun (plainOf (parts 16 oneCard)) (feed 0 again) ≡ againSaid
+unfolding model-open cases-open examples-open
+again-plain = refl
+
+pub again-same : SameAnswers (parts 16 oneCard) again
+unfolding SameAnswers
+again-same = again-read ∙ sym again-plain

@@ -1,4 +1,4 @@
--- Calls: fresh, judge, batch and the finish alone on words, at the width of 16 bits and at any; `model-open` opens all that they compute with.
+-- Calls: fresh, judge, batch and the finish alone on words, at the width of 16 bits and at any.
 use mathlib.Core.Bool.{Bool, not}
 use mathlib.Core.List.{List, [], _∷_}
 use Prim.Native.Nat.{ℕ, zero, suc, _*_, _/_, _%_}
@@ -6,15 +6,9 @@ use lib.Dec.{eqb}
 use lib.ListN.{length}
 use Rattle.model.specs.Base.{some, first}
 use Rattle.model.specs.Image.{fits, parts, words}
-use Rattle.model.specs.Undamaged
 use Rattle.model.specs.Undamaged.{undamaged, Made, freshAt, judgeAt}
-use Rattle.model.specs.Records
 use Rattle.model.specs.Records.{recordBytes, records}
-use Rattle.model.specs.Mutate
-use Rattle.model.specs.Collect
-use Rattle.model.specs.Finish
 use Rattle.model.specs.Finish.{Finish, finishStep}
-use Rattle.model.specs.Steps
 use Rattle.model.specs.Steps.{Event, run, after, answersOf}
 
 -- what a batch gives and leaves: its result, and the words of the image and the answer space at exit
@@ -72,7 +66,7 @@ batchOf = batchAt 16
 unfoldable pub finishOf : List ℕ → Finished
 finishOf = finishAt 16
 
--- opens everything needed to compute these
-unfoldable pub model-open : ℕ
-unfolding Undamaged.undamaged-open Records.records-open Mutate.mutate-open Collect.collect-open Finish.finish-open Steps.steps-open misfit callNumber events batchWith batchAt finishAt freshOf judgeOf batchOf finishOf
-model-open = 0
+-- opens all of these
+unfoldable pub batch-open : ℕ
+unfolding misfit callNumber events batchWith batchAt finishAt freshOf judgeOf batchOf finishOf
+batch-open = 0

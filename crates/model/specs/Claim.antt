@@ -70,6 +70,11 @@ pub record Finishes (m n : Image) : Type 0 where
   -- "finish frees nothing that a chain of links from a register reaches"
   pub reached-stay : (g : ℕ) → Chain m g → Same m n g
 
+-- opens what of these computes
+unfoldable pub claim-open : ℕ
+unfolding eventsOf history results anyField
+claim-open = 0
+
 -- ---- the claim
 
 pub record Claim (w : ℕ) (ws : List ℕ) (bs : List Lent) : Type 0 where

@@ -1,9 +1,13 @@
--- Worked images that the starred cases do not reach: a finish on an image without Cover, Cover and its two players, runs joined.
+-- Worked images that the starred cases do not reach: a finish on an image without Cover, Cover and its two players, runs joined; and a
+-- history with the plain store beside it.
 use mathlib.Core.List.{List, [], _∷_}
 use Prim.Native.Nat.{ℕ, _*_}
 use lib.ListN.{length, replicate}
 use Rattle.model.specs.Base.{put}
 use Rattle.model.specs.Batch.{Batch, batchOf}
+use Rattle.model.specs.Steps.{Event}
+use Rattle.model.specs.Plain.{made, as-object, as-is, Reply}
+use Rattle.model.specs.Claim.{history}
 use Rattle.model.specs.Cases.{rec, bytes, oneCard}
 
 -- the words that some steps leave of a fresh store of one card
@@ -34,7 +38,23 @@ owedAndHeld = put owedByOne 266 2
 unfoldable pub allFreed : List ℕ
 allFreed = left (rec 1 0 0 1 0 ∷ rec 1 0 1 1 0 ∷ rec 1 0 2 1 0 ∷ rec 6 0 0 0 0 ∷ rec 6 0 1 0 0 ∷ rec 6 0 2 0 0 ∷ rec 9 0 0 0 0 ∷ rec 13 0 0 0 0 ∷ [])
 
+-- an object made at granule 1, written, read, dropped and freed; then another at granule 1, whose level words are zero
+unfoldable pub again : List Event
+again = history 16 oneCard (record { steps = bytes (rec 1 0 0 1 0 ∷ rec 8 0 0 1 7 ∷ rec 7 0 0 1 0 ∷ rec 6 0 0 0 0 ∷ rec 9 0 0 0 0 ∷ []); answers = replicate 10 0 } ∷ record { steps = bytes (rec 13 0 0 0 0 ∷ rec 1 0 3 1 0 ∷ rec 7 0 3 1 0 ∷ rec 7 0 0 0 0 ∷ []); answers = replicate 8 0 } ∷ [])
+
+-- what the players are answered in it
+unfoldable pub againSaid : List Reply
+againSaid =
+    record { number = 0; value = as-object (made 0) }
+    ∷ record { number = 0; value = as-is 0 }
+    ∷ record { number = 0; value = as-is 7 }
+    ∷ record { number = 0; value = as-is 0 }
+    ∷ record { number = 0; value = as-object (made 6) }
+    ∷ record { number = 0; value = as-is 0 }
+    ∷ record { number = 6; value = as-is 0 }
+    ∷ []
+
 -- opens all of these
 unfoldable pub examples-open : ℕ
-unfolding left inHand linkBehind traced owedByOne owedAndHeld allFreed
+unfolding left inHand linkBehind traced owedByOne owedAndHeld allFreed again againSaid
 examples-open = 0

@@ -12,3 +12,4 @@ pub mod Cases
 pub mod Examples
 pub mod Plain
 pub mod Claim
+pub mod Open

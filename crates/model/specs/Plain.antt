@@ -227,5 +227,5 @@ SameAnswers m es = readings old 0 es ≡ plainRun (plainOf m) (feed 0 es)
 
 -- opens all of these
 unfoldable pub plain-open : ℕ
-unfolding sameObject isNil upd updObject putReg putLink putLevel putOwing putObject ofImage plainOf holding plainOwing plainNoObject plainLevels plainPastEnd plainNothing plainRefusal plainAccept plainAct plainOutcome plainStep feeds feedsEvent feed plainRun named objectAt reading readings
+unfolding sameObject isNil upd updObject putReg putLink putLevel putOwing putObject ofImage plainOf holding plainOwing plainNoObject plainLevels plainPastEnd plainNothing plainRefusal plainAccept plainAct plainOutcome plainStep feeds feedsEvent feed plainRun named objectAt reading readings SameAnswers
 plain-open = 0

@@ -170,21 +170,3 @@ module _ (m : Image) where
   pub undamaged-make : Undamaged m → undamaged m ≡ true
   unfolding undamaged
   undamaged-make u = every-cons _ _ (sound-make (u .sound)) (every-cons _ _ (cover-make m (counted-of (u .sound .lines)) (u .cover)) every-nil)
-
-  -- the lengths are among the lines
-  pub sizes-of : Lines m → Sizes m
-  sizes-of o =
-      record {
-        heap-size = o .heap-ok .sized;
-        starts-size = o .heap-ok .starts-sized;
-        marks-size = o .marks-ok .exact;
-        starts-in = o .heap-ok .within;
-        marks-in = λ g k. o .marks-ok .on-starts g k .0;
-        marks-room = o .marks-ok .sized;
-        cards-size = o .cards-ok .sized;
-        regs-size = o .regs-ok .sized;
-        packets-size = o .packets-ok .sized;
-        tracers-size = o .tracers-ok .sized;
-        players-size = o .players-ok .sized;
-        general-size = o .general-ok .sized;
-      }

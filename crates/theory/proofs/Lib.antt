@@ -8,7 +8,6 @@ pub mod Tests
 pub mod Judged
 pub mod Lists
 pub mod Walk
-pub mod HeapOf
 pub mod Sweep
 pub mod Covering
 pub mod Reaching

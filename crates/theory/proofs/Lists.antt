@@ -22,9 +22,6 @@ pub nth-right : (l r : List ℕ) (i n : ℕ) → length l ≡ n → nth (l ++ r)
 unfolding nth
 nth-right l r i n e = rw (← e) (getD-append-add l r i 0)
 
-pub nth-zeros : (n i : ℕ) → i < n → nth (replicate n 0) i ≡ 0
-nth-zeros n i h = nth-replicate n i
-
 pub zeros-take : (n : ℕ) (l : List ℕ) → n ≤ length l → ((i : ℕ) → i < n → nth l i ≡ 0) → take n l ≡ replicate n 0
 unfolding nth
 zeros-take zero l h f = refl

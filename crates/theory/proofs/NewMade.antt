@@ -137,8 +137,3 @@ module _ {m n : Image} {p r b c g : ℕ} (k : NewMade m n p r b c g) where
   pub new-reg : (q s : ℕ) → reg n q s ≡ reg (setReg m p r g) q s
   unfolding reg setReg withRegs
   new-reg q s = ap (λ l. nth l (16 * q + s)) new-regs
-
-  -- no register but the one that is named changes
-  pub new-reg-other : (q s : ℕ) → (16 * q + s ≡ 16 * p + r → ⊥) → reg n q s ≡ reg m q s
-  unfolding reg
-  new-reg-other q s ne = ap (λ l. nth l (16 * q + s)) new-regs ∙ nth-put-other (m .regs) (16 * p + r) (16 * q + s) g ne

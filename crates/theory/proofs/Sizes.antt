@@ -1,8 +1,8 @@
 -- The sizes of the sections of an image that fits, and that an image with the lines fits.
 use mathlib.Core.Path.{_≡_, refl, ap, _∙_}
-use mathlib.Core.Logic.{_⊎_}
+use mathlib.Core.Logic.{_⊎_, inl, inr}
 use mathlib.Core.List.{map}
-use Prim.Native.Nat.{ℕ, _≤_, _*_}
+use Prim.Native.Nat.{ℕ, _≤_, _*_, _<_, _/_}
 use native.Mathlib.Omega.{arith}
 use lib.ListN.{length, getD}
 use Rattle.model.specs.Image.{lengths, mostCards, Image, sections}
@@ -10,7 +10,11 @@ use Rattle.model.proofs.Words.{Fits, width-cases}
 use Rattle.model.proofs.Bits.{bit-within}
 use Rattle.theory.specs.Lines.{Sizes, Lines}
 use Rattle.theory.proofs.Facts.{some-card}
-use Rattle.theory.proofs.HeapOf.{bit-word}
+
+-- every granule has its bit
+bit-word : (w k g : ℕ) → (w ≡ 16) ⊎ (w ≡ 32) → g < 64 * k → g / w < 64 * k / w
+bit-word w k g (inl e) h = rw e (omega arith)
+bit-word w k g (inr e) h = rw e (omega arith)
 
 -- ---- sizes from lengths
 

@@ -11,7 +11,8 @@ use mathlib.Core.Path.{_≡_, refl}
 use mathlib.Core.List.{List, [], _∷_, _++_}
 use Prim.Native.Nat.{ℕ}
 use lib.ListN.{replicate}
-use Rattle.model.specs.Batch.{Batch, Finished, judgeOf, batchOf, finishOf, model-open}
+use Rattle.model.specs.Batch.{Batch, Finished, judgeOf, batchOf, finishOf}
+use Rattle.model.specs.Open.{model-open}
 
 runs : List ℕ → List ℕ
 runs [] = []
