@@ -17,7 +17,7 @@ use Rattle.image.specs.Answer.{asked, doneOf, numberOf, valueOf}
 use Rattle.collector.specs.Refusals.{turnOf, doneUnless}
 use borrow.Author.Tests.{eq-eqb, ne-eqb, ltb-false}
 use native.Mathlib.Omega.{arith}
-use Rattle.model.proofs.Laws.{false≢}
+use Rattle.model.proofs.Laws.{or-none}
 use lib.ListN.{take, drop}
 use Rattle.model.specs.Steps as steps
 
@@ -56,10 +56,6 @@ module _ (m : Image) (t a b c : ℕ) where
   clean-by : step m (asked 12 t a b c) ≡ settled m (cleanStep m t) (number (someSet (a ∷ b ∷ c ∷ [])) (ltb 7 t) (eqb (running m) 0) (eqb (cleanLine m t) 0))
   unfolding steps-open kindOf asked number
   clean-by = by-number m (cleanStep m t) (asked 12 t a b c) clean refl refl
-
-or-none : (a b : Bool) → (a || b) ≡ false → (a ≡ false) × (b ≡ false)
-or-none true b e = false≢ (sym e)
-or-none false b e = (refl, e)
 
 -- ---- the ways out
 

@@ -10,20 +10,16 @@ use lib.Dec.{lit<}
 use lib.Bits.{bitAnd, bitOr, and-step, and-high, or-add-and}
 use lib.Pow.{shl-exact, pow-add, pow-lt, pow-pos}
 use lib.ListN.{length}
-use borrow.Author.Tests.{eqb-true, eqb-false, ne-eqb}
+use borrow.Author.Tests.{eqb-true, ne-eqb}
 use Rattle.model.specs.Base.{nth, put, testBit, withBit, bit}
 use Rattle.model.proofs.Laws.{nth-put-same, nth-put-other, put-out}
-use Rattle.model.proofs.Bits.{withBit-other}
+use Rattle.model.proofs.Bits.{withBit-other, unset}
 use Rattle.image.specs.Bits.{withoutBit, clearBit}
 
 -- a bit that is set, and one that is not, as digits
 set-digit : (x j : ℕ) → testBit x j ≡ true → x / 2 ^ j % 2 ≡ 1
 unfolding testBit
 set-digit x j e = eqb-true (x / 2 ^ j % 2) 1 e
-
-unset-digit : (x j : ℕ) → testBit x j ≡ false → x / 2 ^ j % 2 ≡ 0
-unfolding testBit
-unset-digit x j e = omega (arith, eqb-false (x / 2 ^ j % 2) 1 e)
 
 -- ---- shift and mask
 
@@ -52,7 +48,7 @@ or-pow x j = go (testBit x j) refl
   where
     go : (b : Bool) → testBit x j ≡ b → bitOr x (2 ^ j) ≡ cond b x (x + 2 ^ j)
     go true e = omega (arith, or-add-and x (2 ^ j), rw (set-digit x j e) at (and-pow x j))
-    go false e = omega (arith, or-add-and x (2 ^ j), rw (unset-digit x j e) at (and-pow x j))
+    go false e = omega (arith, or-add-and x (2 ^ j), rw (unset x j e) at (and-pow x j))
 
 pub and-not-pow : (x j : ℕ) → x < 65536 → j < 16 → bitAnd x (65535 - 2 ^ j) ≡ withoutBit x j
 unfolding withoutBit
@@ -63,7 +59,7 @@ and-not-pow x j hx hj = go (testBit x j) refl
 
     go : (b : Bool) → testBit x j ≡ b → bitAnd x (65535 - 2 ^ j) ≡ cond b (x - 2 ^ j) x
     go true e = omega (arith, whole, rw (set-digit x j e) at (and-pow x j))
-    go false e = omega (arith, whole, rw (unset-digit x j e) at (and-pow x j))
+    go false e = omega (arith, whole, rw (unset x j e) at (and-pow x j))
 
 -- ---- a bit cleared
 

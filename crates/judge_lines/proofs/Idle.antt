@@ -4,30 +4,18 @@ use mathlib.Core.Bool.{Bool, true, false, not, _&&_, and-true, and-false, and-as
 use mathlib.Core.List.{List, []}
 use Prim.Native.Nat.{ℕ, zero, suc, _+_, _*_, _/_, _%_, _^_, _≤_, _<_}
 use native.Mathlib.Nat.{zero-div}
-use native.Mathlib.Decide.{decLt}
 use native.Mathlib.Omega.{arith}
-use lib.ListN.{length, getD, List·getD-eq-default}
-use borrow.Author.Tests.{eqb-true, eq-eqb, ne-eqb, leb-true, ltb-true, lt-ltb, le-ltb, not-true, not-false}
+use borrow.Author.Tests.{eq-eqb, ne-eqb, leb-true, ltb-true, lt-ltb, le-ltb, not-true, not-false}
 use Rattle.model.specs.Base.{nth, all, every, implies, either, zeroes, distinct, eachPiece, testBit, bit}
 use Rattle.model.specs.Image.{image, imageOf, granules, marked, count, entry, entries, entriesOf, hand, nextLink, handCard, nextGranule, running}
 use Rattle.model.specs.Undamaged.{zeroGranule, filled, linksOk, regOk, cardOk, playerOk, generalOk, markOk, entryOk, packetOk, handOk, handCardOk, tracerOk, heldAt, heldOnce, idleOk, sound}
-use Rattle.model.proofs.Laws.{all-use, all-make, every-use, every-cons, every-nil}
+use Rattle.model.proofs.Laws.{all-use, all-make, every-use, every-cons, every-nil, zeroes-use}
 use Rattle.image.specs.Sized.{Sized, narrow}
-use Rattle.image.specs.Reading.{isZero}
-use Rattle.image.proofs.Reading.{zeroes-all}
 use Rattle.judge_lines.specs.Tests.{Packed, packetAt, entryAt, unscanned, idle, cycleLines}
 use Rattle.judge_lines.proofs.Entered.{each-piece, entries-more}
 use Rattle.judge_lines.proofs.Cases.{packet-is}
 
 -- ---- words and bits of a section that is 0
-
-pub zero-nth : (l : List ℕ) → zeroes l ≡ true → (i : ℕ) → nth l i ≡ 0
-unfolding isZero nth
-zero-nth l e i = go (decLt i (length l))
-  where
-    go : Dec (i < length l) → getD l i 0 ≡ 0
-    go (yes h) = eqb-true (getD l i 0) 0 (all-use (length l) (isZero l) (zeroes-all l ∙ e) i h)
-    go (no h) = List·getD-eq-default l 0 (omega arith)
 
 pub no-bit : (x j : ℕ) → x ≡ 0 → testBit x j ≡ false
 unfolding testBit
@@ -43,7 +31,7 @@ no-entries (suc n) ps z = entries-more n ps ∙ rw (no-entries n ps z, z (32 * n
 module _ (k : ℕ) (l : List ℕ) where
   pub no-mark : zeroes (narrow k l .marks) ≡ true → (g : ℕ) → marked (narrow k l) g ≡ false
   unfolding marked bit
-  no-mark e g = no-bit _ _ (zero-nth (narrow k l .marks) e _)
+  no-mark e g = no-bit _ _ (zeroes-use (narrow k l .marks) e _)
 
   module _ (z : (i : ℕ) → nth (narrow k l .packets) i ≡ 0) where
     entry-idle : (p e : ℕ) → entryAt (narrow k l) p e ≡ true
@@ -71,8 +59,8 @@ module _ (k : ℕ) (l : List ℕ) where
     pub idle-cycle : idle (narrow k l) ≡ true → cycleLines (narrow k l) ≡ true
     unfolding idle cycleLines markOk implies entries distinct
     idle-cycle e =
-        let p : (i : ℕ) → nth (narrow k l .packets) i ≡ 0 = zero-nth (narrow k l .packets) (every-use _ e 1) in
-        let t : (i : ℕ) → nth (narrow k l .tracers) i ≡ 0 = zero-nth (narrow k l .tracers) (every-use _ e 2) in
+        let p : (i : ℕ) → nth (narrow k l .packets) i ≡ 0 = zeroes-use (narrow k l .packets) (every-use _ e 1) in
+        let t : (i : ℕ) → nth (narrow k l .tracers) i ≡ 0 = zeroes-use (narrow k l .tracers) (every-use _ e 2) in
         every-cons _ _ (all-make (granules (narrow k l)) _ (λ g h. rw (no-mark (every-use _ e 0) g)))
         (every-cons _ _ (all-packets ∙ all-make 32 (packetAt (narrow k l)) (λ i h. packet-idle p s i))
         (every-cons _ _ (rw (no-entries 32 (narrow k l .packets) p))

@@ -6,13 +6,6 @@ use native.Mathlib.Numerals.{add-one}
 use native.Mathlib.Nat.{add-zero, add-suc}
 use native.Mathlib.Omega.{arith}
 use Rattle.model.specs.Base.{all, any}
-use Rattle.model.proofs.Laws.{false≢}
-
--- two tests that pass together
-pub same-test : (a b : Bool) → (a ≡ true → b ≡ true) → (b ≡ true → a ≡ true) → a ≡ b
-same-test true b f g = sym (f refl)
-same-test false true f g = false≢ (g refl)
-same-test false false f g = refl
 
 -- ---- `ok` says whether all below i pass
 

@@ -11,12 +11,12 @@ use borrow.Author.Tests.{leb-true, eqb-true, le-leb, eq-eqb, not-true, not-false
 use Rattle.model.specs.Base.{nth, all, every, zeroes}
 use Rattle.model.specs.Image.{word, isStart}
 use Rattle.model.specs.Undamaged.{bare, piece}
-use Rattle.model.proofs.Laws.{and-split, and-join, every-use, every-cons, every-nil}
+use Rattle.model.proofs.Laws.{and-split, and-join, every-use, every-cons, every-nil, same-test}
 use Rattle.model.proofs.Entries.{nth-drop}
 use Rattle.image.specs.Sized.{Sized, narrow}
 use Rattle.image.proofs.Sections.{narrow-lengths}
 use Rattle.judge_lines.specs.Tests.{notStart, clear, objectAt, runAt, pieceAt, nextRun}
-use Rattle.judge_lines.proofs.Loops.{same-test, all-cong}
+use Rattle.judge_lines.proofs.Loops.{all-cong}
 use Rattle.judge_lines.proofs.Stretch.{zero-stretch}
 
 -- ---- the head of an object, and of a run

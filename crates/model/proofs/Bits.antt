@@ -30,7 +30,7 @@ above-bit x j d e =
     half : (x / 2 ^ j + 1) / 2 ^ 1 ≡ x / 2 ^ j / 2 ^ 1
     half = omega arith
 
-unset : (x j : ℕ) → testBit x j ≡ false → x / 2 ^ j % 2 ≡ 0
+pub unset : (x j : ℕ) → testBit x j ≡ false → x / 2 ^ j % 2 ≡ 0
 unfolding testBit
 unset x j e = omega (arith, eqb-false (x / 2 ^ j % 2) 1 e)
 

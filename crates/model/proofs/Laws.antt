@@ -7,10 +7,11 @@ use Prim.Native.Nat.{ℕ, zero, suc, _+_, _≤_, _<_}
 use native.Mathlib.Nat.{not-suc-le-zero}
 use native.Mathlib.Decide.{ℕ-discrete}
 use native.Mathlib.Omega.{arith}
-use lib.Dec.{T}
+use lib.Dec.{T, eqb}
 use lib.ListN.{getD, set, replicate, length, length-set, List·getD-eq-default}
 use lib.Seq.{getD-set-same, getD-set-other, set-out}
-use Rattle.model.specs.Base.{first, nth, put, every, some, either, implies, all, any, best}
+use borrow.Author.Tests.{eqb-true, eq-eqb}
+use Rattle.model.specs.Base.{first, nth, put, every, some, either, implies, all, any, best, zeroes}
 
 pub false≢ : {P : Type 0} → false ≡ true → P
 false≢ e = absurd (subst T (sym e) tt)
@@ -25,6 +26,16 @@ and-join a b p q = rw (p, q)
 pub or-split : (a b : Bool) → (a || b) ≡ true → (a ≡ true) ⊎ (b ≡ true)
 or-split true b e = inl refl
 or-split false b e = inr e
+
+pub or-none : (a b : Bool) → (a || b) ≡ false → (a ≡ false) × (b ≡ false)
+or-none true b e = false≢ (sym e)
+or-none false b e = (refl, e)
+
+-- two tests that pass together
+pub same-test : (a b : Bool) → (a ≡ true → b ≡ true) → (b ≡ true → a ≡ true) → a ≡ b
+same-test true b f g = sym (f refl)
+same-test false true f g = g refl
+same-test false false f g = refl
 
 pub or-left : (a b : Bool) → a ≡ true → (a || b) ≡ true
 or-left a b p = rw p
@@ -259,3 +270,16 @@ first-passes n (false ∷ l) zero e = absurd (past (first-low (suc (suc n)) l))
     past (inl z) = omega arith
     past (inr z) = omega arith
 first-passes n (false ∷ l) (suc i) e = first-passes (suc n) l i (omega arith)
+
+-- ---- words that are all 0
+
+pub zeroes-use : (l : List ℕ) → zeroes l ≡ true → (i : ℕ) → nth l i ≡ 0
+unfolding zeroes nth
+zeroes-use [] e i = refl
+zeroes-use (x ∷ l) e zero = eqb-true x 0 ((and-split (eqb x 0) (zeroes l) e) .0)
+zeroes-use (x ∷ l) e (suc i) = zeroes-use l ((and-split (eqb x 0) (zeroes l) e) .1) i
+
+pub zeroes-make : (l : List ℕ) → ((i : ℕ) → nth l i ≡ 0) → zeroes l ≡ true
+unfolding zeroes nth
+zeroes-make [] f = refl
+zeroes-make (x ∷ l) f = and-join (eqb x 0) (zeroes l) (eq-eqb x 0 (f zero)) (zeroes-make l (λ i. f (suc i)))

@@ -26,6 +26,8 @@ use Rattle.sweep.specs.Ending.{StartsKept, unscanned, ended, finished}
 use Rattle.sweep.proofs.Fold.{reheaped, swept-all}
 use Rattle.sweep.proofs.Counted.{freed-counted, freed-small}
 use Rattle.sweep.proofs.Lists.{zero-words, unscanned-all, bit-words}
+use Rattle.model.proofs.Laws.{same-test}
+use Rattle.image.proofs.Sections.{granules-narrow}
 
 -- ---- the set that is kept
 
@@ -36,11 +38,6 @@ sized-fits k ws z = rw (sized-cards k ws z, le-leb 1 k (z .low), le-leb k 512 (z
 parts-narrow : (k : ℕ) (ws : List ℕ) → Sized k ws → parts 16 ws ≡ narrow k ws
 unfolding parts narrow
 parts-narrow k ws z = ap (λ j. imageOf 16 j ws) (sized-cards k ws z)
-
-same-test : (a b : Bool) → (a ≡ true → b ≡ true) → (b ≡ true → a ≡ true) → a ≡ b
-same-test true b f h = sym (f refl)
-same-test false true f h = h refl
-same-test false false f h = refl
 
 -- what the marking marks is the computed set
 module _ (k : ℕ) (ws : List ℕ) (z : Sized k ws) (e : sound (narrow k ws) ≡ true) (m1 : Image) (q : KeptMarked (narrow k ws) m1) where
@@ -89,10 +86,6 @@ ended-fields : (m : Image) (hs : List ℕ) (f : ℕ) → let i = reheaped m hs f
     }
 unfolding ended reheaped setFirstRun withHeap withStarts withMarks withPackets withTracers withPlayers withGeneral
 ended-fields m hs f = refl
-
-granules-narrow : (k : ℕ) (ws : List ℕ) → granules (narrow k ws) ≡ 64 * k
-unfolding granules
-granules-narrow k ws = ap (λ j. 64 * j) (narrow-k k ws)
 
 same-zeros : (l r : List ℕ) → length l ≡ length r → zeros l ≡ zeros r
 unfolding zeros

@@ -1,7 +1,7 @@
 -- Every accepted step keeps "undamaged", kind by kind.
-use mathlib.Core.Path.{_≡_, refl, sym, ap}
+use mathlib.Core.Path.{_≡_, refl, ap}
 use mathlib.Core.Logic.{inl, inr}
-use mathlib.Core.Bool.{Bool, true, false, _||_}
+use mathlib.Core.Bool.{false}
 use Prim.Native.Nat.{ℕ, zero, suc, _*_, _-_, _<_}
 use native.Mathlib.Omega.{arith}
 use lib.Dec.{eqb}
@@ -13,7 +13,7 @@ use Rattle.model.specs.Mutate.{newObject}
 use Rattle.model.specs.Collect.{scanPlayer, beginCycle, traceStep, cleanStep}
 use Rattle.model.specs.Finish.{finishWith, finishStep}
 use Rattle.model.specs.Steps.{offDesk, object, owes, owing, noObject, pastEnd, wrongPhase, nothingToDo, refusal, accept, finishDone, act}
-use Rattle.model.proofs.Laws.{false≢, some-false}
+use Rattle.model.proofs.Laws.{some-false, or-none}
 use Rattle.theory.specs.Lines.{NilOr, Start, Lines, Undamaged}
 use Rattle.theory.proofs.Beginning.{scan-does, begin-does}
 use Rattle.theory.proofs.Cleaning.{clean-does}
@@ -26,10 +26,6 @@ use Rattle.theory.proofs.Reaching.{Stays}
 use Rattle.theory.proofs.Tracing.{trace-does}
 
 -- ---- what an accepted step says
-
-or-none : (a b : Bool) → (a || b) ≡ false → (a ≡ false) × (b ≡ false)
-or-none true b e = false≢ (sym e)
-or-none false b e = (refl, e)
 
 -- a player who does not owe
 owes-none : (m : Image) (s : Step) (p : ℕ) → owes m s p ≡ false → owed m p ≡ 0

@@ -3,7 +3,7 @@ use mathlib.Core.Path.{_≡_, refl, sym, ap, subst, _∙_}
 use mathlib.Core.Logic.{inl, inr}
 use mathlib.Core.Bool.{true, not}
 use mathlib.Core.List.{List, [], _∷_}
-use Prim.Native.Nat.{ℕ, zero, suc, _+_, _*_, _≤_, _<_}
+use Prim.Native.Nat.{ℕ, suc, _+_, _*_, _≤_, _<_}
 use native.Mathlib.Decide.{ℕ-discrete, decLt}
 use native.Mathlib.Omega.{arith}
 use lib.Dec.{eqb}
@@ -13,7 +13,7 @@ use Rattle.model.specs.Base.{nth, all, every, zeroes}
 use Rattle.model.specs.Image.{Image, granules, word, isStart, marked, links, link, state, count, owed, scanned, running, firstRun}
 use Rattle.model.specs.Undamaged.{zeroGranule, filled, nilOrStart, linksOk, regOk, playerOk, cardOk, markOk, generalOk, idleOk, sound, undamaged}
 pub use Rattle.model.proofs.Laws.{nth-out}
-use Rattle.model.proofs.Laws.{and-split, and-join, imp-use, imp-make, either-no, either-make, all-use, all-make, every-use, every-nil, every-cons}
+use Rattle.model.proofs.Laws.{imp-use, imp-make, either-no, either-make, all-use, all-make, every-use, every-nil, every-cons, zeroes-use, zeroes-make}
 use Rattle.theory.specs.Cover.{Counted}
 use Rattle.theory.specs.Lines.{PlayersOk, NilOr, MarksOk, GeneralOk, HeapOk, Start, Lines, Idle, Sound, Undamaged, Sizes}
 use Rattle.theory.proofs.Cover.{cover-use, cover-make}
@@ -28,17 +28,6 @@ each-word P l n e z f i = go (decLt i n)
     go : Dec (i < n) → P (nth l i)
     go (yes h) = f i h
     go (no h) = subst P (sym (nth-out l i (omega arith))) z
-
-zeroes-use : (l : List ℕ) → zeroes l ≡ true → (i : ℕ) → nth l i ≡ 0
-unfolding zeroes nth
-zeroes-use [] e i = refl
-zeroes-use (x ∷ l) e zero = eqb-true x 0 ((and-split (eqb x 0) (zeroes l) e) .0)
-zeroes-use (x ∷ l) e (suc i) = zeroes-use l ((and-split (eqb x 0) (zeroes l) e) .1) i
-
-zeroes-make : (l : List ℕ) → ((i : ℕ) → nth l i ≡ 0) → zeroes l ≡ true
-unfolding zeroes nth
-zeroes-make [] f = refl
-zeroes-make (x ∷ l) f = and-join (eqb x 0) (zeroes l) (eq-eqb x 0 (f zero)) (zeroes-make l (λ i. f (suc i)))
 
 -- ---- line by line
 
