@@ -1,6 +1,6 @@
 -- Steps of kinds 9 to 12 by number: each refusal, and what is done where none applies, from the tests in the order of document 01's table.
 use mathlib.Core.Path.{_≡_, refl, sym, _∙_}
-use mathlib.Core.Bool.{Bool, false, true, not, _||_, or-assoc, or-false}
+use mathlib.Core.Bool.{Bool, false, true, _||_, or-false}
 use mathlib.Core.List.{[], _∷_}
 use Prim.Native.Nat.{ℕ, zero, suc, _*_, _<_}
 use lib.Dec.{eqb, ltb}
@@ -111,10 +111,6 @@ module _ (m : Image) (p a b c : ℕ) where
       begin-done h m₁ m₂ g₁ g₂ = sym (begin-by m p a b c ∙ rw (begin-set, q, ne-eqb (running m) 1 (λ y. h (f ∙ y)), g₂, g₁))
 
 -- ---- the refusals as the code tests them
-
-pub set-three : (a b c : ℕ) → ((not (eqb a 0) || not (eqb b 0)) || not (eqb c 0)) ≡ someSet (a ∷ b ∷ c ∷ [])
-unfolding someSet
-set-three a b c = rw (or-false (not (eqb c 0))) (or-assoc (not (eqb a 0)) (not (eqb b 0)) (not (eqb c 0)))
 
 module _ (m : Image) (u o : Bool) where
   pub turn-unnamed : u ≡ true → Refused Unknown ≡ turnOf u o (eqb (running m) 0)

@@ -14,7 +14,7 @@ pub fn begin(im: &mut [u16], k: usize, p: usize, a: usize, b: usize, c: usize) -
     if p != 0 {
         return Answer::Unknown;
     }
-    if crate::refusals::some_set(a, b, c) {
+    if image::fields::some_set(a, b, c) {
         return Answer::Unknown;
     }
     if image::running(im, k) == 1 {

@@ -1,9 +1,7 @@
 // What refuses a tracer's step, before it looks for something to do.
 ghost use mathlib.Core.Path.{_≡_};
-ghost use mathlib.Core.List.{_∷_, []};
 ghost use lib.Dec.{eqb};
 ghost use Rattle.model.specs.Image.{running};
-ghost use Rattle.model.specs.Steps.{someSet};
 ghost use Rattle.image.specs.Sized.{Sized, narrow};
 ghost use Rattle.collector.specs.Refusals.{turnOf};
 use image::answer::Answer;
@@ -11,13 +9,6 @@ use image::answer::Answer;
 pub enum Turn {
     Goes,
     Refused(Answer),
-}
-
-// Some of these fields is not 0.
-pub fn some_set(a: usize, b: usize, c: usize) -> bool
-    ensures { λ r. ⌜ r ≡ someSet (a ∷ b ∷ c ∷ []) ⌝ }
-{
-    (a != 0) | (b != 0) | (c != 0)
 }
 
 pub fn refuse(im: &[u16], k: usize, unnamed: bool, off: bool) -> Turn

@@ -44,7 +44,7 @@ pub fn scan(im: &mut [u16], k: usize, t: usize, a: usize, b: usize, c: usize) ->
     requires { ⌜ Sound (narrow k (now im)) ⌝ }
     ensures { λ r. ⌜ doneOf r (narrow k (now (im .exit))) ≡ step (narrow k (now (im .entry))) (asked 10 t a b c) ⌝ }
 {
-    let u = crate::refusals::some_set(0, b, c);
+    let u = image::fields::some_set(0, b, c);
     let r = crate::refusals::refuse(im, k, u, (7 < t) | (15 < a));
     match r {
         Turn::Refused(n) => n,

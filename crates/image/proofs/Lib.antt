@@ -7,3 +7,4 @@ pub mod BitWords
 pub mod FreshStore
 pub mod Rooms
 pub mod Reading
+pub mod Unnamed

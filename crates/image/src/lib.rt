@@ -9,6 +9,7 @@ ghost use Rattle.image.specs.Sized.{Sized, narrow};
 pub mod answer; // answer.rt: the answer of one step
 pub mod bits; // bits.rt: start and mark bits, by shift and mask
 pub mod clearing; // clearing.rt: stretches of the image cleared
+pub mod fields; // fields.rt: fields of a record that must be 0
 pub mod fresh; // fresh.rt: a fresh store made
 pub mod parts; // parts.rt: parts of the slice read as a whole
 pub mod runs; // runs.rt: the chain of free runs

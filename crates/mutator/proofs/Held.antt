@@ -1,6 +1,6 @@
 -- What a player's register holds: each answer from the facts as the code finds them, and what each answer says.
-use mathlib.Core.Path.{_≡_, refl, sym}
-use mathlib.Core.Bool.{Bool, true, false, not, _||_}
+use mathlib.Core.Path.{_≡_, refl}
+use mathlib.Core.Bool.{Bool, true, false, not}
 use mathlib.Core.List.{[], _∷_}
 use Prim.Native.Nat.{ℕ, _≤_, _<_}
 use native.Mathlib.Omega.{arith}
@@ -8,7 +8,6 @@ use lib.Dec.{ltb, eqb}
 use borrow.Author.Tests.{lt-ltb, le-ltb, ltb-false, eq-eqb, ne-eqb, eqb-true, not-false}
 use Rattle.model.specs.Base.{some}
 use Rattle.model.specs.Image.{Image, reg, owed}
-use Rattle.model.specs.Steps.{someSet}
 use Rattle.model.proofs.Laws.{some-false}
 use Rattle.mutator.specs.declared.refusals.Holding.the-variants.{Holds, Off, Owes}
 use Rattle.mutator.specs.Held.{heldBy, heldOf, Ready}
@@ -80,23 +79,3 @@ module _ (m : Image) (p r : ℕ) where
         owes-none = eqb-true _ _ (not-false _ (s .1));
         holds = s .2;
       }
-
--- ---- fields that must be 0
-
-or-false : (b : Bool) → (b || false) ≡ b
-or-false true = refl
-or-false false = refl
-
-module _ (a b c : ℕ) where
-  pub set-first : (a ≡ 0 → ⊥) → true ≡ someSet (a ∷ b ∷ c ∷ [])
-  unfolding someSet
-  set-first h = rw (ne-eqb a 0 h)
-
-  module _ (ha : a ≡ 0) where
-    pub set-second : (b ≡ 0 → ⊥) → true ≡ someSet (a ∷ b ∷ c ∷ [])
-    unfolding someSet
-    set-second h = rw (eq-eqb a 0 ha, ne-eqb b 0 h)
-
-    pub set-third : b ≡ 0 → not (eqb c 0) ≡ someSet (a ∷ b ∷ c ∷ [])
-    unfolding someSet
-    set-third h = rw (eq-eqb a 0 ha, eq-eqb b 0 h) (sym (or-false _))

@@ -1,22 +1,7 @@
 // What a player's register holds, or why the step is refused: shared by all kinds but barrier.
 ghost use mathlib.Core.Path.{_≡_};
-ghost use mathlib.Core.List.{[], _∷_};
-ghost use Rattle.model.specs.Steps.{someSet};
 ghost use Rattle.image.specs.Sized.{Sized, narrow};
 ghost use Rattle.mutator.specs.Held.{heldOf};
-
-// Whether a field that must be 0 is not; fields that are named go in as 0.
-pub fn any_set(a: usize, b: usize, c: usize) -> bool
-    ensures { λ r. ⌜ r ≡ someSet (a ∷ b ∷ c ∷ []) ⌝ }
-{
-    if a != 0 {
-        return true;
-    }
-    if b != 0 {
-        return true;
-    }
-    c != 0
-}
 
 pub enum Holding {
     Holds(u16),

@@ -23,7 +23,7 @@ pub fn barrier(im: &mut [u16], k: usize, p: usize, a: usize, b: usize, c: usize)
     requires { ⌜ Sound (narrow k (now im)) ⌝ }
     ensures { λ r. ⌜ doneOf r (narrow k (now (im .exit))) ≡ step (narrow k (now (im .entry))) (asked 4 p a b c) ⌝ }
 {
-    if crate::refusals::any_set(a, b, c) {
+    if image::fields::some_set(a, b, c) {
         return Answer::Unknown;
     }
     if 16 <= p {
@@ -69,7 +69,7 @@ pub fn drop(im: &mut [u16], k: usize, p: usize, a: usize, b: usize, c: usize) ->
     requires { ⌜ Sound (narrow k (now im)) ⌝ }
     ensures { λ r. ⌜ doneOf r (narrow k (now (im .exit))) ≡ step (narrow k (now (im .entry))) (asked 6 p a b c) ⌝ }
 {
-    if crate::refusals::any_set(b, c, 0) {
+    if image::fields::some_set(b, c, 0) {
         return Answer::Unknown;
     }
     let h = crate::refusals::held(im, k, p, a);

@@ -11,7 +11,7 @@ pub fn due(im: &[u16], k: usize, who: usize, a: usize, b: usize, c: usize) -> An
     requires { ⌜ Sound (narrow k (now im)) ⌝ }
     ensures { λ r. ⌜ doneOf r (narrow k (now (im .entry))) ≡ step (narrow k (now (im .entry))) (asked 14 who a b c) ⌝ }
 {
-    if mutator::refusals::any_set(who, b, c) {
+    if image::fields::some_set(who, b, c) {
         return Answer::Unknown;
     }
     if image::runs::free_granules(im, k) < a {

@@ -14,7 +14,7 @@ pub fn finish(im: &mut [u16], k: usize, who: usize, a: usize, b: usize, c: usize
     if who != 0 {
         return Answer::Unknown;
     }
-    if mutator::refusals::any_set(a, b, c) {
+    if image::fields::some_set(a, b, c) {
         return Answer::Unknown;
     }
     if image::running(im, k) == 0 {

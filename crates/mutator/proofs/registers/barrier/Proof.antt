@@ -4,8 +4,8 @@ use native.Mathlib.Omega.{arith}
 use Rattle.mutator.proofs.registers.barrier.Statement.{statement}
 use Rattle.mutator.proofs.registers.barrier.Tie as tie
 
-any-set-requires : tie.Need-any-set-requires
-any-set-requires c κs = search needs
+some-set-requires : tie.Need-some-set-requires
+some-set-requires c κs = search needs
 
 returns : tie.Need-returns
 returns c = search barrier-unknown
@@ -53,7 +53,7 @@ pub barrier-spec : {M : Type 1} → statement M
 barrier-spec =
     tie.close
     (tie.spec
-    any-set-requires
+    some-set-requires
     returns
     returns-2
     owed-requires

@@ -7,8 +7,8 @@ use Rattle.mutator.proofs.Held.{ready}
 use Rattle.mutator.proofs.registers.drop.Statement.{statement}
 use Rattle.mutator.proofs.registers.drop.Tie as tie
 
-any-set-requires : tie.Need-any-set-requires
-any-set-requires c κs = search needs
+some-set-requires : tie.Need-some-set-requires
+some-set-requires c κs = search needs
 
 returns : tie.Need-returns
 returns c = search drop-unknown
@@ -33,26 +33,26 @@ same-length c = search needs
 
 returns-2 : tie.Need-returns-2
 unfolding asked
-returns-2 c = held-off (drop-asks _ _ _ _ _ _ (c .before .before .before .before .before .any-set .ensures) (c .before .before .before .before .if1 .left)) (sym (c .before .before .held .ensures) ∙ c .enum-told .given .1)
+returns-2 c = held-off (drop-asks _ _ _ _ _ _ (c .before .before .before .before .before .some-set .ensures) (c .before .before .before .before .if1 .left)) (sym (c .before .before .held .ensures) ∙ c .enum-told .given .1)
 
 same-length-2 : tie.Need-same-length-2
 same-length-2 c = search needs
 
 returns-3 : tie.Need-returns-3
 unfolding asked
-returns-3 c = held-owing (drop-asks _ _ _ _ _ _ (c .before .before .before .before .before .any-set .ensures) (c .before .before .before .before .if1 .left)) (sym (c .before .before .held .ensures) ∙ c .enum-told2 .given .1)
+returns-3 c = held-owing (drop-asks _ _ _ _ _ _ (c .before .before .before .before .before .some-set .ensures) (c .before .before .before .before .if1 .left)) (sym (c .before .before .held .ensures) ∙ c .enum-told2 .given .1)
 
 same-length-3 : tie.Need-same-length-3
 same-length-3 c = search needs
 
 returns-4 : tie.Need-returns-4
-returns-4 c = drop-done _ _ _ _ _ _ (c .before .before .before .before .before .before .before .before .before .any-set .ensures) (c .before .before .before .before .before .before .before .before .if1 .left) _ (sym (c .before .before .before .before .before .before .held .ensures) ∙ c .before .before .before .before .enum-told3 .given .1) _ (c .before .before .set-reg .ensures)
+returns-4 c = drop-done _ _ _ _ _ _ (c .before .before .before .before .before .before .before .before .before .some-set .ensures) (c .before .before .before .before .before .before .before .before .if1 .left) _ (sym (c .before .before .before .before .before .before .held .ensures) ∙ c .before .before .before .before .enum-told3 .given .1) _ (c .before .before .set-reg .ensures)
 
 pub drop-spec : {M : Type 1} → statement M
 drop-spec =
     tie.close
     (tie.spec
-    any-set-requires
+    some-set-requires
     returns
     held-requires
     enum-told

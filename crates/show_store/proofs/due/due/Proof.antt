@@ -4,8 +4,8 @@ use Rattle.show_store.proofs.WholeStore.{due-unnamed, due-yes, due-no}
 use Rattle.show_store.proofs.due.due.Statement.{statement}
 use Rattle.show_store.proofs.due.due.Tie as tie
 
-any-set-requires : tie.Need-any-set-requires
-any-set-requires c κs = search needs
+some-set-requires : tie.Need-some-set-requires
+some-set-requires c κs = search needs
 
 returns : tie.Need-returns
 returns c = search due-unnamed
@@ -20,4 +20,4 @@ returns-3 : tie.Need-returns-3
 returns-3 c = search due-no
 
 pub due-spec : {M : Type 1} → statement M
-due-spec = tie.close (tie.spec any-set-requires returns free-granules-requires returns-2 returns-3)
+due-spec = tie.close (tie.spec some-set-requires returns free-granules-requires returns-2 returns-3)

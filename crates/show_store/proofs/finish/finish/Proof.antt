@@ -7,8 +7,8 @@ use Rattle.show_store.proofs.finish.finish.Tie as tie
 returns : tie.Need-returns
 returns c = search finish-who
 
-any-set-requires : tie.Need-any-set-requires
-any-set-requires c κs = search needs
+some-set-requires : tie.Need-some-set-requires
+some-set-requires c κs = search needs
 
 returns-2 : tie.Need-returns-2
 returns-2 c = search finish-unnamed
@@ -36,7 +36,7 @@ finish-spec =
     tie.close
     (tie.spec
     returns
-    any-set-requires
+    some-set-requires
     returns-2
     running-requires
     same-length
