@@ -10,7 +10,6 @@ use Rattle.model.specs.Batch.{callNumber, events, batchWith, batchAt}
 use Rattle.theory.specs.Lines.{Undamaged, Passes}
 use Rattle.theory.proofs.EachKind.{SameShape, kind-keeps, kind-shape}
 use Rattle.theory.proofs.Steps.{step-cases, run-ok}
-pub use Rattle.theory.proofs.Steps.{refused-same}
 use Rattle.theory.proofs.Passing.{judge-use, judge-make}
 
 -- ---- one step

@@ -11,7 +11,6 @@ use Rattle.theory.specs.Same.{Names, SameStore, Related, event, WordsSta
 use Rattle.theory.specs.Cycle.{Facts}
 use Rattle.theory.proofs.PlainLaws.{names-old, names-more, agrees-first, same-kept}
 use Rattle.theory.proofs.Steps.{outcome-number}
-pub use Rattle.theory.proofs.Steps.{run-append}
 use Rattle.theory.proofs.PlainAccepted.{fed-alike}
 use Rattle.theory.proofs.PlainFed.{fed-zero, fed-not-nine, unfed-named, unfed-kept}
 use Rattle.theory.specs.New.{NewLeaves}
