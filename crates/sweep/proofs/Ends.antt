@@ -10,7 +10,7 @@ use lib.ListN.{length}
 use Rattle.model.specs.Base.{nth, put, zeros}
 use Rattle.model.specs.Image.{Image, isStart, marked, withStarts, withMarks, withPackets, withTracers, withPlayers, withGeneral}
 use Rattle.image.specs.Sized.{Sized, narrow}
-use Rattle.theory.proofs.Judged.{nth-out}
+use Rattle.model.proofs.Laws.{nth-out}
 use Rattle.marking.proofs.Lengths.{start-words, mark-words}
 use Rattle.sweep.specs.Gaps.{goes, freedBelow}
 use Rattle.sweep.specs.Ending.{copied, StartsKept, unscanned, ended}

@@ -12,8 +12,7 @@ use borrow.Author.Tests.{ltb-true, leb-true, eqb-true, eqb-false, not-true, lt-l
 use Rattle.model.specs.Base.{nth, all, every, zeroes}
 use Rattle.model.specs.Image.{Image, granules, word, isStart, marked, links, link, state, count, owed, scanned, running, firstRun}
 use Rattle.model.specs.Undamaged.{zeroGranule, filled, nilOrStart, linksOk, regOk, playerOk, cardOk, markOk, generalOk, idleOk, sound, undamaged}
-pub use Rattle.model.proofs.Laws.{nth-out}
-use Rattle.model.proofs.Laws.{imp-use, imp-make, either-no, either-make, all-use, all-make, every-use, every-nil, every-cons, zeroes-use, zeroes-make}
+use Rattle.model.proofs.Laws.{nth-out, imp-use, imp-make, either-no, either-make, all-use, all-make, every-use, every-nil, every-cons, zeroes-use, zeroes-make}
 use Rattle.theory.specs.Cover.{Counted}
 use Rattle.theory.specs.Lines.{PlayersOk, NilOr, MarksOk, GeneralOk, HeapOk, Start, Lines, Idle, Sound, Undamaged, Sizes}
 use Rattle.theory.proofs.Cover.{cover-use, cover-make}
