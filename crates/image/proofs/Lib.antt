@@ -4,6 +4,7 @@ pub mod Stretches
 pub mod Sizes
 pub mod Masks
 pub mod BitWords
+pub mod Trailing
 pub mod FreshStore
 pub mod Rooms
 pub mod Reading

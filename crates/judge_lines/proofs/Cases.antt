@@ -37,9 +37,6 @@ within p n a past = go (decLt a n)
     go (no h) = rw (le-ltb a n (omega arith), past (omega arith))
 
 module _ (k : ℕ) (l : List ℕ) (z : Sized k l) where
-  pub start-at : (a b : ℕ) (t : Bool) → b ≡ min a (64 * k - 1) → t ≡ isStart (narrow k l) b → (ltb a (64 * k) && t) ≡ isStart (narrow k l) a
-  start-at a b t eb et = clamped (isStart (narrow k l)) (64 * k) a b t (start-past k l z a) eb et
-
   pub mark-at : (a b : ℕ) (t : Bool) → b ≡ min a (64 * k - 1) → t ≡ marked (narrow k l) b → (ltb a (64 * k) && t) ≡ marked (narrow k l) a
   mark-at a b t eb et = clamped (marked (narrow k l)) (64 * k) a b t (mark-past k l z a) eb et
 
@@ -123,6 +120,20 @@ module _ (k : ℕ) (l : List ℕ) (z : Sized k l) where
     card-yes s h q e = rw (ne-eqb c 0 h, le-leb c k q, e) (simp (and-assoc, and-true))
 
   -- ---- the links of a piece, and the whole heap
+
+  pub first-two : (g n : ℕ) (a b : Bool) → a ≡ linkOk (narrow k l) g 0 → b ≡ linkOk (narrow k l) g 1 → ((ltb n 1 || a) && (ltb n 2 || b)) ≡ all (min 2 n) (linkOk (narrow k l) g)
+  unfolding all
+  first-two g n a b ea eb = rw (ea, eb) (go (decLt n 1) (decLt n 2))
+    where
+      p : ℕ → Bool
+      p = linkOk (narrow k l) g
+
+      go : Dec (n < 1) → Dec (n < 2) → ((ltb n 1 || p 0) && (ltb n 2 || p 1)) ≡ all (min 2 n) p
+      go (yes h) d = let e : n ≡ 0 = omega arith in rw e
+      go (no h) (yes d) = let e : n ≡ 1 = omega arith in rw e (and-true (p 0))
+      go (no h) (no d) =
+          let e : min 2 n ≡ 2 = omega arith in
+          rw (e, le-ltb n 1 (omega arith), le-ltb n 2 (omega arith))
 
   module _ (g : ℕ) (t : Bool) (et : t ≡ isStart (narrow k l) g) where
     pub links-object : (n : ℕ) (r : Bool) → t ≡ true → n ≡ word (narrow k l) g 1 → r ≡ all n (linkOk (narrow k l) g) → r ≡ linksOk (narrow k l) g

@@ -13,13 +13,14 @@ use borrow.Author.Tests.{leb-true, not-true, not-false}
 use Rattle.model.specs.Base.{nth, all, implies}
 use Rattle.model.specs.Image.{image, imageOf, granules, word, isStart, links, firstRun}
 use Rattle.model.specs.Undamaged.{bare, piece, fill, filled, linksOk}
-use Rattle.model.proofs.Laws.{false≢, and-split, all-use, all-make, every-use}
+use Rattle.model.proofs.Laws.{false≢, all-use, all-make, every-use}
 use Rattle.image.specs.Sized.{Sized, narrow}
 use Rattle.image.proofs.Reading.{all-first}
 use Rattle.image.proofs.Sections.{narrow-lengths}
-use Rattle.judge_lines.specs.Tests.{Room, notStart, clear, objectAt, pieceAt, nextRun}
+use Rattle.judge_lines.specs.Tests.{Room, notStart, clear, startFrom, startBehind, objectAt, pieceAt, nextRun}
 use Rattle.judge_lines.proofs.Loops.{all-append}
-use Rattle.judge_lines.proofs.Walk.{head-is, tail-at, tail-long, bare-is, object-is, head-use}
+use Rattle.judge_lines.proofs.NextStart.{from-behind, object-here}
+use Rattle.judge_lines.proofs.Walk.{head-is, tail-at, tail-long, bare-is, fits-in, object-is, head-use}
 
 -- ---- one turn of the model's walk
 
@@ -40,13 +41,14 @@ module _ (k : ℕ) (l : List ℕ) where
   abbrev fillFrom : ℕ → ℕ → ℕ → Bool → Bool
   fillFrom n g next run = fill (isStart (narrow k l)) n g (drop (4 * g) (narrow k l .heap)) next run
 
-  -- the state of the loop at g; `good` says whether the links so far are nil or starts
-  pub record Walk (g next : ℕ) (run good : Bool) : Type 0 where
+  -- the state of the loop at g; `good` says whether the links so far are nil or starts, `start` is the next start
+  pub record Walk (g next : ℕ) (run good : Bool) (start : ℕ) : Type 0 where
     pub fuel : ℕ
     pub inside : g ≤ 64 * k
     pub enough : 64 * k < g + fuel
     pub same : fillFrom fuel g next run ≡ filled (narrow k l)
     pub so-far : good ≡ all g (linksOk (narrow k l))
+    pub ahead : start ≡ startFrom (narrow k l) g
 
   abbrev pub heapLines : Bool
   heapLines = filled (narrow k l) && all (granules (narrow k l)) (linksOk (narrow k l))
@@ -107,8 +109,9 @@ module _ (k : ℕ) (l : List ℕ) where
     pub object-room : (g : ℕ) → g < 64 * k → objectAt (narrow k l) g ≡ true → 4 * g + 2 + links (narrow k l) g ≤ 256 * k
     unfolding links
     object-room g hg e =
-        let h = head-use k g (word (narrow k l) g 0) (word (narrow k l) g 1) ((and-split _ _ (sym (object-is k l z g hg _ _ refl refl) ∙ e)) .0) in
-        omega (arith, h .inside, h .links-in)
+        let h = head-use g (word (narrow k l) g 0) (word (narrow k l) g 1) (startBehind (narrow k l) g) (object-is k l z g hg _ _ refl refl _ refl ∙ e) in
+        let f = fits-in k l z g hg (word (narrow k l) g 0) (startBehind (narrow k l) g) refl refl (h .pos) (h .inside) in
+        omega (arith, f .0, h .links-in)
 
     clear-use : (a n h : ℕ) → clear (narrow k l) a n ≡ true → a ≤ h → h < a + n → isStart (narrow k l) h ≡ false
     unfolding clear notStart
@@ -129,11 +132,14 @@ module _ (k : ℕ) (l : List ℕ) where
         all-append g s (linksOk (narrow k l))
         ∙ ap (λ b. all g (linksOk (narrow k l)) && b) ((rw e at (all-first (s - 1) (λ i. linksOk (narrow k l) (g + i)))) ∙ rw (a, add-zero) (and-true _))
 
-    pub w-start : (first : ℕ) → first ≡ firstRun (narrow k l) → isStart (narrow k l) 0 ≡ false → Walk 1 first false true
+    pub w-start : (first start : ℕ) → first ≡ firstRun (narrow k l) → isStart (narrow k l) 0 ≡ false → start ≡ startFrom (narrow k l) 1 → Walk 1 first false true start
     unfolding filled all granules narrow imageOf image
-    w-start first e h = record { fuel = 64 * k; inside = omega (arith, z .low); enough = omega arith; same = rw e; so-far = sym (links-none 0 h) }
+    w-start first start e h ea = record { fuel = 64 * k; inside = omega (arith, z .low); enough = omega arith; same = rw e; so-far = sym (links-none 0 h); ahead = ea }
 
-    module _ (g next : ℕ) (run good : Bool) (w : Walk g next run good) where
+    module _ (g next : ℕ) (run good : Bool) (start : ℕ) (w : Walk g next run good start) where
+      pub w-object : g < 64 * k → eqb g start ≡ isStart (narrow k l) g
+      w-object h = object-here k l z g start h (w .ahead)
+
       module _ (hg : g < 64 * k) (t : Bool) (e : t ≡ pieceAt (narrow k l) g next run) where
         here : filled (narrow k l) ≡ elim t [ false ↦ false | true ↦ fillFrom (w .fuel - 1) (g + word (narrow k l) g 0) (nextRun (narrow k l) g next) (not (isStart (narrow k l) g)) ]
         here =
@@ -143,15 +149,16 @@ module _ (k : ℕ) (l : List ℕ) where
         pub w-stop : not t ≡ true → false ≡ heapLines
         w-stop q = let h : filled (narrow k l) ≡ false = rw (not-true t q) at here in rw h
 
-        pub w-more : not t ≡ false → (s next′ : ℕ) (b c : Bool) → c ≡ linksOk (narrow k l) g → b ≡ isStart (narrow k l) g → next′ ≡ nextRun (narrow k l) g next → s ≡ word (narrow k l) g 0 → Walk (g + s) next′ (not b) (good && c)
-        w-more q s next′ b c ec eb en es =
+        pub w-more : not t ≡ false → (s next′ after : ℕ) (c : Bool) → c ≡ linksOk (narrow k l) g → next′ ≡ nextRun (narrow k l) g next → s ≡ word (narrow k l) g 0 → after ≡ startBehind (narrow k l) g → Walk (g + s) next′ (not (eqb g start)) (good && c) after
+        w-more q s next′ after c ec en es ea =
             let f = fine g next run hg (sym e ∙ not-false t q) in
             record {
               fuel = w .fuel - 1;
               inside = omega (arith, f .inside);
               enough = omega (arith, f .pos, w .enough);
-              same = rw (eb, en, es) (sym (rw (not-false t q) at here));
+              same = rw (w-object hg, en, es) (sym (rw (not-false t q) at here));
               so-far = rw (ec, w .so-far, es) (sym (links-more g (word (narrow k l) g 0) (f .pos) (f .none-behind)));
+              ahead = rw (ea, es) (from-behind k l z g (word (narrow k l) g 0) (f .pos) (f .inside) (f .none-behind));
             }
 
         pub w-less : not t ≡ false → (s : ℕ) → s ≡ word (narrow k l) g 0 → 64 * k - (g + s) < 64 * k - g

@@ -4,7 +4,8 @@ pub mod Past
 pub mod Searched
 pub mod Stretch
 pub mod MarkWords
+pub mod Cases
+pub mod NextStart
 pub mod Walk
 pub mod Fill
-pub mod Cases
 pub mod Idle

@@ -1,7 +1,7 @@
 -- Loops that test every number below n, as `all n p` or `any n p`; laws of these tests.
 use mathlib.Core.Path.{_≡_, refl, sym}
 use mathlib.Core.Bool.{Bool, true, false, _&&_, _||_, and-true, and-assoc}
-use Prim.Native.Nat.{ℕ, zero, suc, _+_, _≤_, _<_}
+use Prim.Native.Nat.{ℕ, zero, suc, _+_, _≤_, _<_, min}
 use native.Mathlib.Numerals.{add-one}
 use native.Mathlib.Nat.{add-zero, add-suc}
 use native.Mathlib.Omega.{arith}
@@ -16,6 +16,9 @@ pub record Passed (n : ℕ) (p : ℕ → Bool) (ok : Bool) (i : ℕ) : Type 0 wh
 pub none : {n : ℕ} {p : ℕ → Bool} → Passed n p true 0
 unfolding all
 none {n} = record { within = omega arith; so-far = refl }
+
+pub from : (m n : ℕ) (p : ℕ → Bool) (ok : Bool) (i : ℕ) → i ≡ min m n → ok ≡ all (min m n) p → Passed n p ok i
+from m n p ok i h e = record { within = omega arith; so-far = rw (← h) at e }
 
 pub more : (n : ℕ) (p : ℕ → Bool) (ok : Bool) (i : ℕ) (t : Bool) → Passed n p ok i → i < n → t ≡ p i → Passed n p (ok && t) (i + 1)
 unfolding all

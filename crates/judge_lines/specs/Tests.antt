@@ -1,17 +1,13 @@
 -- Lines of "undamaged" by index, as the code asks them.
 use mathlib.Core.Path.{_≡_}
 use mathlib.Core.Bool.{Bool, true, false, not, cond}
-use mathlib.Core.List.{[], _∷_}
-use Prim.Native.Nat.{ℕ, suc, _+_, _*_, _≤_, _<_}
+use mathlib.Core.List.{List, [], _∷_}
+use Prim.Native.Nat.{ℕ, zero, suc, _+_, _*_, _-_, _≤_, _<_}
 use lib.Dec.{eqb, ltb}
-use lib.ListN.{take, drop}
-use Rattle.model.specs.Base.{nth, all, every, distinct, eachPiece, zeroes, testBit}
+use lib.ListN.{length, take, drop}
+use Rattle.model.specs.Base.{nth, all, every, distinct, eachPiece, zeroes, bit}
 use Rattle.model.specs.Image.{Image, granules, word, isStart, links, link, count, entry, entries, scanned}
 use Rattle.model.specs.Undamaged.{piece, nilOrStart, markOk, entryOk, packetOk, tracerOk, heldAt, heldOnce}
-
--- bit j + i of the word is 0
-unfoldable pub bitClear : ℕ → ℕ → ℕ → Bool
-bitClear x j i = not (testBit x (j + i))
 
 -- the sixteen granules of bit word w pass
 unfoldable pub atWord : (ℕ → Bool) → ℕ → ℕ → Bool
@@ -33,6 +29,18 @@ module _ (m : Image) where
   -- none of the n granules from a on is a start
   unfoldable pub clear : ℕ → ℕ → Bool
   clear a n = all n (notStart a)
+
+  -- the first start among the n granules from a on, or their end
+  unfoldable pub nextStart : ℕ → ℕ → ℕ
+  nextStart zero a = a
+  nextStart (suc n) a = cond (isStart m a) a (nextStart n (suc a))
+
+  -- the first start from g on, and behind g, or the heap's end
+  unfoldable pub startFrom : ℕ → ℕ
+  startFrom g = nextStart (granules m - g) g
+
+  unfoldable pub startBehind : ℕ → ℕ
+  startBehind g = startFrom (g + 1)
 
   unfoldable pub linkOk : ℕ → ℕ → Bool
   linkOk g i = nilOrStart m (link m g i)
@@ -81,6 +89,11 @@ module _ (m : Image) where
 -- the links of an object that starts at g lie in the heap of k cards
 pub record Room (k : ℕ) (m : Image) (g : ℕ) : Type 0 where
   pub room : isStart m g ≡ true → 4 * g + 2 + links m g ≤ 256 * k
+
+-- bit a of the words says whether a link may name granule a, for every value a of a word
+pub record Names (m : Image) (names : List ℕ) : Type 0 where
+  pub many : length names ≡ 4096
+  pub bits : (a : ℕ) → a < 65536 → bit 16 names a ≡ nilOrStart m a
 
 -- packets have no more entries than places, and these are granules of a narrow store
 pub record Packed (m : Image) : Type 0 where

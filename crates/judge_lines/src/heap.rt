@@ -1,133 +1,142 @@
 // Objects and runs fill the heap; links and registers are nil or starts.
 ghost use mathlib.Core.Path.{_≡_};
 ghost use mathlib.Core.Bool.{false, _&&_};
-ghost use Prim.Native.Nat.{_+_, _*_, _≤_, _<_};
+ghost use Prim.Native.Nat.{_+_, _*_, _≤_, _<_, min};
 ghost use Rattle.model.specs.Base.{all};
 ghost use Rattle.model.specs.Image.{granules, isStart, firstRun};
-ghost use Rattle.model.specs.Undamaged.{nilOrStart, regOk, linksOk, zeroGranule, filled};
+ghost use Rattle.model.specs.Undamaged.{regOk, linksOk, zeroGranule, filled};
 ghost use Rattle.image.specs.Sized.{Sized, narrow};
-ghost use Rattle.judge_lines.specs.Tests.{Room, firstZero, linkOk, objectAt, runAt, pieceAt, nextRun};
+ghost use Rattle.judge_lines.specs.Tests.{Room, Names, firstZero, linkOk, startFrom, startBehind, objectAt, runAt, pieceAt, nextRun};
 
-// ---- starts, and what may link to them
+// ---- registers, and links of the object at g
 
-pub fn start_at(im: &[u16], k: usize, a: usize) -> bool
+pub fn reg_ok(im: &[u16], k: usize, names: &[u16], i: usize) -> bool
     requires { ⌜ Sized k (now im) ⌝ }
-    ensures { λ r. ⌜ r ≡ isStart (narrow k (now (im .entry))) a ⌝ }
-{
-    let b = crate::bare::least(a, 64 * k - 1);
-    (a < 64 * k) & image::bits::is_start(im, k, b)
-}
-
-pub fn nil_or_start(im: &[u16], k: usize, a: usize) -> bool
-    requires { ⌜ Sized k (now im) ⌝ }
-    ensures { λ r. ⌜ r ≡ nilOrStart (narrow k (now (im .entry))) a ⌝ }
-{
-    (a == 0) | start_at(im, k, a)
-}
-
-pub fn reg_ok(im: &[u16], k: usize, i: usize) -> bool
-    requires { ⌜ Sized k (now im) ⌝ }
+    requires { ⌜ Names (narrow k (now im)) (now names) ⌝ }
     requires { ⌜ i < 256 ⌝ }
     ensures { λ r. ⌜ r ≡ regOk (narrow k (now (im .entry))) i ⌝ }
 {
-    nil_or_start(im, k, image::reg_word(im, k, i) as usize)
+    crate::starts::is_named(names, image::reg_word(im, k, i))
 }
 
-pub fn regs_ok(im: &[u16], k: usize) -> bool
+pub fn regs_ok(im: &[u16], k: usize, names: &[u16]) -> bool
     requires { ⌜ Sized k (now im) ⌝ }
+    requires { ⌜ Names (narrow k (now im)) (now names) ⌝ }
     ensures { λ r. ⌜ r ≡ all 256 (regOk (narrow k (now (im .entry)))) ⌝ }
 {
     let mut ok = true;
     let mut i = 0;
     while i < 256 {
-        ok = ok & reg_ok(im, k, i);
+        ok = ok & reg_ok(im, k, names, i);
         i += 1;
     }
     ok
 }
 
-// ---- links of the object at g
-
-pub fn link_ok(im: &[u16], k: usize, g: usize, i: usize) -> bool
+pub fn link_ok(im: &[u16], k: usize, names: &[u16], g: usize, i: usize) -> bool
     requires { ⌜ Sized k (now im) ⌝ }
+    requires { ⌜ Names (narrow k (now im)) (now names) ⌝ }
     requires { ⌜ 4 * g + 2 + i < 256 * k ⌝ }
     ensures { λ r. ⌜ r ≡ linkOk (narrow k (now (im .entry))) g i ⌝ }
 {
-    nil_or_start(im, k, image::word(im, k, g, 2 + i) as usize)
+    crate::starts::is_named(names, image::word(im, k, g, 2 + i))
 }
 
-pub fn links_ok(im: &[u16], k: usize, g: usize, n: usize) -> bool
+// The links in the object's first granule, with no branch: most objects have few.
+pub fn first_links(im: &[u16], k: usize, names: &[u16], g: usize, n: usize) -> bool
     requires { ⌜ Sized k (now im) ⌝ }
+    requires { ⌜ Names (narrow k (now im)) (now names) ⌝ }
+    requires { ⌜ g < 64 * k ⌝ }
+    ensures { λ r. ⌜ r ≡ all (min 2 n) (linkOk (narrow k (now (im .entry))) g) ⌝ }
+{
+    ((n < 1) | link_ok(im, k, names, g, 0)) & ((n < 2) | link_ok(im, k, names, g, 1))
+}
+
+pub fn links_ok(im: &[u16], k: usize, names: &[u16], g: usize, n: usize) -> bool
+    requires { ⌜ Sized k (now im) ⌝ }
+    requires { ⌜ Names (narrow k (now im)) (now names) ⌝ }
+    requires { ⌜ g < 64 * k ⌝ }
     requires { ⌜ 4 * g + 2 + n ≤ 256 * k ⌝ }
     ensures { λ r. ⌜ r ≡ all n (linkOk (narrow k (now (im .entry))) g) ⌝ }
 {
-    let mut ok = true;
-    let mut i = 0;
+    let mut ok = first_links(im, k, names, g, n);
+    let mut i = crate::starts::least(2, n);
     while i < n {
-        ok = ok & link_ok(im, k, g, i);
+        ok = ok & link_ok(im, k, names, g, i);
         i += 1;
     }
     ok
 }
 
-pub fn object_links(im: &[u16], k: usize, g: usize) -> bool
+pub fn object_links(im: &[u16], k: usize, names: &[u16], g: usize, object: bool) -> bool
     requires { ⌜ Sized k (now im) ⌝ }
+    requires { ⌜ Names (narrow k (now im)) (now names) ⌝ }
     requires { ⌜ g < 64 * k ⌝ }
+    requires { ⌜ object ≡ isStart (narrow k (now im)) g ⌝ }
     requires { ⌜ Room k (narrow k (now im)) g ⌝ }
     ensures { λ r. ⌜ r ≡ linksOk (narrow k (now (im .entry))) g ⌝ }
 {
-    if image::bits::is_start(im, k, g) {
-        return links_ok(im, k, g, image::word(im, k, g, 1) as usize);
+    if object {
+        return links_ok(im, k, names, g, image::word(im, k, g, 1) as usize);
     }
     true
 }
 
-// ---- pieces
+// ---- pieces: no start lies behind the first granule of the piece at g if it ends at `after`, the next start, or before
 
-pub fn object_ok(im: &[u16], k: usize, g: usize) -> bool
+pub fn object_ok(im: &[u16], k: usize, g: usize, after: usize) -> bool
     requires { ⌜ Sized k (now im) ⌝ }
     requires { ⌜ g < 64 * k ⌝ }
+    requires { ⌜ after ≡ startBehind (narrow k (now im)) g ⌝ }
     ensures { λ r. ⌜ r ≡ objectAt (narrow k (now (im .entry))) g ⌝ }
 {
     let s = image::word(im, k, g, 0) as usize;
     let n = image::word(im, k, g, 1) as usize;
-    let fits = (1 <= s) & (s <= 1024) & (g + s <= 64 * k) & (n + 2 <= 4 * s);
-    if !fits {
-        return false;
-    }
-    crate::bare::is_clear(im, k, g + 1, s - 1)
+    (1 <= s) & (s <= 1024) & (g + s <= after) & (n + 2 <= 4 * s)
 }
 
-pub fn run_ok(im: &[u16], k: usize, g: usize, next: usize, run: bool) -> bool
+pub fn run_ok(im: &[u16], k: usize, g: usize, after: usize, next: usize, run: bool) -> bool
     requires { ⌜ Sized k (now im) ⌝ }
     requires { ⌜ g < 64 * k ⌝ }
+    requires { ⌜ after ≡ startBehind (narrow k (now im)) g ⌝ }
     ensures { λ r. ⌜ r ≡ runAt (narrow k (now (im .entry))) g next run ⌝ }
 {
     let s = image::word(im, k, g, 0) as usize;
-    let fits = (!run) & (g == next) & (1 <= s) & (g + s <= 64 * k);
+    let fits = (!run) & (g == next) & (1 <= s) & (g + s <= after);
     if !fits {
         return false;
     }
-    crate::bare::is_clear(im, k, g + 1, s - 1) & image::parts::run_zero(im, k, g, s)
+    image::parts::run_zero(im, k, g, s)
 }
 
-pub fn piece_ok(im: &[u16], k: usize, g: usize, next: usize, run: bool) -> bool
+pub fn piece_ok(
+    im: &[u16],
+    k: usize,
+    g: usize,
+    object: bool,
+    after: usize,
+    next: usize,
+    run: bool,
+) -> bool
     requires { ⌜ Sized k (now im) ⌝ }
     requires { ⌜ g < 64 * k ⌝ }
+    requires { ⌜ object ≡ isStart (narrow k (now im)) g ⌝ }
+    requires { ⌜ after ≡ startBehind (narrow k (now im)) g ⌝ }
     ensures { λ r. ⌜ r ≡ pieceAt (narrow k (now (im .entry))) g next run ⌝ }
 {
-    if image::bits::is_start(im, k, g) {
-        return object_ok(im, k, g);
+    if object {
+        return object_ok(im, k, g, after);
     }
-    run_ok(im, k, g, next, run)
+    run_ok(im, k, g, after, next, run)
 }
 
-pub fn next_run(im: &[u16], k: usize, g: usize, next: usize) -> usize
+pub fn next_run(im: &[u16], k: usize, g: usize, object: bool, next: usize) -> usize
     requires { ⌜ Sized k (now im) ⌝ }
     requires { ⌜ g < 64 * k ⌝ }
+    requires { ⌜ object ≡ isStart (narrow k (now im)) g ⌝ }
     ensures { λ r. ⌜ r ≡ nextRun (narrow k (now (im .entry))) g next ⌝ }
 {
-    if image::bits::is_start(im, k, g) {
+    if object {
         return next;
     }
     image::word(im, k, g, 1) as usize
@@ -135,8 +144,22 @@ pub fn next_run(im: &[u16], k: usize, g: usize, next: usize) -> usize
 
 // ---- the walk
 
-pub fn walk(im: &[u16], k: usize, first: usize) -> bool
+// The next start behind g, where `start` is the next one from g on.
+pub fn start_behind(im: &[u16], k: usize, g: usize, start: usize) -> usize
     requires { ⌜ Sized k (now im) ⌝ }
+    requires { ⌜ g < 64 * k ⌝ }
+    requires { ⌜ start ≡ startFrom (narrow k (now im)) g ⌝ }
+    ensures { λ r. ⌜ r ≡ startBehind (narrow k (now (im .entry))) g ⌝ }
+{
+    if g == start {
+        return crate::starts::next_start(im, k, g + 1);
+    }
+    start
+}
+
+pub fn walk(im: &[u16], k: usize, names: &[u16], first: usize) -> bool
+    requires { ⌜ Sized k (now im) ⌝ }
+    requires { ⌜ Names (narrow k (now im)) (now names) ⌝ }
     requires { ⌜ first ≡ firstRun (narrow k (now im)) ⌝ }
     requires { ⌜ isStart (narrow k (now im)) 0 ≡ false ⌝ }
     ensures { λ r. ⌜ r ≡ (filled (narrow k (now (im .entry))) && all (granules (narrow k (now (im .entry)))) (linksOk (narrow k (now (im .entry))))) ⌝ }
@@ -145,13 +168,16 @@ pub fn walk(im: &[u16], k: usize, first: usize) -> bool
     let mut next = first;
     let mut run = false;
     let mut good = true;
+    let mut start = crate::starts::next_start(im, k, 1);
     while g < 64 * k {
-        if !piece_ok(im, k, g, next, run) {
+        let object = g == start;
+        start = start_behind(im, k, g, start);
+        if !piece_ok(im, k, g, object, start, next, run) {
             return false;
         }
-        good = good & object_links(im, k, g);
-        run = !image::bits::is_start(im, k, g);
-        next = next_run(im, k, g, next);
+        good = good & object_links(im, k, names, g, object);
+        run = !object;
+        next = next_run(im, k, g, object, next);
         g += image::word(im, k, g, 0) as usize;
     }
     (next == 0) & good
@@ -187,12 +213,13 @@ pub fn first_unused(im: &[u16], k: usize) -> bool
     first_zeros(im, k) & !image::bits::is_start(im, k, 0)
 }
 
-pub fn heap_ok(im: &[u16], k: usize) -> bool
+pub fn heap_ok(im: &[u16], k: usize, names: &[u16]) -> bool
     requires { ⌜ Sized k (now im) ⌝ }
+    requires { ⌜ Names (narrow k (now im)) (now names) ⌝ }
     ensures { λ r. ⌜ r ≡ (zeroGranule (narrow k (now (im .entry))) && (filled (narrow k (now (im .entry))) && all (granules (narrow k (now (im .entry)))) (linksOk (narrow k (now (im .entry)))))) ⌝ }
 {
     if !first_unused(im, k) {
         return false;
     }
-    walk(im, k, image::first_run(im, k) as usize)
+    walk(im, k, names, image::first_run(im, k) as usize)
 }

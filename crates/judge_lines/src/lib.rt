@@ -6,10 +6,10 @@ ghost use Rattle.model.specs.Undamaged.{cardOk, playerOk, generalOk, sound};
 ghost use Rattle.image.specs.Sized.{Sized, narrow};
 ghost use Rattle.judge_lines.specs.Tests.{spareOk, unscanned, idle, cycleLines};
 
-pub mod bare; // bare.rt: words and start bits that are 0
 pub mod heap; // heap.rt: objects and runs fill the heap; links and registers are nil or starts
 pub mod marks; // marks.rt: marks stand only on starts
 pub mod packets; // packets.rt: packets, and no object entered twice
+pub mod starts; // starts.rt: the next start, and the granules that a link may name
 pub mod tracers; // tracers.rt: hands, cards in hand, held packets
 
 // ---- cards and players
@@ -142,8 +142,10 @@ pub fn is_sound(im: &[u16], k: usize) -> bool
     requires { ⌜ Sized k (now im) ⌝ }
     ensures { λ r. ⌜ r ≡ sound (narrow k (now (im .entry))) ⌝ }
 {
-    let layout = heap::heap_ok(im, k)
-        & heap::regs_ok(im, k)
+    let mut names: [u16; 4096] = [0; 4096];
+    starts::note_names(im, k, &mut names);
+    let layout = heap::heap_ok(im, k, &names)
+        & heap::regs_ok(im, k, &names)
         & cards_ok(im, k)
         & players_ok(im, k)
         & general_ok(im, k);

@@ -12,7 +12,7 @@ use Rattle.model.specs.Image.{Image, imageOf, image, marked}
 use Rattle.model.specs.Collect.{nextMarked}
 use Rattle.image.specs.Sized.{narrow}
 use Rattle.packets.specs.Marks.{CardMarks}
-use Rattle.packets.proofs.Trailing.{Lowest, trailing-lowest}
+use Rattle.image.proofs.Trailing.{Lowest, trailing-lowest}
 use Rattle.model.proofs.Laws.{false≢}
 use lib.Count.{trailingZeros}
 

@@ -3,8 +3,20 @@ use Rattle.judge_lines.proofs.Idle.{sound-still, sound-cycle}
 use Rattle.judge_lines.proofs.is_sound.Statement.{statement}
 use Rattle.judge_lines.proofs.is_sound.Tie as tie
 
+slice-aggregate-note-names : tie.Need-slice-aggregate-note-names
+slice-aggregate-note-names c = search needs
+
+note-names-requires : tie.Need-note-names-requires
+note-names-requires c κs = search needs
+
+slice-aggregate-heap-ok : tie.Need-slice-aggregate-heap-ok
+slice-aggregate-heap-ok c = search needs
+
 heap-ok-requires : tie.Need-heap-ok-requires
 heap-ok-requires c κs = search needs
+
+slice-aggregate-regs-ok : tie.Need-slice-aggregate-regs-ok
+slice-aggregate-regs-ok c = search needs
 
 regs-ok-requires : tie.Need-regs-ok-requires
 regs-ok-requires c κs = search needs
@@ -37,7 +49,11 @@ pub is-sound-spec : {M : Type 1} → statement M
 is-sound-spec =
     tie.close
     (tie.spec
+    slice-aggregate-note-names
+    note-names-requires
+    slice-aggregate-heap-ok
     heap-ok-requires
+    slice-aggregate-regs-ok
     regs-ok-requires
     cards-ok-requires
     players-ok-requires

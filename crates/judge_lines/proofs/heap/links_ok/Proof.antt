@@ -1,5 +1,5 @@
 use Rattle.judge_lines.specs.Tests.{linkOk}
-use Rattle.judge_lines.proofs.Loops.{Passed, none, more, end}
+use Rattle.judge_lines.proofs.Loops.{Passed, from, more, end}
 use Rattle.model.specs.Cases.{ok}
 use Rattle.image.specs.Sized.{narrow}
 use Prim.Native.Nat.{_-_}
@@ -8,13 +8,19 @@ use Rattle.judge_lines.proofs.heap.links_ok.Statement.{statement}
 use Rattle.judge_lines.proofs.heap.links_ok.Tie as tie
 
 abbrev Inv-loop : tie.InvT-loop
-Inv-loop im k g n ok₀ i₀ ok i = Passed (n) (linkOk (narrow k im) g) ok i
+Inv-loop im k names g n ok₀ i₀ ok i = Passed (n) (linkOk (narrow k im) g) ok i
 
 abbrev μ-loop : tie.MeasureT-loop
-μ-loop im k g n ok₀ i₀ ok i = (n) - i
+μ-loop im k names g n ok₀ i₀ ok i = (n) - i
+
+first-links-requires : tie.Need-first-links-requires Inv-loop μ-loop
+first-links-requires c κs = search needs
+
+least-requires : tie.Need-least-requires Inv-loop μ-loop
+least-requires c κs = search needs
 
 loop-holds : tie.Need-loop-holds Inv-loop μ-loop
-loop-holds c = none
+loop-holds c = from 2 _ _ _ _ (c .least .ensures) (c .before .first-links .ensures)
 
 link-ok-requires : tie.Need-link-ok-requires Inv-loop μ-loop
 link-ok-requires c κs = search needs
@@ -34,4 +40,4 @@ returns c = search end
 pub links-ok-spec : {M : Type 1} → statement M
 links-ok-spec =
     tie.close
-    (tie.spec Inv-loop μ-loop loop-holds link-ok-requires add-i loop-less loop-again returns)
+    (tie.spec Inv-loop μ-loop first-links-requires least-requires loop-holds link-ok-requires add-i loop-less loop-again returns)

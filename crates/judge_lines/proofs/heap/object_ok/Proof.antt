@@ -1,6 +1,5 @@
 use borrow.Author.Needs.{needs}
-use Rattle.judge_lines.proofs.Walk.{object-head, object-no, object-yes}
-use native.Mathlib.Omega.{arith}
+use Rattle.judge_lines.proofs.Walk.{object-is}
 use Rattle.judge_lines.proofs.heap.object_ok.Statement.{statement}
 use Rattle.judge_lines.proofs.heap.object_ok.Tie as tie
 
@@ -16,32 +15,17 @@ word-requires-2 c κs = search needs
 cast-n : tie.Need-cast-n
 cast-n c = search needs
 
-add-fits : tie.Need-add-fits
-add-fits c = search needs
+add-result : tie.Need-add-result
+add-result c = search needs
 
-mul-fits : tie.Need-mul-fits
-mul-fits c = search needs
+add-result-2 : tie.Need-add-result-2
+add-result-2 c = search needs
 
-add-fits-2 : tie.Need-add-fits-2
-add-fits-2 c = search needs
-
-mul-fits-2 : tie.Need-mul-fits-2
-mul-fits-2 c = search needs
+mul-result : tie.Need-mul-result
+mul-result c = search needs
 
 returns : tie.Need-returns
-returns c = search object-no
-
-add-is-clear : tie.Need-add-is-clear
-add-is-clear c = search needs
-
-sub-is-clear : tie.Need-sub-is-clear
-sub-is-clear c = omega (arith, object-head _ _ _ _ _ (c .before .before .word .ensures) (c .before .word2 .ensures) (c .if1 .left))
-
-is-clear-requires : tie.Need-is-clear-requires
-is-clear-requires c κs = (search needs, omega (arith, object-head _ _ _ _ _ (c .before .before .word .ensures) (c .before .word2 .ensures) (c .if1 .left)))
-
-returns-2 : tie.Need-returns-2
-returns-2 c = search object-yes
+returns c = search object-is
 
 pub object-ok-spec : {M : Type 1} → statement M
 object-ok-spec =
@@ -51,12 +35,7 @@ object-ok-spec =
     cast-s
     word-requires-2
     cast-n
-    add-fits
-    mul-fits
-    add-fits-2
-    mul-fits-2
-    returns
-    add-is-clear
-    sub-is-clear
-    is-clear-requires
-    returns-2)
+    add-result
+    add-result-2
+    mul-result
+    returns)

@@ -8,10 +8,10 @@ use Rattle.judge_lines.proofs.heap.regs_ok.Statement.{statement}
 use Rattle.judge_lines.proofs.heap.regs_ok.Tie as tie
 
 abbrev Inv-loop : tie.InvT-loop
-Inv-loop im k ok₀ i₀ ok i = Passed (256) (regOk (narrow k im)) ok i
+Inv-loop im k names ok₀ i₀ ok i = Passed (256) (regOk (narrow k im)) ok i
 
 abbrev μ-loop : tie.MeasureT-loop
-μ-loop im k ok₀ i₀ ok i = (256) - i
+μ-loop im k names ok₀ i₀ ok i = (256) - i
 
 loop-holds : tie.Need-loop-holds Inv-loop μ-loop
 loop-holds c = none

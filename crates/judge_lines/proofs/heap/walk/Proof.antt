@@ -1,5 +1,4 @@
-use Rattle.judge_lines.proofs.Fill.{Walk, w-start, w-stop, w-more, w-less, w-room, w-end}
-use Rattle.judge_lines.proofs.Walk.{next-run}
+use Rattle.judge_lines.proofs.Fill.{Walk, w-start, w-object, w-stop, w-more, w-less, w-room, w-end}
 use Rattle.model.specs.Base.{first}
 use Rattle.model.specs.Steps.{run}
 use Prim.Native.Nat.{_*_, _-_}
@@ -8,31 +7,34 @@ use Rattle.judge_lines.proofs.heap.walk.Statement.{statement}
 use Rattle.judge_lines.proofs.heap.walk.Tie as tie
 
 abbrev Inv-loop : tie.InvT-loop
-Inv-loop im k first g₀ next₀ run₀ good₀ g next run good = Walk k im g next run good
+Inv-loop im k names first g₀ next₀ run₀ good₀ start₀ g next run good start = Walk k im g next run good start
 
 abbrev μ-loop : tie.MeasureT-loop
-μ-loop im k first g₀ next₀ run₀ good₀ g next run good = 64 * k - g
+μ-loop im k names first g₀ next₀ run₀ good₀ start₀ g next run good start = 64 * k - g
+
+next-start-requires : tie.Need-next-start-requires Inv-loop μ-loop
+next-start-requires c κs = search needs
 
 loop-holds : tie.Need-loop-holds Inv-loop μ-loop
-loop-holds c = w-start _ _ (c .before .pre .0) _ (c .before .pre .1 .0) (c .before .pre .1 .1)
+loop-holds c = search w-start
 
 mul-loop : tie.Need-mul-loop Inv-loop μ-loop
 mul-loop c = search needs
 
+start-behind-requires : tie.Need-start-behind-requires Inv-loop μ-loop
+start-behind-requires c κs = (search needs, (search needs, c .before .loop .inv .ahead))
+
 piece-ok-requires : tie.Need-piece-ok-requires Inv-loop μ-loop
-piece-ok-requires c κs = search needs
+piece-ok-requires c κs = (search needs, (search needs, (search w-object, c .start-behind .ensures)))
 
 returns : tie.Need-returns Inv-loop μ-loop
 returns c = search w-stop
 
 object-links-requires : tie.Need-object-links-requires Inv-loop μ-loop
-object-links-requires c κs = (search needs, (search needs, search w-room))
-
-is-start-requires : tie.Need-is-start-requires Inv-loop μ-loop
-is-start-requires c κs = search needs
+object-links-requires c κs = (search needs, (search needs, (search needs, (search w-object, w-room _ _ (c .before .before .before .before .before .before .before .before .pre .0) _ _ _ _ _ (c .before .before .before .before .loop .inv) (c .before .before .before .loop-test .taken) _ (c .before .piece-ok .ensures) (c .if1 .left)))))
 
 next-run-requires : tie.Need-next-run-requires Inv-loop μ-loop
-next-run-requires c κs = search needs
+next-run-requires c κs = (search needs, (search needs, search w-object))
 
 word-requires : tie.Need-word-requires Inv-loop μ-loop
 word-requires c κs = search needs
@@ -44,10 +46,10 @@ add-g : tie.Need-add-g Inv-loop μ-loop
 add-g c = search needs
 
 loop-less : tie.Need-loop-less Inv-loop μ-loop
-loop-less c = w-less _ _ (c .before .before .before .before .before .before .before .before .before .pre .0) _ _ _ _ (c .before .before .before .before .before .before .before .loop .inv) (c .before .before .before .before .before .before .loop-test .taken) _ (c .before .before .before .before .before .piece-ok .ensures) (c .before .before .before .before .if1 .left) _ (c .word .ensures)
+loop-less c = w-less _ _ (c .before .before .before .before .before .before .before .before .before .before .before .pre .0) _ _ _ _ _ (c .before .before .before .before .before .before .before .loop .inv) (c .before .before .before .before .before .before .loop-test .taken) _ (c .before .before .before .before .piece-ok .ensures) (c .before .before .before .if1 .left) _ (c .word .ensures)
 
 loop-again : tie.Need-loop-again Inv-loop μ-loop
-loop-again c = w-more _ _ (c .before .before .before .before .before .before .before .before .before .pre .0) _ _ _ _ (c .before .before .before .before .before .before .before .loop .inv) (c .before .before .before .before .before .before .loop-test .taken) _ (c .before .before .before .before .before .piece-ok .ensures) (c .before .before .before .before .if1 .left) _ _ _ _ (c .before .before .before .object-links .ensures) (c .before .before .is-start .ensures) (c .before .next-run .ensures) (c .word .ensures)
+loop-again c = w-more _ _ (c .before .before .before .before .before .before .before .before .before .before .before .pre .0) _ _ _ _ _ (c .before .before .before .before .before .before .before .loop .inv) (c .before .before .before .before .before .before .loop-test .taken) _ (c .before .before .before .before .piece-ok .ensures) (c .before .before .before .if1 .left) _ _ _ _ (c .before .before .object-links .ensures) (c .before .next-run .ensures) (c .word .ensures) (c .before .before .before .before .before .start-behind .ensures)
 
 returns-2 : tie.Need-returns-2 Inv-loop μ-loop
 returns-2 c = search w-end
@@ -58,12 +60,13 @@ walk-spec =
     (tie.spec
     Inv-loop
     μ-loop
+    next-start-requires
     loop-holds
     mul-loop
+    start-behind-requires
     piece-ok-requires
     returns
     object-links-requires
-    is-start-requires
     next-run-requires
     word-requires
     cast-g
