@@ -3,6 +3,7 @@
 
 mod work;
 
+use std::cell::RefCell;
 use std::hint::black_box;
 use std::time::{Duration, Instant};
 
@@ -23,11 +24,20 @@ fn timed(work: impl FnOnce()) -> Duration {
     began.elapsed()
 }
 
+/// The shortest timing of each work. They run in turn, eight times each, so that a slow moment of the machine falls on all of them.
+fn in_turn<const N: usize>(rounds: usize, mut works: [&mut dyn FnMut(); N]) -> [f64; N] {
+    let mut least = [f64::MAX; N];
+    for _ in 0..rounds {
+        for (work, least) in works.iter_mut().zip(&mut least) {
+            *least = least.min(shortest(8, || timed(&mut *work)));
+        }
+    }
+    least
+}
+
 /// One plain pass that adds up the words.
-fn pass(image: &[u16]) -> f64 {
-    shortest(200, || timed(|| {
-        black_box(black_box(image).iter().map(|&word| u64::from(word)).sum::<u64>());
-    }))
+fn pass(image: &[u16]) {
+    black_box(black_box(image).iter().map(|&word| u64::from(word)).sum::<u64>());
 }
 
 /// Never slower than the second implementation, within the error of measuring.
@@ -47,33 +57,78 @@ impl Goals {
     }
 }
 
+/// What judging an image of one kind takes, in nanoseconds and in plain passes: the mean over all, and the most passes of one.
+struct Judged {
+    ours: f64,
+    theirs: f64,
+    passes: f64,
+    most_passes: f64,
+}
+
+fn judged(images: &[Vec<u16>]) -> Judged {
+    let mut sum = Judged { ours: 0.0, theirs: 0.0, passes: 0.0, most_passes: 0.0 };
+    let share = 1.0 / images.len() as f64;
+    for image in images {
+        let [ours, theirs, pass] = in_turn(8, [
+            &mut || { black_box(library::judge(black_box(image))); },
+            &mut || { black_box(reference::judge(black_box(image))); },
+            &mut || pass(image),
+        ]);
+        let passes = ours / pass;
+        sum.ours += share * ours;
+        sum.theirs += share * theirs;
+        sum.passes += share * passes;
+        sum.most_passes = sum.most_passes.max(passes);
+    }
+    sum
+}
+
+fn drawn(make: fn(&mut Random, usize) -> Vec<u16>, k: usize, count: u64) -> Vec<Vec<u16>> {
+    (1..=count).map(|seed| make(&mut Random::new(seed), k)).collect()
+}
+
 fn judging(goals: &mut Goals) {
-    println!("judge                         library ns  second ns  library/second  library/pass");
-    let mut random = Random::new(7);
-    let mut per_card = Vec::new();
+    println!("judge                         library ns  second ns  library/second  passes  most");
     for k in [1, 16, 64, 512] {
-        let images = [
-            ("fresh", fresh_image(k)),
-            ("no cycle", work::compact(k)),
-            ("no cycle, random", idle(&mut random, k)),
-            ("in a cycle", work::half_marked(k)),
-            ("in a cycle, random", running(&mut random, k)),
+        let kinds = [
+            ("fresh", vec![fresh_image(k)]),
+            ("no cycle", vec![work::compact(k)]),
+            ("no cycle, random", drawn(idle, k, 12)),
+            ("in a cycle", vec![work::half_marked(k)]),
+            ("in a cycle, random", drawn(running, k, 12)),
         ];
-        for (what, image) in images {
-            let ours = shortest(60, || timed(|| { black_box(library::judge(black_box(&image))); }));
-            let theirs = shortest(15, || timed(|| { black_box(reference::judge(black_box(&image))); }));
-            let passes = ours / pass(&image);
-            println!("  k = {k:3}, {what:18} {ours:11.0} {theirs:10.0} {:14.2} {passes:13.1}", ours / theirs);
+        for (what, images) in kinds {
+            let Judged { ours, theirs, passes, most_passes } = judged(&images);
+            println!("  k = {k:3}, {what:18} {ours:11.0} {theirs:10.0} {:14.2} {passes:8.1} {most_passes:5.1}", ours / theirs);
             goals.at_most("judge against the second implementation", ours / theirs, NOT_SLOWER);
-            if what == "no cycle" && k == 512 {
+            if k == 512 && !what.starts_with("in a cycle") {
                 goals.at_most("judge with no cycle at k = 512, in plain passes", passes, 5.0);
             }
-            per_card.push((what, k, ours / k as f64));
         }
     }
-    for what in ["no cycle", "in a cycle"] {
-        let card = |k: usize| per_card.iter().find(|&&(name, n, _)| name == what && n == k).expect("measured").2;
-        let growth = card(512) / card(64);
+}
+
+fn judge_all(images: &[Vec<u16>]) {
+    for image in images {
+        black_box(library::judge(black_box(image)));
+    }
+}
+
+/// As many cards are judged at each k, in turn: one small image judged again and again would be known to the processor's caches
+/// and branch predictor. The sizes of objects are drawn first, so that image n is of the same kind at each k.
+fn growing(goals: &mut Goals) {
+    let kinds: [(&str, fn(usize) -> Vec<Vec<u16>>); 4] = [
+        ("no cycle", |k| vec![work::compact(k)]),
+        ("no cycle, random", |k| drawn(idle, k, 24)),
+        ("in a cycle", |k| vec![work::half_marked(k)]),
+        ("in a cycle, random", |k| drawn(running, k, 24)),
+    ];
+    for (what, make) in kinds {
+        let large = make(512);
+        let small = make(64);
+        let small: Vec<_> = (0..512 / 64).flat_map(|_| small.clone()).collect();
+        let [large, small] = in_turn(4, [&mut || judge_all(&large), &mut || judge_all(&small)]);
+        let growth = large / small;
         println!("  cost of a card, {what}, k = 512 against k = 64: {growth:.2}");
         goals.at_most("cost of a card, k = 512 against k = 64", growth, 1.3);
     }
@@ -82,14 +137,11 @@ fn judging(goals: &mut Goals) {
 fn making(goals: &mut Goals) {
     println!("fresh");
     for k in [1, 16, 512] {
-        let mut image = vec![1; reference::length(k)];
-        // Turn by turn, since both write the same words and little else tells them apart.
-        let mut ours = f64::MAX;
-        let mut theirs = f64::MAX;
-        for _ in 0..200 {
-            theirs = theirs.min(shortest(1, || timed(|| { black_box(reference::fresh(black_box(&mut image))); })));
-            ours = ours.min(shortest(1, || timed(|| { black_box(library::fresh(black_box(&mut image))); })));
-        }
+        let image = RefCell::new(vec![1; reference::length(k)]);
+        let [ours, theirs] = in_turn(25, [
+            &mut || { black_box(library::fresh(black_box(&mut image.borrow_mut()))); },
+            &mut || { black_box(reference::fresh(black_box(&mut image.borrow_mut()))); },
+        ]);
         println!("  k = {k:3}               {ours:12.0} {theirs:10.0} {:14.2}", ours / theirs);
         goals.at_most("fresh against the second implementation", ours / theirs, NOT_SLOWER);
     }
@@ -157,6 +209,7 @@ fn finishing(goals: &mut Goals) {
 fn main() {
     let mut goals = Goals { check: std::env::args().any(|a| a == "--check"), missed: 0 };
     judging(&mut goals);
+    growing(&mut goals);
     making(&mut goals);
     stepping(&mut goals);
     finishing(&mut goals);
