@@ -6,13 +6,15 @@ use Prim.Native.Nat.{ℕ, suc, _+_, _*_, _/_, _≤_, _<_}
 use native.Mathlib.Numerals.{add-one}
 use native.Mathlib.Omega.{arith}
 use lib.Dec.{leb, eqb}
+use lib.ListN.{length}
 use borrow.Author.Tests.{eq-eqb, ne-eqb, not-true, not-false}
 use Rattle.model.specs.Base.{nth, all, any, every, some, implies, bit}
 use Rattle.model.specs.Image.{image, imageOf, word, marked, links, link, state, isDirty, dirty, hand, nextLink, handCard, nextGranule, owed}
 use Rattle.model.specs.Undamaged.{entered, linkToCome, granuleToCome, owedWith, covered, cover}
 use Rattle.model.proofs.Laws.{false≢, all-use, all-make}
-use Rattle.image.specs.Sized.{narrow}
+use Rattle.image.specs.Sized.{Sized, narrow}
 use Rattle.judge_lines.specs.Tests.{atWord, wordwise}
+use Rattle.judge_lines.specs.Once.{EnteredSet}
 use Rattle.judge_lines.proofs.Loops.{all-cong}
 use Rattle.judge_lines.proofs.Idle.{no-bit}
 use Rattle.judge_lines.proofs.MarkWords.{by-words}
@@ -133,20 +135,19 @@ module _ (k : ℕ) (l : List ℕ) where
   unfolding dirty isDirty some
   dirty-is c x e = rw (← e, or-false)
 
+  pub set-place : (g : ℕ) (set : List ℕ) → Sized k l → EnteredSet (narrow k l) set → g < 64 * k → g / 16 < length set
+  set-place g set z es h = omega (arith, z .high, es .long)
+
   module _ (g : ℕ) (d : Bool) (ed : d ≡ dirty (narrow k l) (g / 64)) where
     pub coming-dirty : d ≡ true → true ≡ coming (narrow k l) g
     unfolding coming some
     coming-dirty h = rw (← ed, h)
 
-    module _ (hd : d ≡ false) (c : Bool) (ec : c ≡ any 8 (cardComes (narrow k l) g)) where
-      pub coming-card : c ≡ true → true ≡ coming (narrow k l) g
-      unfolding coming some granuleToCome cardComes
-      coming-card h = rw (← ed, hd, ← ec, h) (sym (or-true (entered (narrow k l) g)))
-        where
-          or-true : (b : Bool) → (b || true) ≡ true
-          or-true true = refl
-          or-true false = refl
+    module _ (hd : d ≡ false) (set : List ℕ) (es : EnteredSet (narrow k l) set) (x : Bool) (ex : x ≡ bit 16 set g) where
+      pub coming-entered : x ≡ true → true ≡ coming (narrow k l) g
+      unfolding coming some
+      coming-entered h = rw (← ed, hd, ← (es .just g), ← ex, h)
 
-      pub coming-entered : (x : Bool) → c ≡ false → x ≡ entered (narrow k l) g → x ≡ coming (narrow k l) g
+      pub coming-card : (c : Bool) → x ≡ false → c ≡ any 8 (cardComes (narrow k l) g) → c ≡ coming (narrow k l) g
       unfolding coming some granuleToCome cardComes
-      coming-entered x h q = rw (← ed, hd, ← ec, h, ← q) (sym (or-false x))
+      coming-card c h q = rw (← ed, hd, ← (es .just g), ← ex, h, ← q) (sym (or-false c))

@@ -5,7 +5,8 @@ ghost use Rattle.model.specs.Base.{all, any};
 ghost use Rattle.model.specs.Image.{dirty};
 ghost use Rattle.model.specs.Undamaged.{cover};
 ghost use Rattle.image.specs.Sized.{Sized, narrow};
-ghost use Rattle.judge_lines.specs.Tests.{Packed, atWord, wordwise};
+ghost use Rattle.judge_lines.specs.Tests.{atWord, wordwise};
+ghost use Rattle.judge_lines.specs.Once.{EnteredSet};
 ghost use Rattle.judge.specs.Order.{Ready, handComes, cardComes, holds, owes, plain, coming, late, objectCovered};
 
 // ---- hands
@@ -119,19 +120,19 @@ pub fn is_dirty(im: &[u16], k: usize, c: usize) -> bool
     (x == 1) | (x == 3)
 }
 
-pub fn is_coming(im: &[u16], k: usize, g: usize) -> bool
+pub fn is_coming(im: &[u16], k: usize, entered: &[u16], g: usize) -> bool
     requires { ⌜ Sized k (now im) ⌝ }
-    requires { ⌜ Packed (narrow k (now im)) ⌝ }
+    requires { ⌜ EnteredSet (narrow k (now im)) (now entered) ⌝ }
     requires { ⌜ g < 64 * k ⌝ }
     ensures { λ r. ⌜ r ≡ coming (narrow k (now (im .entry))) g ⌝ }
 {
     if is_dirty(im, k, g / 64) {
         return true;
     }
-    if granule_to_come(im, k, g) {
+    if judge_lines::packets::in_set(entered, g) {
         return true;
     }
-    judge_lines::packets::is_entered(im, k, g as u16)
+    granule_to_come(im, k, g)
 }
 
 pub fn is_plain(im: &[u16], k: usize, g: usize, j: usize) -> bool
@@ -183,9 +184,10 @@ pub fn all_late(im: &[u16], k: usize, g: usize, n: usize) -> bool
     ok
 }
 
-pub fn object_covered(im: &[u16], k: usize, g: usize) -> bool
+pub fn object_covered(im: &[u16], k: usize, entered: &[u16], g: usize) -> bool
     requires { ⌜ Sized k (now im) ⌝ }
     requires { ⌜ Ready k (narrow k (now im)) ⌝ }
+    requires { ⌜ EnteredSet (narrow k (now im)) (now entered) ⌝ }
     requires { ⌜ g < 64 * k ⌝ }
     ensures { λ r. ⌜ r ≡ objectCovered (narrow k (now (im .entry))) g ⌝ }
 {
@@ -196,7 +198,7 @@ pub fn object_covered(im: &[u16], k: usize, g: usize) -> bool
     if all_plain(im, k, g, n) {
         return true;
     }
-    if is_coming(im, k, g) {
+    if is_coming(im, k, entered, g) {
         return true;
     }
     all_late(im, k, g, n)
@@ -204,31 +206,48 @@ pub fn object_covered(im: &[u16], k: usize, g: usize) -> bool
 
 // ---- sixteen granules at a time
 
-pub fn word_covered(im: &[u16], k: usize, w: usize) -> bool
+pub fn word_covered(im: &[u16], k: usize, entered: &[u16], w: usize) -> bool
     requires { ⌜ Sized k (now im) ⌝ }
     requires { ⌜ Ready k (narrow k (now im)) ⌝ }
+    requires { ⌜ EnteredSet (narrow k (now im)) (now entered) ⌝ }
     requires { ⌜ w < 4 * k ⌝ }
     ensures { λ r. ⌜ r ≡ all 16 (atWord (objectCovered (narrow k (now (im .entry)))) w) ⌝ }
 {
     let mut ok = true;
     let mut i = 0;
     while i < 16 {
-        ok = ok & object_covered(im, k, 16 * w + i);
+        ok = ok & object_covered(im, k, entered, 16 * w + i);
         i += 1;
     }
     ok
 }
 
-pub fn sixteen_covered(im: &[u16], k: usize, w: usize) -> bool
+pub fn sixteen_covered(im: &[u16], k: usize, entered: &[u16], w: usize) -> bool
     requires { ⌜ Sized k (now im) ⌝ }
     requires { ⌜ Ready k (narrow k (now im)) ⌝ }
+    requires { ⌜ EnteredSet (narrow k (now im)) (now entered) ⌝ }
     requires { ⌜ w < 4 * k ⌝ }
     ensures { λ r. ⌜ r ≡ wordwise (objectCovered (narrow k (now (im .entry)))) w ⌝ }
 {
     if image::mark_word(im, k, w) == 0 {
         return true;
     }
-    word_covered(im, k, w)
+    word_covered(im, k, entered, w)
+}
+
+pub fn all_covered(im: &[u16], k: usize, entered: &[u16]) -> bool
+    requires { ⌜ Sized k (now im) ⌝ }
+    requires { ⌜ Ready k (narrow k (now im)) ⌝ }
+    requires { ⌜ EnteredSet (narrow k (now im)) (now entered) ⌝ }
+    ensures { λ r. ⌜ r ≡ cover (narrow k (now (im .entry))) ⌝ }
+{
+    let mut ok = true;
+    let mut i = 0;
+    while i < 4 * k {
+        ok = ok & sixteen_covered(im, k, entered, i);
+        i += 1;
+    }
+    ok
 }
 
 pub fn is_covered(im: &[u16], k: usize) -> bool
@@ -236,11 +255,7 @@ pub fn is_covered(im: &[u16], k: usize) -> bool
     requires { ⌜ Ready k (narrow k (now im)) ⌝ }
     ensures { λ r. ⌜ r ≡ cover (narrow k (now (im .entry))) ⌝ }
 {
-    let mut ok = true;
-    let mut i = 0;
-    while i < 4 * k {
-        ok = ok & sixteen_covered(im, k, i);
-        i += 1;
-    }
-    ok
+    let mut entered: [u16; 2048] = [0; 2048];
+    judge_lines::packets::all_once(im, k, &mut entered);
+    all_covered(im, k, &entered)
 }

@@ -9,10 +9,10 @@ use Rattle.judge.proofs.cover.word_covered.Statement.{statement}
 use Rattle.judge.proofs.cover.word_covered.Tie as tie
 
 abbrev Inv-loop : tie.InvT-loop
-Inv-loop im k w ok₀ i₀ ok i = Passed (16) (atWord (objectCovered (narrow k im)) w) ok i
+Inv-loop im k entered w ok₀ i₀ ok i = Passed (16) (atWord (objectCovered (narrow k im)) w) ok i
 
 abbrev μ-loop : tie.MeasureT-loop
-μ-loop im k w ok₀ i₀ ok i = (16) - i
+μ-loop im k entered w ok₀ i₀ ok i = (16) - i
 
 loop-holds : tie.Need-loop-holds Inv-loop μ-loop
 loop-holds c = none
@@ -24,7 +24,7 @@ add-object-covered : tie.Need-add-object-covered Inv-loop μ-loop
 add-object-covered c = search needs
 
 object-covered-requires : tie.Need-object-covered-requires Inv-loop μ-loop
-object-covered-requires c κs = search needs
+object-covered-requires c κs = (search needs, (search needs, (search needs, search needs)))
 
 add-i : tie.Need-add-i Inv-loop μ-loop
 add-i c = search needs
