@@ -1,11 +1,12 @@
 // Cover: if a marked object links to an unmarked one, something still covers that link.
 ghost use mathlib.Core.Path.{_≡_};
+ghost use mathlib.Core.Bool.{true};
 ghost use Prim.Native.Nat.{_+_, _*_, _≤_, _<_};
 ghost use Rattle.model.specs.Base.{all, any};
-ghost use Rattle.model.specs.Image.{dirty};
+ghost use Rattle.model.specs.Image.{marked, dirty};
 ghost use Rattle.model.specs.Undamaged.{cover};
 ghost use Rattle.image.specs.Sized.{Sized, narrow};
-ghost use Rattle.judge_lines.specs.Tests.{atWord, wordwise};
+ghost use Rattle.judge_lines.specs.Tests.{wordwise};
 ghost use Rattle.judge_lines.specs.Once.{EnteredSet};
 ghost use Rattle.judge.specs.Order.{Ready, handComes, cardComes, holds, owes, plain, coming, late, objectCovered};
 
@@ -188,12 +189,9 @@ pub fn object_covered(im: &[u16], k: usize, entered: &[u16], g: usize) -> bool
     requires { ⌜ Sized k (now im) ⌝ }
     requires { ⌜ Ready k (narrow k (now im)) ⌝ }
     requires { ⌜ EnteredSet (narrow k (now im)) (now entered) ⌝ }
-    requires { ⌜ g < 64 * k ⌝ }
+    requires { ⌜ (g < 64 * k) × (marked (narrow k (now im)) g ≡ true) ⌝ }
     ensures { λ r. ⌜ r ≡ objectCovered (narrow k (now (im .entry))) g ⌝ }
 {
-    if !image::bits::is_marked(im, k, g) {
-        return true;
-    }
     let n = image::word(im, k, g, 1) as usize;
     if all_plain(im, k, g, n) {
         return true;
@@ -204,35 +202,23 @@ pub fn object_covered(im: &[u16], k: usize, entered: &[u16], g: usize) -> bool
     all_late(im, k, g, n)
 }
 
-// ---- sixteen granules at a time
+// ---- the marked objects of sixteen granules, by their mark bits
 
 pub fn word_covered(im: &[u16], k: usize, entered: &[u16], w: usize) -> bool
     requires { ⌜ Sized k (now im) ⌝ }
     requires { ⌜ Ready k (narrow k (now im)) ⌝ }
     requires { ⌜ EnteredSet (narrow k (now im)) (now entered) ⌝ }
     requires { ⌜ w < 4 * k ⌝ }
-    ensures { λ r. ⌜ r ≡ all 16 (atWord (objectCovered (narrow k (now (im .entry)))) w) ⌝ }
-{
-    let mut ok = true;
-    let mut i = 0;
-    while i < 16 {
-        ok = ok & object_covered(im, k, entered, 16 * w + i);
-        i += 1;
-    }
-    ok
-}
-
-pub fn sixteen_covered(im: &[u16], k: usize, entered: &[u16], w: usize) -> bool
-    requires { ⌜ Sized k (now im) ⌝ }
-    requires { ⌜ Ready k (narrow k (now im)) ⌝ }
-    requires { ⌜ EnteredSet (narrow k (now im)) (now entered) ⌝ }
-    requires { ⌜ w < 4 * k ⌝ }
     ensures { λ r. ⌜ r ≡ wordwise (objectCovered (narrow k (now (im .entry)))) w ⌝ }
 {
-    if image::mark_word(im, k, w) == 0 {
-        return true;
+    let mut ok = true;
+    let mut left = image::mark_word(im, k, w);
+    while left != 0 {
+        let j = u16::trailing_zeros(left) as usize;
+        ok = ok & object_covered(im, k, entered, 16 * w + j);
+        left = image::bits::without_bit(left, j as u16);
     }
-    word_covered(im, k, entered, w)
+    ok
 }
 
 pub fn all_covered(im: &[u16], k: usize, entered: &[u16]) -> bool
@@ -244,7 +230,7 @@ pub fn all_covered(im: &[u16], k: usize, entered: &[u16]) -> bool
     let mut ok = true;
     let mut i = 0;
     while i < 4 * k {
-        ok = ok & sixteen_covered(im, k, entered, i);
+        ok = ok & word_covered(im, k, entered, i);
         i += 1;
     }
     ok

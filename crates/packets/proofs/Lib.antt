@@ -2,5 +2,4 @@ pub mod Copy
 pub mod Writes
 pub mod PacketWords
 pub mod TracerWords
-pub mod Trailing
 pub mod CardBits

@@ -22,8 +22,8 @@ loop-holds c = none
 mul-loop : tie.Need-mul-loop Inv-loop μ-loop
 mul-loop c = search needs
 
-sixteen-covered-requires : tie.Need-sixteen-covered-requires Inv-loop μ-loop
-sixteen-covered-requires c κs = search needs
+word-covered-requires : tie.Need-word-covered-requires Inv-loop μ-loop
+word-covered-requires c κs = search needs
 
 add-i : tie.Need-add-i Inv-loop μ-loop
 add-i c = search needs
@@ -45,7 +45,7 @@ all-covered-spec =
     μ-loop
     loop-holds
     mul-loop
-    sixteen-covered-requires
+    word-covered-requires
     add-i
     loop-less
     loop-again
