@@ -2,14 +2,14 @@
 use mathlib.Core.Path.{_≡_, refl, sym, ap, _∙_}
 use mathlib.Core.Bool.{Bool, true, false, _&&_, _||_, and-true, and-assoc, or-false}
 use mathlib.Core.List.{List, [], _∷_}
-use Prim.Native.Nat.{ℕ, suc, _+_, _*_, _/_, _%_, _≤_, _<_}
+use Prim.Native.Nat.{ℕ, suc, _+_, _*_, _/_, _%_, _≤_, _<_, min}
 use native.Mathlib.Numerals.{add-one}
-use native.Mathlib.Decide.{ℕ-discrete}
+use native.Mathlib.Decide.{ℕ-discrete, decLt}
 use native.Mathlib.Omega.{arith}
 use lib.Count.{trailingZeros}
-use lib.Dec.{leb, eqb}
+use lib.Dec.{leb, ltb, eqb}
 use lib.ListN.{length}
-use borrow.Author.Tests.{eq-eqb, ne-eqb}
+use borrow.Author.Tests.{lt-ltb, le-ltb, eq-eqb, ne-eqb}
 use Rattle.model.specs.Base.{nth, all, any, every, some, implies, testBit, bit}
 use Rattle.model.specs.Image.{image, imageOf, word, marked, links, link, state, isDirty, dirty, hand, nextLink, handCard, nextGranule, owed}
 use Rattle.model.specs.Undamaged.{linkToCome, granuleToCome, owedWith, covered, cover}
@@ -20,7 +20,7 @@ use Rattle.image.proofs.Masks.{withoutBit-same, withoutBit-less, withoutBit-oth
 use Rattle.image.proofs.Trailing.{Lowest, trailing-lowest}
 use Rattle.judge_lines.specs.Tests.{atWord, wordwise}
 use Rattle.judge_lines.specs.Once.{EnteredSet}
-use Rattle.judge_lines.proofs.Loops.{all-cong, all-pick}
+use Rattle.judge_lines.proofs.Loops.{Passed, all-cong, all-pick}
 use Rattle.judge_lines.proofs.Idle.{no-bit}
 use Rattle.judge_lines.proofs.MarkWords.{by-words}
 use Rattle.judge.specs.Order.{Ready, handComes, cardComes, holds, owes, plain, coming, late, objectCovered}
@@ -179,6 +179,18 @@ module _ (k : ℕ) (l : List ℕ) where
   pub plain-is : (g j a : ℕ) (t : Bool) → a ≡ word (narrow k l) g (2 + j) → t ≡ marked (narrow k l) a → (eqb a 0 || t) ≡ plain (narrow k l) g j
   unfolding plain some link
   plain-is g j a t ea et = rw (← ea, ← et, or-false)
+
+  pub first-is : (g n : ℕ) (a b : Bool) → a ≡ plain (narrow k l) g 0 → b ≡ plain (narrow k l) g 1 → ((ltb n 1 || a) && (ltb n 2 || b)) ≡ all (min n 2) (plain (narrow k l) g)
+  unfolding all
+  first-is g n a b ea eb = go (decLt n 1) (decLt n 2)
+    where
+      go : Dec (n < 1) → Dec (n < 2) → ((ltb n 1 || a) && (ltb n 2 || b)) ≡ all (min n 2) (plain (narrow k l) g)
+      go (yes p) d = let m : min n 2 ≡ 0 = omega arith in rw (lt-ltb n 1 p, lt-ltb n 2 (omega arith), m)
+      go (no p) (yes q) = let m : min n 2 ≡ 1 = omega arith in rw (le-ltb n 1 (omega arith), lt-ltb n 2 q, m, ea) (and-true _)
+      go (no p) (no q) = let m : min n 2 ≡ 2 = omega arith in rw (le-ltb n 1 (omega arith), le-ltb n 2 (omega arith), m, ea, eb)
+
+  pub first-end : (g n i : ℕ) (r : Bool) → i ≡ min n 2 → r ≡ all (min n 2) (plain (narrow k l) g) → Passed n (plain (narrow k l) g) r i
+  first-end g n i r ei e = record { within = omega arith; so-far = rw ei e }
 
   module _ (g j : ℕ) (t : Bool) (e : t ≡ plain (narrow k l) g j) where
     pub late-plain : t ≡ true → true ≡ late (narrow k l) g j

@@ -1,7 +1,7 @@
 // Cover: if a marked object links to an unmarked one, something still covers that link.
 ghost use mathlib.Core.Path.{_≡_};
 ghost use mathlib.Core.Bool.{true};
-ghost use Prim.Native.Nat.{_+_, _*_, _≤_, _<_};
+ghost use Prim.Native.Nat.{_+_, _*_, _≤_, _<_, min};
 ghost use Rattle.model.specs.Base.{all, any};
 ghost use Rattle.model.specs.Image.{marked, dirty};
 ghost use Rattle.model.specs.Undamaged.{cover};
@@ -145,13 +145,23 @@ pub fn is_plain(im: &[u16], k: usize, g: usize, j: usize) -> bool
     (a == 0) | judge_lines::marks::marked_at(im, k, a)
 }
 
+// The first two words for links stand in every object: both are read, so that no branch hangs on how many links there are.
+pub fn first_plain(im: &[u16], k: usize, g: usize, n: usize) -> bool
+    requires { ⌜ Sized k (now im) ⌝ }
+    requires { ⌜ g < 64 * k ⌝ }
+    ensures { λ r. ⌜ r ≡ all (min n 2) (plain (narrow k (now (im .entry))) g) ⌝ }
+{
+    ((n < 1) | is_plain(im, k, g, 0)) & ((n < 2) | is_plain(im, k, g, 1))
+}
+
 pub fn all_plain(im: &[u16], k: usize, g: usize, n: usize) -> bool
     requires { ⌜ Sized k (now im) ⌝ }
+    requires { ⌜ g < 64 * k ⌝ }
     requires { ⌜ 4 * g + 2 + n ≤ 256 * k ⌝ }
     ensures { λ r. ⌜ r ≡ all n (plain (narrow k (now (im .entry))) g) ⌝ }
 {
-    let mut ok = true;
-    let mut i = 0;
+    let mut ok = first_plain(im, k, g, n);
+    let mut i = judge_lines::bare::least(n, 2);
     while i < n {
         ok = ok & is_plain(im, k, g, i);
         i += 1;
