@@ -3,6 +3,7 @@ pub mod Sections
 pub mod Stretches
 pub mod Sizes
 pub mod Masks
+pub mod Trailing
 pub mod BitWords
 pub mod Trailing
 pub mod FreshStore

@@ -84,6 +84,10 @@ withoutBit-same x j = go (testBit x j) refl
     go true e = less-unset x j e
     go false e = e
 
+pub withoutBit-less : (x j : ℕ) → testBit x j ≡ true → withoutBit x j < x
+unfolding withoutBit
+withoutBit-less x j e = rw e (omega (arith, set-within x j e, pow-pos j))
+
 -- a word with a bit set is the word without it, with the bit put in
 back : (x j : ℕ) → testBit x j ≡ true → withBit (x - 2 ^ j) j ≡ x
 unfolding withBit

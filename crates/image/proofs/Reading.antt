@@ -1,18 +1,17 @@
--- Parts of the slice read as a whole: words that are 0, gathered by a loop, and a granule sought among the entries of a packet.
-use Rattle.image.specs.Reading.{isZero, packetEntries}
-use Rattle.image.specs.Sized.{Sized, narrow}
+-- Parts of the slice read as a whole: words that are 0, gathered by a loop.
+use Rattle.image.specs.Reading.{isZero}
+use Rattle.image.specs.Sized.{narrow}
 use Rattle.image.proofs.Split.{place, split-part}
-use Rattle.image.proofs.Stretches.{part-packet}
-use Rattle.model.specs.Base.{nth, all, zeroes, elem}
-use Rattle.model.specs.Image.{lengths, split, image, imageOf, count}
+use Rattle.model.specs.Base.{nth, all, zeroes}
+use Rattle.model.specs.Image.{lengths, split, image, imageOf}
 use Prim.Native.Nat.{ℕ, zero, suc, _+_, _*_, _-_, _≤_, _<_}
 use mathlib.Core.Path.{_≡_, refl, sym, ap, _∙_}
-use mathlib.Core.Bool.{Bool, true, false, _&&_, _||_, and-true, and-assoc, or-false, or-assoc}
-use mathlib.Core.List.{List, [], _∷_, _++_}
+use mathlib.Core.Bool.{Bool, true, _&&_, and-true, and-assoc}
+use mathlib.Core.List.{List, [], _∷_}
 use native.Mathlib.Omega.{arith}
 use lib.Dec.{eqb}
 use lib.ListN.{length, getD, take, drop}
-use lib.Seq.{take-all, take-suc, drop-drop}
+use lib.Seq.{drop-drop}
 use borrow.Author.Tests.{eq-eqb, ne-eqb}
 use lib.Bits.{bitOr, and-le-l, and-le-r, or-add-and}
 use native.Mathlib.Numerals.{add-one}
@@ -112,34 +111,3 @@ run-zero k ws g s r h f e =
     let n : 4 * g + 4 * s - (4 * g + 2) ≡ 4 * s - 2 = omega arith in
     let p : place (lengths 16 k) 0 + (4 * g + 2) ≡ 4 * g + 2 = omega arith in
     (rw n at e) ∙ ap zeroes (sym (rw p at (split-part (lengths 16 k) ws 0 (4 * g + 2) (4 * s - 2) (omega arith))))
-
--- ---- a word among the words so far
-
-pub elem-append : (g : ℕ) (l r : List ℕ) → elem g (l ++ r) ≡ (elem g l || elem g r)
-unfolding elem
-elem-append g [] r = refl
-elem-append g (x ∷ l) r = rw (elem-append g l r) (sym (or-assoc (eqb g x) _ _))
-
-pub record Met (s : List ℕ) (g : ℕ) (found : Bool) (i : ℕ) : Type 0 where
-  pub within : i ≤ length s
-  pub so-far : found ≡ elem g (take i s)
-
-pub met-none : {s : List ℕ} {g : ℕ} → Met s g false 0
-unfolding elem
-met-none = record { within = omega arith; so-far = refl }
-
-pub met-more : (s : List ℕ) (g : ℕ) (found : Bool) (i : ℕ) → Met s g found i → i < length s → Met s g (found || eqb g (getD s i 0)) (i + 1)
-unfolding elem
-met-more s g found i m h = rw add-one (record { within = omega arith; so-far = rw (take-suc s i 0 h, elem-append g (take i s) (getD s i 0 ∷ []), ← (m .so-far), or-false) })
-
-pub met-end : (s : List ℕ) (g : ℕ) (found : Bool) (i : ℕ) → Met s g found i → length s ≤ i → found ≡ elem g s
-met-end s g found i m h = rw (take-all i s h) at (m .so-far)
-
--- ---- a granule among the entries of a packet
-
-pub in-packet : (k : ℕ) (ws : List ℕ) (p g n a : ℕ) (r : Bool) → Sized k ws → p < 32 → count (narrow k ws) p ≤ 30 → n ≡ nth (narrow k ws .packets) (32 * p) → a ≡ 265 * k + 256 + (32 * p + 2) → r ≡ elem g (take (a + n - a) (drop a ws)) → r ≡ elem g (packetEntries (narrow k ws) p)
-unfolding packetEntries count
-in-packet k ws p g n a r z h b en ea e =
-    let q : a + n - a ≡ n = omega arith in
-    let f : 265 * k + 256 + 32 * p + 2 ≡ a = omega arith in
-    rw (← en) ((rw q at e) ∙ ap (elem g) (rw f at (part-packet k ws [] z p h 2 n (omega arith))))

@@ -1,13 +1,9 @@
-// Parts of the slice read as a whole: words that are 0, and a granule among a packet's entries.
+// Parts of the slice read as a whole: words that are 0.
 ghost use mathlib.Core.Path.{_≡_};
 ghost use Prim.Native.Nat.{_+_, _*_, _-_, _≤_, _<_};
 ghost use lib.ListN.{take, drop};
-ghost use Rattle.model.specs.Base.{zeroes, elem};
-ghost use Rattle.model.specs.Image.{count};
+ghost use Rattle.model.specs.Base.{zeroes};
 ghost use Rattle.image.specs.Sized.{Sized, narrow};
-ghost use Rattle.image.specs.Reading.{packetEntries};
-
-// ---- words that are 0
 
 pub fn zeros(s: &[u16]) -> bool
     ensures { λ r. ⌜ r ≡ zeroes (now (s .entry)) ⌝ }
@@ -57,30 +53,4 @@ pub fn run_zero(im: &[u16], k: usize, g: usize, s: usize) -> bool
     let a = 4 * g + 2;
     let e = 4 * g + 4 * s;
     zeros(&im[a..e])
-}
-
-// ---- a granule among the entries of a packet
-
-pub fn has(s: &[u16], g: u16) -> bool
-    ensures { λ r. ⌜ r ≡ elem g (now (s .entry)) ⌝ }
-{
-    let mut found = false;
-    let mut i = 0;
-    while i < s.len() {
-        found = found | (g == s[i]);
-        i += 1;
-    }
-    found
-}
-
-pub fn in_packet(im: &[u16], k: usize, p: usize, g: u16) -> bool
-    requires { ⌜ Sized k (now im) ⌝ }
-    requires { ⌜ p < 32 ⌝ }
-    requires { ⌜ count (narrow k (now im)) p ≤ 30 ⌝ }
-    ensures { λ r. ⌜ r ≡ elem g (packetEntries (narrow k (now (im .entry))) p) ⌝ }
-{
-    let n = crate::packet_word(im, k, 32 * p) as usize;
-    let a = 265 * k + 256 + (32 * p + 2);
-    let e = a + n;
-    has(&im[a..e], g)
 }

@@ -1,19 +1,26 @@
 -- Cover, in the order in which the code asks.
-use mathlib.Core.Path.{_≡_, refl, sym, _∙_}
-use mathlib.Core.Bool.{Bool, true, false, not, _&&_, _||_, and-true, or-false}
+use mathlib.Core.Path.{_≡_, refl, sym, ap, _∙_}
+use mathlib.Core.Bool.{Bool, true, false, _&&_, _||_, and-true, and-assoc, or-false}
 use mathlib.Core.List.{List, [], _∷_}
-use Prim.Native.Nat.{ℕ, suc, _+_, _*_, _/_, _≤_, _<_}
+use Prim.Native.Nat.{ℕ, suc, _+_, _*_, _/_, _%_, _≤_, _<_, min}
 use native.Mathlib.Numerals.{add-one}
+use native.Mathlib.Decide.{ℕ-discrete, decLt}
 use native.Mathlib.Omega.{arith}
-use lib.Dec.{leb, eqb}
-use borrow.Author.Tests.{eq-eqb, ne-eqb, not-true, not-false}
-use Rattle.model.specs.Base.{nth, all, any, every, some, implies, bit}
+use lib.Count.{trailingZeros}
+use lib.Dec.{leb, ltb, eqb}
+use lib.ListN.{length}
+use borrow.Author.Tests.{lt-ltb, le-ltb, eq-eqb, ne-eqb}
+use Rattle.model.specs.Base.{nth, all, any, every, some, implies, testBit, bit}
 use Rattle.model.specs.Image.{image, imageOf, word, marked, links, link, state, isDirty, dirty, hand, nextLink, handCard, nextGranule, owed}
-use Rattle.model.specs.Undamaged.{entered, linkToCome, granuleToCome, owedWith, covered, cover}
+use Rattle.model.specs.Undamaged.{linkToCome, granuleToCome, owedWith, covered, cover}
 use Rattle.model.proofs.Laws.{false≢, all-use, all-make}
-use Rattle.image.specs.Sized.{narrow}
+use Rattle.image.specs.Bits.{withoutBit}
+use Rattle.image.specs.Sized.{Sized, narrow}
+use Rattle.image.proofs.Masks.{withoutBit-same, withoutBit-less, withoutBit-other}
+use Rattle.image.proofs.Trailing.{Lowest, trailing-lowest}
 use Rattle.judge_lines.specs.Tests.{atWord, wordwise}
-use Rattle.judge_lines.proofs.Loops.{all-cong}
+use Rattle.judge_lines.specs.Once.{EnteredSet}
+use Rattle.judge_lines.proofs.Loops.{Passed, all-cong, all-pick}
 use Rattle.judge_lines.proofs.Idle.{no-bit}
 use Rattle.judge_lines.proofs.MarkWords.{by-words}
 use Rattle.judge.specs.Order.{Ready, handComes, cardComes, holds, owes, plain, coming, late, objectCovered}
@@ -47,45 +54,100 @@ late-some false false false false h false o q = refl
 
 -- ---- the ways out of `object_covered`
 
-module _ (k : ℕ) (l : List ℕ) (g : ℕ) where
-  module _ (t : Bool) (et : t ≡ marked (narrow k l) g) where
-    pub cov-unmarked : not t ≡ true → true ≡ objectCovered (narrow k l) g
-    unfolding objectCovered implies
-    cov-unmarked h = rw (← et, not-true t h)
+module _ (k : ℕ) (l : List ℕ) (g : ℕ) (mg : marked (narrow k l) g ≡ true) (n : ℕ) (en : n ≡ word (narrow k l) g 1) where
+  is-all : objectCovered (narrow k l) g ≡ all n (covered (narrow k l) g)
+  unfolding objectCovered implies links
+  is-all = rw (mg, en)
 
-    module _ (ht : not t ≡ false) (n : ℕ) (en : n ≡ word (narrow k l) g 1) where
-      is-all : objectCovered (narrow k l) g ≡ all n (covered (narrow k l) g)
-      unfolding objectCovered implies links
-      is-all = rw (← et, not-false t ht, en)
+  pub room-of : Ready k (narrow k l) → g < 64 * k → 4 * g + 2 + n ≤ 256 * k
+  unfolding links
+  room-of r h = rw en (r .room g h mg)
 
-      pub room-of : Ready k (narrow k l) → g < 64 * k → 4 * g + 2 + n ≤ 256 * k
-      unfolding links
-      room-of r h = rw en (r .room g h (sym et ∙ not-false t ht))
+  pub cov-plain : (r : Bool) → r ≡ all n (plain (narrow k l) g) → r ≡ true → true ≡ objectCovered (narrow k l) g
+  unfolding covered plain
+  cov-plain r e h = rw is-all (sym (all-make n _ (λ i q. plain-some _ _ _ _ _ _ _ (all-use n _ (sym e ∙ h) i q))))
 
-      pub cov-plain : (r : Bool) → r ≡ all n (plain (narrow k l) g) → r ≡ true → true ≡ objectCovered (narrow k l) g
-      unfolding covered plain
-      cov-plain r e h = rw is-all (sym (all-make n _ (λ i q. plain-some _ _ _ _ _ _ _ (all-use n _ (sym e ∙ h) i q))))
+  pub cov-coming : (d : Bool) → d ≡ coming (narrow k l) g → d ≡ true → true ≡ objectCovered (narrow k l) g
+  unfolding covered coming
+  cov-coming d e h = rw is-all (sym (all-make n _ (λ i q. coming-some _ _ _ _ _ _ _ (sym e ∙ h))))
 
-      pub cov-coming : (d : Bool) → d ≡ coming (narrow k l) g → d ≡ true → true ≡ objectCovered (narrow k l) g
-      unfolding covered coming
-      cov-coming d e h = rw is-all (sym (all-make n _ (λ i q. coming-some _ _ _ _ _ _ _ (sym e ∙ h))))
+  pub cov-late : (d r : Bool) → d ≡ coming (narrow k l) g → d ≡ false → r ≡ all n (late (narrow k l) g) → r ≡ objectCovered (narrow k l) g
+  unfolding covered coming late plain
+  cov-late d r e h q = rw is-all (q ∙ all-cong n _ _ (λ i v. late-some _ _ _ _ _ _ _ (sym e ∙ h)))
 
-      pub cov-late : (d r : Bool) → d ≡ coming (narrow k l) g → d ≡ false → r ≡ all n (late (narrow k l) g) → r ≡ objectCovered (narrow k l) g
-      unfolding covered coming late plain
-      cov-late d r e h q = rw is-all (q ∙ all-cong n _ _ (λ i v. late-some _ _ _ _ _ _ _ (sym e ∙ h)))
+-- ---- the marked objects of sixteen granules
 
--- ---- sixteen granules at a time
+-- granule i of word w, where bit i of x is set, passes
+unfoldable pub leftOk : (ℕ → Bool) → ℕ → ℕ → ℕ → Bool
+leftOk p w x i = implies (testBit x i) (atWord p w i)
+
+twice : (a b : Bool) → implies a (implies a b) ≡ implies a b
+unfolding implies
+twice true b = refl
+twice false b = refl
 
 module _ (k : ℕ) (l : List ℕ) where
-  word-unmarked : (w j x : ℕ) → j < 16 → x ≡ nth (narrow k l .marks) w → x ≡ 0 → marked (narrow k l) (16 * w + j) ≡ false
-  unfolding marked bit narrow imageOf image
-  word-unmarked w j x q ex e =
-      let y : (16 * w + j) / 16 ≡ w = omega arith in
-      no-bit _ _ (rw y (sym ex ∙ e))
+  -- `ok` says whether the objects taken from word w are covered; those left are the bits of x
+  pub record Taken (w : ℕ) (ok : Bool) (x : ℕ) : Type 0 where
+    pub small : x < 65536
+    pub are-marked : (i : ℕ) → i < 16 → testBit x i ≡ true → marked (narrow k l) (16 * w + i) ≡ true
+    pub so-far : (ok && all 16 (leftOk (objectCovered (narrow k l)) w x)) ≡ wordwise (objectCovered (narrow k l)) w
 
-  pub word-skip : (w x : ℕ) → x ≡ nth (narrow k l .marks) w → x ≡ 0 → true ≡ wordwise (objectCovered (narrow k l)) w
-  unfolding wordwise atWord objectCovered implies
-  word-skip w x ex e = sym (all-make 16 _ (λ j q. rw (word-unmarked w j x q ex e)))
+  module _ (w x : ℕ) where
+    mark-is : x ≡ nth (narrow k l .marks) w → (i : ℕ) → i < 16 → testBit x i ≡ marked (narrow k l) (16 * w + i)
+    unfolding marked bit narrow imageOf image
+    mark-is e i h =
+        let y : (16 * w + i) / 16 ≡ w = omega arith in
+        let z : (16 * w + i) % 16 ≡ i = omega arith in
+        rw (y, z, e)
+
+    pub taken-none : x < 65536 → x ≡ nth (narrow k l .marks) w → Taken w true x
+    unfolding leftOk wordwise atWord objectCovered
+    taken-none h e = record {
+      small = h;
+      are-marked = λ i h q. sym (mark-is e i h) ∙ q;
+      so-far = all-cong 16 _ _ (λ i h. rw (mark-is e i h) (twice (marked (narrow k l) (16 * w + i)) _));
+    }
+
+    module _ (ok : Bool) (s : Taken w ok x) where
+      pub taken-end : x ≡ 0 → ok ≡ wordwise (objectCovered (narrow k l)) w
+      unfolding leftOk implies
+      taken-end e = sym (and-true ok) ∙ (rw (all-make 16 (leftOk (objectCovered (narrow k l)) w x) (λ i h. rw (no-bit x i e))) at (s .so-far))
+
+      module _ (nz : x ≡ 0 → ⊥) where
+        low : Lowest 16 x (trailingZeros 16 x)
+        low = trailing-lowest 16 x (s .small) nz
+
+        pub taken-low : trailingZeros 16 x < 16
+        taken-low = low .within
+
+        pub taken-place : w < 4 * k → (16 * w + trailingZeros 16 x < 64 * k) × (marked (narrow k l) (16 * w + trailingZeros 16 x) ≡ true)
+        taken-place h = (omega (arith, low .within), s .are-marked _ (low .within) (low .is-set))
+
+        pub taken-less : withoutBit x (trailingZeros 16 x) < x
+        taken-less = withoutBit-less x _ (low .is-set)
+
+        still-marked : (i : ℕ) → i < 16 → testBit (withoutBit x (trailingZeros 16 x)) i ≡ true → marked (narrow k l) (16 * w + i) ≡ true
+        still-marked i h q = go (ℕ-discrete i (trailingZeros 16 x))
+          where
+            go : Dec (i ≡ trailingZeros 16 x) → marked (narrow k l) (16 * w + i) ≡ true
+            go (yes e) = false≢ (sym (withoutBit-same x (trailingZeros 16 x)) ∙ (rw e at q))
+            go (no e) = s .are-marked i h (sym (withoutBit-other x i (trailingZeros 16 x) e) ∙ q)
+
+        taken-one : all 16 (leftOk (objectCovered (narrow k l)) w x) ≡ (objectCovered (narrow k l) (16 * w + trailingZeros 16 x) && all 16 (leftOk (objectCovered (narrow k l)) w (withoutBit x (trailingZeros 16 x))))
+        unfolding leftOk implies atWord
+        taken-one =
+            rw (low .is-set) at (all-pick 16 (leftOk (objectCovered (narrow k l)) w x) (leftOk (objectCovered (narrow k l)) w (withoutBit x (trailingZeros 16 x))) (trailingZeros 16 x) (low .within)
+            (λ i ne. rw (withoutBit-other x i (trailingZeros 16 x) ne)) (rw (withoutBit-same x (trailingZeros 16 x))))
+
+        pub taken-more : (t : Bool) (x′ : ℕ) → t ≡ objectCovered (narrow k l) (16 * w + trailingZeros 16 x) → x′ ≡ withoutBit x (trailingZeros 16 x) → Taken w (ok && t) x′
+        taken-more t x′ et ex = record {
+          small = omega (arith, s .small, taken-less);
+          are-marked = λ i h q. still-marked i h (rw ex at q);
+          so-far = rw (ex, et) (and-assoc ok _ _ ∙ (ap (λ b. ok && b) (sym taken-one) ∙ s .so-far));
+        }
+
+  -- ---- all words
 
   pub cover-end : (r : Bool) → r ≡ all (4 * k) (wordwise (objectCovered (narrow k l))) → r ≡ cover (narrow k l)
   unfolding cover objectCovered
@@ -118,6 +180,18 @@ module _ (k : ℕ) (l : List ℕ) where
   unfolding plain some link
   plain-is g j a t ea et = rw (← ea, ← et, or-false)
 
+  pub first-is : (g n : ℕ) (a b : Bool) → a ≡ plain (narrow k l) g 0 → b ≡ plain (narrow k l) g 1 → ((ltb n 1 || a) && (ltb n 2 || b)) ≡ all (min n 2) (plain (narrow k l) g)
+  unfolding all
+  first-is g n a b ea eb = go (decLt n 1) (decLt n 2)
+    where
+      go : Dec (n < 1) → Dec (n < 2) → ((ltb n 1 || a) && (ltb n 2 || b)) ≡ all (min n 2) (plain (narrow k l) g)
+      go (yes p) d = let m : min n 2 ≡ 0 = omega arith in rw (lt-ltb n 1 p, lt-ltb n 2 (omega arith), m)
+      go (no p) (yes q) = let m : min n 2 ≡ 1 = omega arith in rw (le-ltb n 1 (omega arith), lt-ltb n 2 q, m, ea) (and-true _)
+      go (no p) (no q) = let m : min n 2 ≡ 2 = omega arith in rw (le-ltb n 1 (omega arith), le-ltb n 2 (omega arith), m, ea, eb)
+
+  pub first-end : (g n i : ℕ) (r : Bool) → i ≡ min n 2 → r ≡ all (min n 2) (plain (narrow k l) g) → Passed n (plain (narrow k l) g) r i
+  first-end g n i r ei e = record { within = omega arith; so-far = rw ei e }
+
   module _ (g j : ℕ) (t : Bool) (e : t ≡ plain (narrow k l) g j) where
     pub late-plain : t ≡ true → true ≡ late (narrow k l) g j
     unfolding late some
@@ -133,20 +207,19 @@ module _ (k : ℕ) (l : List ℕ) where
   unfolding dirty isDirty some
   dirty-is c x e = rw (← e, or-false)
 
+  pub set-place : (g : ℕ) (set : List ℕ) → Sized k l → EnteredSet (narrow k l) set → g < 64 * k → g / 16 < length set
+  set-place g set z es h = omega (arith, z .high, es .long)
+
   module _ (g : ℕ) (d : Bool) (ed : d ≡ dirty (narrow k l) (g / 64)) where
     pub coming-dirty : d ≡ true → true ≡ coming (narrow k l) g
     unfolding coming some
     coming-dirty h = rw (← ed, h)
 
-    module _ (hd : d ≡ false) (c : Bool) (ec : c ≡ any 8 (cardComes (narrow k l) g)) where
-      pub coming-card : c ≡ true → true ≡ coming (narrow k l) g
-      unfolding coming some granuleToCome cardComes
-      coming-card h = rw (← ed, hd, ← ec, h) (sym (or-true (entered (narrow k l) g)))
-        where
-          or-true : (b : Bool) → (b || true) ≡ true
-          or-true true = refl
-          or-true false = refl
+    module _ (hd : d ≡ false) (set : List ℕ) (es : EnteredSet (narrow k l) set) (x : Bool) (ex : x ≡ bit 16 set g) where
+      pub coming-entered : x ≡ true → true ≡ coming (narrow k l) g
+      unfolding coming some
+      coming-entered h = rw (← ed, hd, ← (es .just g), ← ex, h)
 
-      pub coming-entered : (x : Bool) → c ≡ false → x ≡ entered (narrow k l) g → x ≡ coming (narrow k l) g
+      pub coming-card : (c : Bool) → x ≡ false → c ≡ any 8 (cardComes (narrow k l) g) → c ≡ coming (narrow k l) g
       unfolding coming some granuleToCome cardComes
-      coming-entered x h q = rw (← ed, hd, ← ec, h, ← q) (sym (or-false x))
+      coming-card c h q = rw (← ed, hd, ← (es .just g), ← ex, h, ← q) (sym (or-false c))

@@ -1,11 +1,13 @@
 // Cover: if a marked object links to an unmarked one, something still covers that link.
 ghost use mathlib.Core.Path.{_≡_};
-ghost use Prim.Native.Nat.{_+_, _*_, _≤_, _<_};
+ghost use mathlib.Core.Bool.{true};
+ghost use Prim.Native.Nat.{_+_, _*_, _≤_, _<_, min};
 ghost use Rattle.model.specs.Base.{all, any};
-ghost use Rattle.model.specs.Image.{dirty};
+ghost use Rattle.model.specs.Image.{marked, dirty};
 ghost use Rattle.model.specs.Undamaged.{cover};
 ghost use Rattle.image.specs.Sized.{Sized, narrow};
-ghost use Rattle.judge_lines.specs.Tests.{Packed, atWord, wordwise};
+ghost use Rattle.judge_lines.specs.Tests.{wordwise};
+ghost use Rattle.judge_lines.specs.Once.{EnteredSet};
 ghost use Rattle.judge.specs.Order.{Ready, handComes, cardComes, holds, owes, plain, coming, late, objectCovered};
 
 // ---- hands
@@ -119,19 +121,19 @@ pub fn is_dirty(im: &[u16], k: usize, c: usize) -> bool
     (x == 1) | (x == 3)
 }
 
-pub fn is_coming(im: &[u16], k: usize, g: usize) -> bool
+pub fn is_coming(im: &[u16], k: usize, entered: &[u16], g: usize) -> bool
     requires { ⌜ Sized k (now im) ⌝ }
-    requires { ⌜ Packed (narrow k (now im)) ⌝ }
+    requires { ⌜ EnteredSet (narrow k (now im)) (now entered) ⌝ }
     requires { ⌜ g < 64 * k ⌝ }
     ensures { λ r. ⌜ r ≡ coming (narrow k (now (im .entry))) g ⌝ }
 {
     if is_dirty(im, k, g / 64) {
         return true;
     }
-    if granule_to_come(im, k, g) {
+    if judge_lines::packets::in_set(entered, g) {
         return true;
     }
-    judge_lines::packets::is_entered(im, k, g as u16)
+    granule_to_come(im, k, g)
 }
 
 pub fn is_plain(im: &[u16], k: usize, g: usize, j: usize) -> bool
@@ -143,13 +145,23 @@ pub fn is_plain(im: &[u16], k: usize, g: usize, j: usize) -> bool
     (a == 0) | judge_lines::marks::marked_at(im, k, a)
 }
 
+// The first two words for links stand in every object: both are read, so that no branch hangs on how many links there are.
+pub fn first_plain(im: &[u16], k: usize, g: usize, n: usize) -> bool
+    requires { ⌜ Sized k (now im) ⌝ }
+    requires { ⌜ g < 64 * k ⌝ }
+    ensures { λ r. ⌜ r ≡ all (min n 2) (plain (narrow k (now (im .entry))) g) ⌝ }
+{
+    ((n < 1) | is_plain(im, k, g, 0)) & ((n < 2) | is_plain(im, k, g, 1))
+}
+
 pub fn all_plain(im: &[u16], k: usize, g: usize, n: usize) -> bool
     requires { ⌜ Sized k (now im) ⌝ }
+    requires { ⌜ g < 64 * k ⌝ }
     requires { ⌜ 4 * g + 2 + n ≤ 256 * k ⌝ }
     ensures { λ r. ⌜ r ≡ all n (plain (narrow k (now (im .entry))) g) ⌝ }
 {
-    let mut ok = true;
-    let mut i = 0;
+    let mut ok = first_plain(im, k, g, n);
+    let mut i = judge_lines::bare::least(n, 2);
     while i < n {
         ok = ok & is_plain(im, k, g, i);
         i += 1;
@@ -183,52 +195,55 @@ pub fn all_late(im: &[u16], k: usize, g: usize, n: usize) -> bool
     ok
 }
 
-pub fn object_covered(im: &[u16], k: usize, g: usize) -> bool
+pub fn object_covered(im: &[u16], k: usize, entered: &[u16], g: usize) -> bool
     requires { ⌜ Sized k (now im) ⌝ }
     requires { ⌜ Ready k (narrow k (now im)) ⌝ }
-    requires { ⌜ g < 64 * k ⌝ }
+    requires { ⌜ EnteredSet (narrow k (now im)) (now entered) ⌝ }
+    requires { ⌜ (g < 64 * k) × (marked (narrow k (now im)) g ≡ true) ⌝ }
     ensures { λ r. ⌜ r ≡ objectCovered (narrow k (now (im .entry))) g ⌝ }
 {
-    if !image::bits::is_marked(im, k, g) {
-        return true;
-    }
     let n = image::word(im, k, g, 1) as usize;
     if all_plain(im, k, g, n) {
         return true;
     }
-    if is_coming(im, k, g) {
+    if is_coming(im, k, entered, g) {
         return true;
     }
     all_late(im, k, g, n)
 }
 
-// ---- sixteen granules at a time
+// ---- the marked objects of sixteen granules, by their mark bits
 
-pub fn word_covered(im: &[u16], k: usize, w: usize) -> bool
+pub fn word_covered(im: &[u16], k: usize, entered: &[u16], w: usize) -> bool
     requires { ⌜ Sized k (now im) ⌝ }
     requires { ⌜ Ready k (narrow k (now im)) ⌝ }
+    requires { ⌜ EnteredSet (narrow k (now im)) (now entered) ⌝ }
     requires { ⌜ w < 4 * k ⌝ }
-    ensures { λ r. ⌜ r ≡ all 16 (atWord (objectCovered (narrow k (now (im .entry)))) w) ⌝ }
+    ensures { λ r. ⌜ r ≡ wordwise (objectCovered (narrow k (now (im .entry)))) w ⌝ }
 {
     let mut ok = true;
-    let mut i = 0;
-    while i < 16 {
-        ok = ok & object_covered(im, k, 16 * w + i);
-        i += 1;
+    let mut left = image::mark_word(im, k, w);
+    while left != 0 {
+        let j = u16::trailing_zeros(left) as usize;
+        ok = ok & object_covered(im, k, entered, 16 * w + j);
+        left = image::bits::without_bit(left, j as u16);
     }
     ok
 }
 
-pub fn sixteen_covered(im: &[u16], k: usize, w: usize) -> bool
+pub fn all_covered(im: &[u16], k: usize, entered: &[u16]) -> bool
     requires { ⌜ Sized k (now im) ⌝ }
     requires { ⌜ Ready k (narrow k (now im)) ⌝ }
-    requires { ⌜ w < 4 * k ⌝ }
-    ensures { λ r. ⌜ r ≡ wordwise (objectCovered (narrow k (now (im .entry)))) w ⌝ }
+    requires { ⌜ EnteredSet (narrow k (now im)) (now entered) ⌝ }
+    ensures { λ r. ⌜ r ≡ cover (narrow k (now (im .entry))) ⌝ }
 {
-    if image::mark_word(im, k, w) == 0 {
-        return true;
+    let mut ok = true;
+    let mut i = 0;
+    while i < 4 * k {
+        ok = ok & word_covered(im, k, entered, i);
+        i += 1;
     }
-    word_covered(im, k, w)
+    ok
 }
 
 pub fn is_covered(im: &[u16], k: usize) -> bool
@@ -236,11 +251,7 @@ pub fn is_covered(im: &[u16], k: usize) -> bool
     requires { ⌜ Ready k (narrow k (now im)) ⌝ }
     ensures { λ r. ⌜ r ≡ cover (narrow k (now (im .entry))) ⌝ }
 {
-    let mut ok = true;
-    let mut i = 0;
-    while i < 4 * k {
-        ok = ok & sixteen_covered(im, k, i);
-        i += 1;
-    }
-    ok
+    let mut entered: [u16; 2048] = [0; 2048];
+    judge_lines::packets::all_once(im, k, &mut entered);
+    all_covered(im, k, &entered)
 }

@@ -4,6 +4,7 @@ use mathlib.Core.Bool.{Bool, true, false, _&&_, _||_, and-true, and-assoc}
 use Prim.Native.Nat.{ℕ, zero, suc, _+_, _≤_, _<_, min}
 use native.Mathlib.Numerals.{add-one}
 use native.Mathlib.Nat.{add-zero, add-suc}
+use native.Mathlib.Decide.{ℕ-discrete}
 use native.Mathlib.Omega.{arith}
 use Rattle.model.specs.Base.{all, any}
 
@@ -55,3 +56,19 @@ pub all-append : (a b : ℕ) (p : ℕ → Bool) → all (a + b) p ≡ (all a p &
 unfolding all
 all-append a zero p = rw add-zero (sym (and-true (all a p)))
 all-append a (suc b) p = rw (add-suc, all-append a b p) (and-assoc (all a p) _ _)
+
+-- number j apart from the others: b passes it, and is a elsewhere
+pub all-pick : (n : ℕ) (a b : ℕ → Bool) (j : ℕ) → j < n → ((i : ℕ) → (i ≡ j → ⊥) → a i ≡ b i) → b j ≡ true → all n a ≡ (a j && all n b)
+unfolding all
+all-pick zero a b j h f e = absurd (omega arith)
+all-pick (suc n) a b j h f e = go (ℕ-discrete n j) (λ l. all-pick n a b j l f e)
+  where
+    last : (x y : Bool) → (x && y) ≡ (y && (x && true))
+    last true true = refl
+    last true false = refl
+    last false true = refl
+    last false false = refl
+
+    go : Dec (n ≡ j) → (j < n → all n a ≡ (a j && all n b)) → (all n a && a n) ≡ (a j && (all n b && b n))
+    go (yes q) ih = rw (q, e, all-cong j a b (λ i l. f i (λ (z : i ≡ j). omega arith))) (last (all j b) (a j))
+    go (no q) ih = rw (ih (omega arith), f n q) (and-assoc (a j) (all n b) (b n))

@@ -5,11 +5,9 @@ ghost use Prim.Native.Nat.{_/_, _<_};
 ghost use lib.ListN.{length};
 ghost use Rattle.model.specs.Base.{all, distinct, bit, setBit};
 ghost use Rattle.model.specs.Image.{entries};
-ghost use Rattle.model.specs.Undamaged.{entered};
 ghost use Rattle.image.specs.Sized.{Sized, narrow};
-ghost use Rattle.image.specs.Reading.{packetEntries};
 ghost use Rattle.judge_lines.specs.Tests.{entryAt, packetAt, Packed};
-ghost use Rattle.judge_lines.specs.Once.{Once};
+ghost use Rattle.judge_lines.specs.Once.{packetEntries, Once};
 
 // ---- each packet
 
@@ -77,6 +75,13 @@ pub fn first_time(seen: &mut [u16], g: usize) -> bool
     !image::bits::has_bit(x, j)
 }
 
+pub fn in_set(set: &[u16], g: usize) -> bool
+    requires { ⌜ g / 16 < length (now set) ⌝ }
+    ensures { λ r. ⌜ r ≡ bit 16 (now (set .entry)) g ⌝ }
+{
+    image::bits::has_bit(set[g / 16], (g % 16) as u16)
+}
+
 pub fn packet_once(im: &[u16], k: usize, p: usize, seen: &mut [u16]) -> bool
     requires { ⌜ Sized k (now im) ⌝ }
     requires { ⌜ Packed (narrow k (now im)) ⌝ }
@@ -116,20 +121,4 @@ pub fn once_ok(im: &[u16], k: usize) -> bool
 {
     let mut seen: [u16; 2048] = [0; 2048];
     all_once(im, k, &mut seen)
-}
-
-// ---- whether g is entered
-
-pub fn is_entered(im: &[u16], k: usize, g: u16) -> bool
-    requires { ⌜ Sized k (now im) ⌝ }
-    requires { ⌜ Packed (narrow k (now im)) ⌝ }
-    ensures { λ r. ⌜ r ≡ entered (narrow k (now (im .entry))) g ⌝ }
-{
-    let mut found = false;
-    let mut p = 0;
-    while p < 32 {
-        found = found | image::parts::in_packet(im, k, p, g);
-        p += 1;
-    }
-    found
 }

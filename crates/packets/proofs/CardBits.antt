@@ -119,11 +119,11 @@ module _ (m : Image) (c g x y : ℕ) (near : 64 * c ≤ g + 64) (inside : g < 64
   pub next-found : (t : ℕ) → x < 2 ^ 64 → (y ≡ 0 → ⊥) → t ≡ trailingZeros 64 y → g + t + 1 ≡ nextMarked m (64 * c - g) g
   next-found t l z q =
       let small : y < 2 ^ 64 = omega (arith, div-le-self x (2 ^ (g % 64))) in
-      let w : Lowest y t = rw q (trailing-lowest 64 y small z) in
+      let w : Lowest 64 y t = rw q (trailing-lowest 64 y small z) in
       let below : t < 64 * c - g = top (decLt (g % 64 + t) 64) w in
       let s : g + t + 1 ≡ suc (g + t) = omega arith in
       s ∙ sym (next-at m (64 * c - g) g t below (sym (shifted-mark t below) ∙ w .is-set) (λ i h. sym (shifted-mark i (omega arith)) ∙ w .clear-below i h))
     where
-      top : Dec (g % 64 + t < 64) → Lowest y t → t < 64 * c - g
+      top : Dec (g % 64 + t < 64) → Lowest 64 y t → t < 64 * c - g
       top (yes i) w = omega arith
       top (no i) w = false≢ (sym (past-top x (g % 64 + t) l (omega arith)) ∙ (sym (shifted t) ∙ w .is-set))

@@ -1,7 +1,8 @@
 use Rattle.judge.specs.Order.{plain}
+use Rattle.judge.proofs.Covering.{first-end}
 use Rattle.model.specs.Cases.{ok}
 use Rattle.image.specs.Sized.{narrow}
-use Rattle.judge_lines.proofs.Loops.{Passed, none, more, end}
+use Rattle.judge_lines.proofs.Loops.{Passed, more, end}
 use Prim.Native.Nat.{_-_}
 use borrow.Author.Needs.{needs}
 use Rattle.judge.proofs.cover.all_plain.Statement.{statement}
@@ -13,8 +14,14 @@ Inv-loop im k g n ok₀ i₀ ok i = Passed (n) (plain (narrow k im) g) ok i
 abbrev μ-loop : tie.MeasureT-loop
 μ-loop im k g n ok₀ i₀ ok i = (n) - i
 
+first-plain-requires : tie.Need-first-plain-requires Inv-loop μ-loop
+first-plain-requires c κs = search needs
+
+least-requires : tie.Need-least-requires Inv-loop μ-loop
+least-requires c κs = search needs
+
 loop-holds : tie.Need-loop-holds Inv-loop μ-loop
-loop-holds c = none
+loop-holds c = search first-end
 
 is-plain-requires : tie.Need-is-plain-requires Inv-loop μ-loop
 is-plain-requires c κs = search needs
@@ -34,4 +41,4 @@ returns c = search end
 pub all-plain-spec : {M : Type 1} → statement M
 all-plain-spec =
     tie.close
-    (tie.spec Inv-loop μ-loop loop-holds is-plain-requires add-i loop-less loop-again returns)
+    (tie.spec Inv-loop μ-loop first-plain-requires least-requires loop-holds is-plain-requires add-i loop-less loop-again returns)

@@ -4,7 +4,7 @@ use Rattle.image.specs.Sized.{narrow}
 use Prim.Native.Nat.{_-_}
 use borrow.Author.Needs.{needs}
 use native.Mathlib.Omega.{arith}
-use Rattle.image.specs.Reading.{packetEntries}
+use Rattle.judge_lines.specs.Once.{packetEntries}
 use Rattle.judge_lines.proofs.packets.packet_once.Statement.{statement}
 use Rattle.judge_lines.proofs.packets.packet_once.Tie as tie
 
