@@ -5,7 +5,6 @@ pub mod Sizes
 pub mod Masks
 pub mod Trailing
 pub mod BitWords
-pub mod Trailing
 pub mod FreshStore
 pub mod Rooms
 pub mod Reading

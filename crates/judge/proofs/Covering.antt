@@ -2,7 +2,7 @@
 use mathlib.Core.Path.{_≡_, refl, sym, ap, _∙_}
 use mathlib.Core.Bool.{Bool, true, false, _&&_, _||_, and-true, and-assoc, or-false}
 use mathlib.Core.List.{List, [], _∷_}
-use Prim.Native.Nat.{ℕ, suc, _+_, _*_, _/_, _%_, _≤_, _<_, min}
+use Prim.Native.Nat.{ℕ, suc, _+_, _*_, _/_, _%_, _≤_, _<_}
 use native.Mathlib.Numerals.{add-one}
 use native.Mathlib.Decide.{ℕ-discrete, decLt}
 use native.Mathlib.Omega.{arith}
@@ -179,18 +179,6 @@ module _ (k : ℕ) (l : List ℕ) where
   pub plain-is : (g j a : ℕ) (t : Bool) → a ≡ word (narrow k l) g (2 + j) → t ≡ marked (narrow k l) a → (eqb a 0 || t) ≡ plain (narrow k l) g j
   unfolding plain some link
   plain-is g j a t ea et = rw (← ea, ← et, or-false)
-
-  pub first-is : (g n : ℕ) (a b : Bool) → a ≡ plain (narrow k l) g 0 → b ≡ plain (narrow k l) g 1 → ((ltb n 1 || a) && (ltb n 2 || b)) ≡ all (min n 2) (plain (narrow k l) g)
-  unfolding all
-  first-is g n a b ea eb = go (decLt n 1) (decLt n 2)
-    where
-      go : Dec (n < 1) → Dec (n < 2) → ((ltb n 1 || a) && (ltb n 2 || b)) ≡ all (min n 2) (plain (narrow k l) g)
-      go (yes p) d = let m : min n 2 ≡ 0 = omega arith in rw (lt-ltb n 1 p, lt-ltb n 2 (omega arith), m)
-      go (no p) (yes q) = let m : min n 2 ≡ 1 = omega arith in rw (le-ltb n 1 (omega arith), lt-ltb n 2 q, m, ea) (and-true _)
-      go (no p) (no q) = let m : min n 2 ≡ 2 = omega arith in rw (le-ltb n 1 (omega arith), le-ltb n 2 (omega arith), m, ea, eb)
-
-  pub first-end : (g n i : ℕ) (r : Bool) → i ≡ min n 2 → r ≡ all (min n 2) (plain (narrow k l) g) → Passed n (plain (narrow k l) g) r i
-  first-end g n i r ei e = record { within = omega arith; so-far = rw ei e }
 
   module _ (g j : ℕ) (t : Bool) (e : t ≡ plain (narrow k l) g j) where
     pub late-plain : t ≡ true → true ≡ late (narrow k l) g j

@@ -130,7 +130,7 @@ pub fn is_coming(im: &[u16], k: usize, entered: &[u16], g: usize) -> bool
     if is_dirty(im, k, g / 64) {
         return true;
     }
-    if judge_lines::packets::in_set(entered, g) {
+    if judge_lines::starts::in_set(entered, g) {
         return true;
     }
     granule_to_come(im, k, g)
@@ -161,7 +161,7 @@ pub fn all_plain(im: &[u16], k: usize, g: usize, n: usize) -> bool
     ensures { λ r. ⌜ r ≡ all n (plain (narrow k (now (im .entry))) g) ⌝ }
 {
     let mut ok = first_plain(im, k, g, n);
-    let mut i = judge_lines::bare::least(n, 2);
+    let mut i = judge_lines::starts::least(n, 2);
     while i < n {
         ok = ok & is_plain(im, k, g, i);
         i += 1;

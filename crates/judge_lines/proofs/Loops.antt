@@ -4,8 +4,10 @@ use mathlib.Core.Bool.{Bool, true, false, _&&_, _||_, and-true, and-assoc}
 use Prim.Native.Nat.{ℕ, zero, suc, _+_, _≤_, _<_, min}
 use native.Mathlib.Numerals.{add-one}
 use native.Mathlib.Nat.{add-zero, add-suc}
-use native.Mathlib.Decide.{ℕ-discrete}
+use native.Mathlib.Decide.{ℕ-discrete, decLt}
 use native.Mathlib.Omega.{arith}
+use lib.Dec.{ltb}
+use borrow.Author.Tests.{le-ltb}
 use Rattle.model.specs.Base.{all, any}
 
 -- ---- `ok` says whether all below i pass
@@ -18,8 +20,20 @@ pub none : {n : ℕ} {p : ℕ → Bool} → Passed n p true 0
 unfolding all
 none {n} = record { within = omega arith; so-far = refl }
 
-pub from : (m n : ℕ) (p : ℕ → Bool) (ok : Bool) (i : ℕ) → i ≡ min m n → ok ≡ all (min m n) p → Passed n p ok i
-from m n p ok i h e = record { within = omega arith; so-far = rw (← h) at e }
+-- the first two at once
+pub first-two : (p : ℕ → Bool) (n : ℕ) (a b : Bool) → a ≡ p 0 → b ≡ p 1 → ((ltb n 1 || a) && (ltb n 2 || b)) ≡ all (min n 2) p
+unfolding all
+first-two p n a b ea eb = rw (ea, eb) (go (decLt n 1) (decLt n 2))
+  where
+    go : Dec (n < 1) → Dec (n < 2) → ((ltb n 1 || p 0) && (ltb n 2 || p 1)) ≡ all (min n 2) p
+    go (yes h) d = let e : n ≡ 0 = omega arith in rw e
+    go (no h) (yes d) = let e : n ≡ 1 = omega arith in rw e (and-true (p 0))
+    go (no h) (no d) =
+        let e : min n 2 ≡ 2 = omega arith in
+        rw (e, le-ltb n 1 (omega arith), le-ltb n 2 (omega arith))
+
+pub after-two : (n : ℕ) (p : ℕ → Bool) (ok : Bool) (i : ℕ) → i ≡ min n 2 → ok ≡ all (min n 2) p → Passed n p ok i
+after-two n p ok i h e = record { within = omega arith; so-far = rw (← h) at e }
 
 pub more : (n : ℕ) (p : ℕ → Bool) (ok : Bool) (i : ℕ) (t : Bool) → Passed n p ok i → i < n → t ≡ p i → Passed n p (ok && t) (i + 1)
 unfolding all

@@ -203,12 +203,12 @@ module _ (k : ℕ) (l : List ℕ) (z : Sized k l) where
     pub a-found : (t : ℕ) → (left ≡ 0 → ⊥) → t ≡ trailingZeros 16 left → b + t ≡ startFrom (narrow k l) a
     a-found t ne et =
         let small : left < 2 ^ 16 = omega (arith, div-le-self x (2 ^ (b % 16))) in
-        let w : Lowest left t = rw et (trailing-lowest 16 left small ne) in
+        let w : Lowest 16 left t = rw et (trailing-lowest 16 left small ne) in
         let q : b % 16 + t < 16 = top (decLt (b % 16 + t) 16) w in
         sym (found (narrow k l) (64 * k - b) t b (omega arith) (sym (shifted t q) ∙ w .is-set) (none-before t (omega arith) (w .clear-below)))
         ∙ (sym (from-is b) ∙ s .same)
       where
-        top : Dec (b % 16 + t < 16) → Lowest left t → b % 16 + t < 16
+        top : Dec (b % 16 + t < 16) → Lowest 16 left t → b % 16 + t < 16
         top (yes q) w = q
         top (no q) w = false≢ (sym (past-top t (omega arith)) ∙ w .is-set)
 
@@ -251,8 +251,8 @@ module _ (k : ℕ) (l : List ℕ) (z : Sized k l) where
           setBit-other 16 names 0 a o
           ∙ (copy-is names i a c h (decLt (a / 16) i) ∙ (sym (ap (λ b. b || isStart (narrow k l) a) (ne-eqb a 0 o)) ∙ nil-or-start k l z a (isStart (narrow k l) a) refl))
 
-pub names-many : (m : Image) (names : List ℕ) → Names m names → length names ≡ 4096
-names-many m names n = n .many
+pub names-many : (m : Image) (names : List ℕ) (a : ℕ) → Names m names → a < 65536 → a / 16 < length names
+names-many m names a n h = omega (arith, n .many)
 
 -- a link or register word that stands in an image of names
 pub named-word : (m : Image) (names : List ℕ) (a v : ℕ) (r : Bool) → Names m names → v < 65536 → v ≡ a → r ≡ bit 16 names v → r ≡ nilOrStart m a

@@ -16,7 +16,7 @@ pub fn reg_ok(im: &[u16], k: usize, names: &[u16], i: usize) -> bool
     requires { ⌜ i < 256 ⌝ }
     ensures { λ r. ⌜ r ≡ regOk (narrow k (now (im .entry))) i ⌝ }
 {
-    crate::starts::is_named(names, image::reg_word(im, k, i))
+    crate::starts::in_set(names, image::reg_word(im, k, i) as usize)
 }
 
 pub fn regs_ok(im: &[u16], k: usize, names: &[u16]) -> bool
@@ -39,7 +39,7 @@ pub fn link_ok(im: &[u16], k: usize, names: &[u16], g: usize, i: usize) -> bool
     requires { ⌜ 4 * g + 2 + i < 256 * k ⌝ }
     ensures { λ r. ⌜ r ≡ linkOk (narrow k (now (im .entry))) g i ⌝ }
 {
-    crate::starts::is_named(names, image::word(im, k, g, 2 + i))
+    crate::starts::in_set(names, image::word(im, k, g, 2 + i) as usize)
 }
 
 // The links in the object's first granule, with no branch: most objects have few.
@@ -47,7 +47,7 @@ pub fn first_links(im: &[u16], k: usize, names: &[u16], g: usize, n: usize) -> b
     requires { ⌜ Sized k (now im) ⌝ }
     requires { ⌜ Names (narrow k (now im)) (now names) ⌝ }
     requires { ⌜ g < 64 * k ⌝ }
-    ensures { λ r. ⌜ r ≡ all (min 2 n) (linkOk (narrow k (now (im .entry))) g) ⌝ }
+    ensures { λ r. ⌜ r ≡ all (min n 2) (linkOk (narrow k (now (im .entry))) g) ⌝ }
 {
     ((n < 1) | link_ok(im, k, names, g, 0)) & ((n < 2) | link_ok(im, k, names, g, 1))
 }
@@ -60,7 +60,7 @@ pub fn links_ok(im: &[u16], k: usize, names: &[u16], g: usize, n: usize) -> bool
     ensures { λ r. ⌜ r ≡ all n (linkOk (narrow k (now (im .entry))) g) ⌝ }
 {
     let mut ok = first_links(im, k, names, g, n);
-    let mut i = crate::starts::least(2, n);
+    let mut i = crate::starts::least(n, 2);
     while i < n {
         ok = ok & link_ok(im, k, names, g, i);
         i += 1;

@@ -9,7 +9,7 @@ ghost use Rattle.judge_lines.specs.Tests.{spareOk, unscanned, idle, cycl
 pub mod heap; // heap.rt: objects and runs fill the heap; links and registers are nil or starts
 pub mod marks; // marks.rt: marks stand only on starts
 pub mod packets; // packets.rt: packets, and no object entered twice
-pub mod starts; // starts.rt: the next start, and the granules that a link may name
+pub mod starts; // starts.rt: the next start; sets of granules
 pub mod tracers; // tracers.rt: hands, cards in hand, held packets
 
 // ---- cards and players

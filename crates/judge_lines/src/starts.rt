@@ -1,6 +1,6 @@
-// Starts: the next one, and the granules that a link may name, as bits.
+// The next start; sets of granules, as bits, and that of the granules which a link may name.
 ghost use mathlib.Core.Path.{_≡_};
-ghost use Prim.Native.Nat.{_*_, _≤_, min};
+ghost use Prim.Native.Nat.{_*_, _/_, _≤_, _<_, min};
 ghost use lib.ListN.{length, replicate};
 ghost use Rattle.model.specs.Base.{bit};
 ghost use Rattle.image.specs.Sized.{Sized, narrow};
@@ -29,6 +29,15 @@ pub fn next_start(im: &[u16], k: usize, a: usize) -> usize
     64 * k
 }
 
+// ---- sets of granules
+
+pub fn in_set(set: &[u16], g: usize) -> bool
+    requires { ⌜ g / 16 < length (now set) ⌝ }
+    ensures { λ r. ⌜ r ≡ bit 16 (now (set .entry)) g ⌝ }
+{
+    image::bits::has_bit(set[g / 16], (g % 16) as u16)
+}
+
 // One bit for every value of a word, so that a link is tested by it without asking first whether it lies in the store.
 pub fn note_names(im: &[u16], k: usize, names: &mut [u16])
     requires { ⌜ Sized k (now im) ⌝ }
@@ -42,11 +51,4 @@ pub fn note_names(im: &[u16], k: usize, names: &mut [u16])
     }
     let x = names[0];
     names[0] = image::bits::with_bit(x, 0);
-}
-
-pub fn is_named(names: &[u16], a: u16) -> bool
-    requires { ⌜ length (now names) ≡ 4096 ⌝ }
-    ensures { λ r. ⌜ r ≡ bit 16 (now (names .entry)) a ⌝ }
-{
-    image::bits::has_bit(names[a as usize / 16], a % 16)
 }

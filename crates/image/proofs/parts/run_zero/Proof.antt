@@ -1,6 +1,5 @@
 use borrow.Author.Needs.{needs}
 use Rattle.image.proofs.Reading.{run-zero}
-use Rattle.model.specs.Base.{zeros}
 use Rattle.image.proofs.parts.run_zero.Statement.{statement}
 use Rattle.image.proofs.parts.run_zero.Tie as tie
 

@@ -12,13 +12,16 @@ add-word c = search needs
 word-requires : tie.Need-word-requires
 word-requires c κs = search needs
 
-is-named-requires : tie.Need-is-named-requires
-is-named-requires c κs = search names-many
+cast-in-set : tie.Need-cast-in-set
+cast-in-set c = search needs
+
+in-set-requires : tie.Need-in-set-requires
+in-set-requires c κs = names-many _ _ _ (c .before .before .before .pre .1 .0) (omega arith)
 
 returns : tie.Need-returns
 unfolding linkOk link
-returns c = named-word _ _ _ _ _ (c .before .before .before .before .pre .1 .0) (omega arith) (c .before .word .ensures) (c .is-named .ensures)
+returns c = named-word _ _ _ _ _ (c .before .before .before .before .pre .1 .0) (omega arith) (c .before .word .ensures) (c .in-set .ensures)
 
 pub link-ok-spec : {M : Type 1} → statement M
 link-ok-spec =
-    tie.close (tie.spec add-word word-requires is-named-requires returns)
+    tie.close (tie.spec add-word word-requires cast-in-set in-set-requires returns)

@@ -1,6 +1,4 @@
 use Rattle.judge_lines.proofs.Fill.{Walk, w-start, w-object, w-stop, w-more, w-less, w-room, w-end}
-use Rattle.model.specs.Base.{first}
-use Rattle.model.specs.Steps.{run}
 use Prim.Native.Nat.{_*_, _-_}
 use borrow.Author.Needs.{needs}
 use Rattle.judge_lines.proofs.heap.walk.Statement.{statement}

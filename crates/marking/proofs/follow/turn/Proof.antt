@@ -1,8 +1,6 @@
 use borrow.Author.Needs.{needs}
 use Rattle.marking.proofs.Turns.{turn-settle, turn-leave, next-fine}
-use Rattle.marking.proofs.Worklist.{low}
 use native.Mathlib.Omega.{arith}
-use lib.Pow.{high}
 use Rattle.marking.proofs.follow.turn.Statement.{statement}
 use Rattle.marking.proofs.follow.turn.Tie as tie
 

@@ -1,8 +1,6 @@
 use Rattle.sweep.proofs.Down.{Sweeping, sweeping-none, sweeping-more, sweeping-end}
-use Rattle.model.specs.Examples.{left}
 use native.Mathlib.Omega.{arith}
 use borrow.Author.Needs.{needs}
-use lib.Pow.{high}
 use Rattle.sweep.proofs.gaps.sweep_all.Statement.{statement}
 use Rattle.sweep.proofs.gaps.sweep_all.Tie as tie
 
