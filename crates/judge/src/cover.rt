@@ -149,7 +149,7 @@ pub fn is_plain(im: &[u16], k: usize, g: usize, j: usize) -> bool
 pub fn first_plain(im: &[u16], k: usize, g: usize, n: usize) -> bool
     requires { ⌜ Sized k (now im) ⌝ }
     requires { ⌜ g < 64 * k ⌝ }
-    ensures { λ r. ⌜ r ≡ all (min n 2) (plain (narrow k (now (im .entry))) g) ⌝ }
+    ensures { λ r. ⌜ r ≡ all (min 2 n) (plain (narrow k (now (im .entry))) g) ⌝ }
 {
     ((n < 1) | is_plain(im, k, g, 0)) & ((n < 2) | is_plain(im, k, g, 1))
 }
@@ -161,7 +161,7 @@ pub fn all_plain(im: &[u16], k: usize, g: usize, n: usize) -> bool
     ensures { λ r. ⌜ r ≡ all n (plain (narrow k (now (im .entry))) g) ⌝ }
 {
     let mut ok = first_plain(im, k, g, n);
-    let mut i = judge_lines::starts::least(n, 2);
+    let mut i = judge_lines::starts::least(2, n);
     while i < n {
         ok = ok & is_plain(im, k, g, i);
         i += 1;

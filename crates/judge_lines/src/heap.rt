@@ -47,7 +47,7 @@ pub fn first_links(im: &[u16], k: usize, names: &[u16], g: usize, n: usize) -> b
     requires { ⌜ Sized k (now im) ⌝ }
     requires { ⌜ Names (narrow k (now im)) (now names) ⌝ }
     requires { ⌜ g < 64 * k ⌝ }
-    ensures { λ r. ⌜ r ≡ all (min n 2) (linkOk (narrow k (now (im .entry))) g) ⌝ }
+    ensures { λ r. ⌜ r ≡ all (min 2 n) (linkOk (narrow k (now (im .entry))) g) ⌝ }
 {
     ((n < 1) | link_ok(im, k, names, g, 0)) & ((n < 2) | link_ok(im, k, names, g, 1))
 }
@@ -60,7 +60,7 @@ pub fn links_ok(im: &[u16], k: usize, names: &[u16], g: usize, n: usize) -> bool
     ensures { λ r. ⌜ r ≡ all n (linkOk (narrow k (now (im .entry))) g) ⌝ }
 {
     let mut ok = first_links(im, k, names, g, n);
-    let mut i = crate::starts::least(n, 2);
+    let mut i = crate::starts::least(2, n);
     while i < n {
         ok = ok & link_ok(im, k, names, g, i);
         i += 1;
