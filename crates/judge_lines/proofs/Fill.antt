@@ -41,13 +41,13 @@ module _ (k : ℕ) (l : List ℕ) where
   abbrev fillFrom : ℕ → ℕ → ℕ → Bool → Bool
   fillFrom n g next run = fill (isStart (narrow k l)) n g (drop (4 * g) (narrow k l .heap)) next run
 
-  -- the state of the loop at g; `good` says whether the links so far are nil or starts, `start` is the next start
-  pub record Walk (g next : ℕ) (run good : Bool) (start : ℕ) : Type 0 where
+  -- the state of the loop at g: the links so far are nil or starts, and `start` is the next start
+  pub record Walk (g next : ℕ) (run : Bool) (start : ℕ) : Type 0 where
     pub fuel : ℕ
     pub inside : g ≤ 64 * k
     pub enough : 64 * k < g + fuel
     pub same : fillFrom fuel g next run ≡ filled (narrow k l)
-    pub so-far : good ≡ all g (linksOk (narrow k l))
+    pub so-far : all g (linksOk (narrow k l)) ≡ true
     pub ahead : start ≡ startFrom (narrow k l) g
 
   abbrev pub heapLines : Bool
@@ -132,11 +132,11 @@ module _ (k : ℕ) (l : List ℕ) where
         all-append g s (linksOk (narrow k l))
         ∙ ap (λ b. all g (linksOk (narrow k l)) && b) ((rw e at (all-first (s - 1) (λ i. linksOk (narrow k l) (g + i)))) ∙ rw (a, add-zero) (and-true _))
 
-    pub w-start : (first start : ℕ) → first ≡ firstRun (narrow k l) → isStart (narrow k l) 0 ≡ false → start ≡ startFrom (narrow k l) 1 → Walk 1 first false true start
+    pub w-start : (first start : ℕ) → first ≡ firstRun (narrow k l) → isStart (narrow k l) 0 ≡ false → start ≡ startFrom (narrow k l) 1 → Walk 1 first false start
     unfolding filled all granules narrow imageOf image
-    w-start first start e h ea = record { fuel = 64 * k; inside = omega (arith, z .low); enough = omega arith; same = rw e; so-far = sym (links-none 0 h); ahead = ea }
+    w-start first start e h ea = record { fuel = 64 * k; inside = omega (arith, z .low); enough = omega arith; same = rw e; so-far = links-none 0 h; ahead = ea }
 
-    module _ (g next : ℕ) (run good : Bool) (start : ℕ) (w : Walk g next run good start) where
+    module _ (g next : ℕ) (run : Bool) (start : ℕ) (w : Walk g next run start) where
       pub w-object : g < 64 * k → eqb g start ≡ isStart (narrow k l) g
       w-object h = object-here k l z g start h (w .ahead)
 
@@ -149,15 +149,15 @@ module _ (k : ℕ) (l : List ℕ) where
         pub w-stop : not t ≡ true → false ≡ heapLines
         w-stop q = let h : filled (narrow k l) ≡ false = rw (not-true t q) at here in rw h
 
-        pub w-more : not t ≡ false → (s next′ after : ℕ) (c : Bool) → c ≡ linksOk (narrow k l) g → next′ ≡ nextRun (narrow k l) g next → s ≡ word (narrow k l) g 0 → after ≡ startBehind (narrow k l) g → Walk (g + s) next′ (not (eqb g start)) (good && c) after
-        w-more q s next′ after c ec en es ea =
+        pub w-more : not t ≡ false → (s next′ after : ℕ) (c : Bool) → c ≡ linksOk (narrow k l) g → not c ≡ false → next′ ≡ nextRun (narrow k l) g next → s ≡ word (narrow k l) g 0 → after ≡ startBehind (narrow k l) g → Walk (g + s) next′ (not (eqb g start)) after
+        w-more q s next′ after c ec r en es ea =
             let f = fine g next run hg (sym e ∙ not-false t q) in
             record {
               fuel = w .fuel - 1;
               inside = omega (arith, f .inside);
               enough = omega (arith, f .pos, w .enough);
               same = rw (w-object hg, en, es) (sym (rw (not-false t q) at here));
-              so-far = rw (ec, w .so-far, es) (sym (links-more g (word (narrow k l) g 0) (f .pos) (f .none-behind)));
+              so-far = rw (es, links-more g (word (narrow k l) g 0) (f .pos) (f .none-behind), w .so-far, ← ec, not-false c r);
               ahead = rw (ea, es) (from-behind k l z g (word (narrow k l) g 0) (f .pos) (f .inside) (f .none-behind));
             }
 
@@ -167,13 +167,24 @@ module _ (k : ℕ) (l : List ℕ) where
         pub w-room : not t ≡ false → Room k (narrow k l) g
         w-room q = record { room = λ h. object-room g hg (piece-start g next run hg (sym e ∙ not-false t q) h) }
 
-      pub w-end : 64 * k ≤ g → (eqb next 0 && good) ≡ heapLines
+      -- a link that is neither nil nor a start
+      pub w-link : g < 64 * k → (c : Bool) → c ≡ linksOk (narrow k l) g → not c ≡ true → false ≡ heapLines
+      unfolding granules narrow imageOf image
+      w-link hg c ec r = go (filled (narrow k l)) (all (granules (narrow k l)) (linksOk (narrow k l))) refl
+        where
+          go : (a b : Bool) → all (granules (narrow k l)) (linksOk (narrow k l)) ≡ b → false ≡ (a && b)
+          go false b e = refl
+          go true false e = refl
+          go true true e = false≢ (sym (sym ec ∙ not-true c r) ∙ all-use (granules (narrow k l)) (linksOk (narrow k l)) e g hg)
+
+      pub w-end : 64 * k ≤ g → eqb next 0 ≡ heapLines
       unfolding granules narrow imageOf image
       w-end h =
           let q : suc (w .fuel - 1) ≡ w .fuel = omega (arith, w .enough, w .inside) in
           let o : g ≡ 64 * k = omega (arith, w .inside) in
           let f : eqb next 0 ≡ filled (narrow k l) = sym (rw q at (past-end (w .fuel - 1) g next run h)) ∙ w .same in
-          rw (f, w .so-far, o)
+          let a : all (64 * k) (linksOk (narrow k l)) ≡ true = rw o at (w .so-far) in
+          rw (a, f) (sym (and-true (filled (narrow k l))))
 
     -- ---- every start of a filled heap is an object in order
 

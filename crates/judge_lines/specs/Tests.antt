@@ -7,7 +7,7 @@ use lib.Dec.{eqb, ltb}
 use lib.ListN.{length, take, drop}
 use Rattle.model.specs.Base.{nth, all, every, distinct, eachPiece, zeroes, bit}
 use Rattle.model.specs.Image.{Image, granules, word, isStart, links, link, count, entry, entries, scanned}
-use Rattle.model.specs.Undamaged.{piece, nilOrStart, markOk, entryOk, packetOk, tracerOk, heldAt, heldOnce}
+use Rattle.model.specs.Undamaged.{piece, zeroGranule, filled, nilOrStart, linksOk, regOk, playerOk, cardOk, generalOk, markOk, entryOk, packetOk, tracerOk, heldAt, heldOnce}
 
 -- the sixteen granules of bit word w pass
 unfoldable pub atWord : (ℕ → Bool) → ℕ → ℕ → Bool
@@ -70,6 +70,10 @@ module _ (m : Image) where
   -- places x and y hold no packet in common
   unfoldable pub apart : ℕ → ℕ → Bool
   apart x y = not (eqb (heldAt m y) (heldAt m x))
+
+  -- the lines of every image, with a cycle or without
+  unfoldable pub layout : Bool
+  layout = every (zeroGranule m ∷ filled m ∷ all (granules m) (linksOk m) ∷ all 256 (regOk m) ∷ all (m .k) (cardOk m) ∷ all 16 (playerOk m) ∷ generalOk m ∷ [])
 
   -- the lines that a running cycle adds
   unfoldable pub cycleLines : Bool

@@ -167,7 +167,6 @@ pub fn walk(im: &[u16], k: usize, names: &[u16], first: usize) -> bool
     let mut g = 1;
     let mut next = first;
     let mut run = false;
-    let mut good = true;
     let mut start = crate::starts::next_start(im, k, 1);
     while g < 64 * k {
         let object = g == start;
@@ -175,12 +174,14 @@ pub fn walk(im: &[u16], k: usize, names: &[u16], first: usize) -> bool
         if !piece_ok(im, k, g, object, start, next, run) {
             return false;
         }
-        good = good & object_links(im, k, names, g, object);
+        if !object_links(im, k, names, g, object) {
+            return false;
+        }
         run = !object;
         next = next_run(im, k, g, object, next);
         g += image::word(im, k, g, 0) as usize;
     }
-    (next == 0) & good
+    next == 0
 }
 
 // ---- granule 0, and the whole heap

@@ -4,7 +4,7 @@ ghost use Prim.Native.Nat.{_<_};
 ghost use Rattle.model.specs.Base.{all};
 ghost use Rattle.model.specs.Undamaged.{cardOk, playerOk, generalOk, sound};
 ghost use Rattle.image.specs.Sized.{Sized, narrow};
-ghost use Rattle.judge_lines.specs.Tests.{spareOk, unscanned, idle, cycleLines};
+ghost use Rattle.judge_lines.specs.Tests.{spareOk, unscanned, idle, layout, cycleLines};
 
 pub mod heap; // heap.rt: objects and runs fill the heap; links and registers are nil or starts
 pub mod marks; // marks.rt: marks stand only on starts
@@ -138,19 +138,25 @@ pub fn cycle_ok(im: &[u16], k: usize) -> bool
 
 // ---- all lines
 
+pub fn layout_ok(im: &[u16], k: usize) -> bool
+    requires { ⌜ Sized k (now im) ⌝ }
+    ensures { λ r. ⌜ r ≡ layout (narrow k (now (im .entry))) ⌝ }
+{
+    let mut names: [u16; 4096] = [0; 4096];
+    starts::note_names(im, k, &mut names);
+    heap::heap_ok(im, k, &names)
+        & heap::regs_ok(im, k, &names)
+        & cards_ok(im, k)
+        & players_ok(im, k)
+        & general_ok(im, k)
+}
+
 pub fn is_sound(im: &[u16], k: usize) -> bool
     requires { ⌜ Sized k (now im) ⌝ }
     ensures { λ r. ⌜ r ≡ sound (narrow k (now (im .entry))) ⌝ }
 {
-    let mut names: [u16; 4096] = [0; 4096];
-    starts::note_names(im, k, &mut names);
-    let layout = heap::heap_ok(im, k, &names)
-        & heap::regs_ok(im, k, &names)
-        & cards_ok(im, k)
-        & players_ok(im, k)
-        & general_ok(im, k);
     if image::running(im, k) == 0 {
-        return layout & is_idle(im, k);
+        return layout_ok(im, k) & is_idle(im, k);
     }
-    layout & cycle_ok(im, k)
+    layout_ok(im, k) & cycle_ok(im, k)
 }

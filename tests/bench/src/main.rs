@@ -93,9 +93,9 @@ fn judging(goals: &mut Goals) {
         let kinds = [
             ("fresh", vec![fresh_image(k)]),
             ("no cycle", vec![work::compact(k)]),
-            ("no cycle, random", drawn(idle, k, 12)),
+            ("no cycle, random", drawn(idle, k, 24)),
             ("in a cycle", vec![work::half_marked(k)]),
-            ("in a cycle, random", drawn(running, k, 12)),
+            ("in a cycle, random", drawn(running, k, 24)),
         ];
         for (what, images) in kinds {
             let Judged { ours, theirs, passes, most_passes } = judged(&images);

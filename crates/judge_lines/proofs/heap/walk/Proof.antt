@@ -1,14 +1,14 @@
-use Rattle.judge_lines.proofs.Fill.{Walk, w-start, w-object, w-stop, w-more, w-less, w-room, w-end}
+use Rattle.judge_lines.proofs.Fill.{Walk, w-start, w-object, w-stop, w-link, w-more, w-less, w-room, w-end}
 use Prim.Native.Nat.{_*_, _-_}
 use borrow.Author.Needs.{needs}
 use Rattle.judge_lines.proofs.heap.walk.Statement.{statement}
 use Rattle.judge_lines.proofs.heap.walk.Tie as tie
 
 abbrev Inv-loop : tie.InvT-loop
-Inv-loop im k names first g₀ next₀ run₀ good₀ start₀ g next run good start = Walk k im g next run good start
+Inv-loop im k names first g₀ next₀ run₀ start₀ g next run start = Walk k im g next run start
 
 abbrev μ-loop : tie.MeasureT-loop
-μ-loop im k names first g₀ next₀ run₀ good₀ start₀ g next run good start = 64 * k - g
+μ-loop im k names first g₀ next₀ run₀ start₀ g next run start = 64 * k - g
 
 next-start-requires : tie.Need-next-start-requires Inv-loop μ-loop
 next-start-requires c κs = search needs
@@ -29,7 +29,10 @@ returns : tie.Need-returns Inv-loop μ-loop
 returns c = search w-stop
 
 object-links-requires : tie.Need-object-links-requires Inv-loop μ-loop
-object-links-requires c κs = (search needs, (search needs, (search needs, (search w-object, w-room _ _ (c .before .before .before .before .before .before .before .before .pre .0) _ _ _ _ _ (c .before .before .before .before .loop .inv) (c .before .before .before .loop-test .taken) _ (c .before .piece-ok .ensures) (c .if1 .left)))))
+object-links-requires c κs = (search needs, (search needs, (search needs, (search w-object, w-room _ _ (c .before .before .before .before .before .before .before .before .pre .0) _ _ _ _ (c .before .before .before .before .loop .inv) (c .before .before .before .loop-test .taken) _ (c .before .piece-ok .ensures) (c .if1 .left)))))
+
+returns-2 : tie.Need-returns-2 Inv-loop μ-loop
+returns-2 c = search w-link
 
 next-run-requires : tie.Need-next-run-requires Inv-loop μ-loop
 next-run-requires c κs = (search needs, (search needs, search w-object))
@@ -44,13 +47,13 @@ add-g : tie.Need-add-g Inv-loop μ-loop
 add-g c = search needs
 
 loop-less : tie.Need-loop-less Inv-loop μ-loop
-loop-less c = w-less _ _ (c .before .before .before .before .before .before .before .before .before .before .before .pre .0) _ _ _ _ _ (c .before .before .before .before .before .before .before .loop .inv) (c .before .before .before .before .before .before .loop-test .taken) _ (c .before .before .before .before .piece-ok .ensures) (c .before .before .before .if1 .left) _ (c .word .ensures)
+loop-less c = w-less _ _ (c .before .before .before .before .before .before .before .before .before .before .before .before .pre .0) _ _ _ _ (c .before .before .before .before .before .before .before .before .loop .inv) (c .before .before .before .before .before .before .before .loop-test .taken) _ (c .before .before .before .before .before .piece-ok .ensures) (c .before .before .before .before .if1 .left) _ (c .word .ensures)
 
 loop-again : tie.Need-loop-again Inv-loop μ-loop
-loop-again c = w-more _ _ (c .before .before .before .before .before .before .before .before .before .before .before .pre .0) _ _ _ _ _ (c .before .before .before .before .before .before .before .loop .inv) (c .before .before .before .before .before .before .loop-test .taken) _ (c .before .before .before .before .piece-ok .ensures) (c .before .before .before .if1 .left) _ _ _ _ (c .before .before .object-links .ensures) (c .before .next-run .ensures) (c .word .ensures) (c .before .before .before .before .before .start-behind .ensures)
+loop-again c = w-more _ _ (c .before .before .before .before .before .before .before .before .before .before .before .before .pre .0) _ _ _ _ (c .before .before .before .before .before .before .before .before .loop .inv) (c .before .before .before .before .before .before .before .loop-test .taken) _ (c .before .before .before .before .before .piece-ok .ensures) (c .before .before .before .before .if1 .left) _ _ _ _ (c .before .before .before .object-links .ensures) (c .before .before .if2 .left) (c .before .next-run .ensures) (c .word .ensures) (c .before .before .before .before .before .before .start-behind .ensures)
 
-returns-2 : tie.Need-returns-2 Inv-loop μ-loop
-returns-2 c = search w-end
+returns-3 : tie.Need-returns-3 Inv-loop μ-loop
+returns-3 c = search w-end
 
 pub walk-spec : {M : Type 1} → statement M
 walk-spec =
@@ -65,10 +68,11 @@ walk-spec =
     piece-ok-requires
     returns
     object-links-requires
+    returns-2
     next-run-requires
     word-requires
     cast-g
     add-g
     loop-less
     loop-again
-    returns-2)
+    returns-3)
