@@ -13,23 +13,21 @@ use reference::random::Random;
 const BEGIN: [u8; 8] = [9, 0, 0, 0, 0, 0, 0, 0];
 const FINISH: [u8; 8] = [13, 0, 0, 0, 0, 0, 0, 0];
 
-/// The shortest of several timings: what the work takes when nothing else runs.
-fn shortest(rounds: usize, mut run: impl FnMut() -> Duration) -> f64 {
-    (0..rounds).map(|_| run()).min().expect("a round").as_nanos() as f64
-}
-
 fn timed(work: impl FnOnce()) -> Duration {
     let began = Instant::now();
     work();
     began.elapsed()
 }
 
-/// The shortest timing of each work. They run in turn, eight times each, so that a slow moment of the machine falls on all of them.
-fn in_turn<const N: usize>(rounds: usize, mut works: [&mut dyn FnMut(); N]) -> [f64; N] {
+/// The shortest timing of each work, in nanoseconds: what it takes when nothing else runs. The works run in turn, eight times each,
+/// so that a slow moment of the machine falls on all of them.
+fn in_turn<const N: usize>(rounds: usize, mut works: [&mut dyn FnMut() -> Duration; N]) -> [f64; N] {
     let mut least = [f64::MAX; N];
     for _ in 0..rounds {
         for (work, least) in works.iter_mut().zip(&mut least) {
-            *least = least.min(shortest(8, || timed(&mut *work)));
+            for _ in 0..8 {
+                *least = least.min(work().as_nanos() as f64);
+            }
         }
     }
     least
@@ -69,12 +67,12 @@ fn judged(images: &[Vec<u16>]) -> Judged {
     let mut sum = Judged { ours: 0.0, theirs: 0.0, passes: 0.0, most_passes: 0.0 };
     let share = 1.0 / images.len() as f64;
     for image in images {
-        let [ours, theirs, pass] = in_turn(8, [
-            &mut || { black_box(library::judge(black_box(image))); },
-            &mut || { black_box(reference::judge(black_box(image))); },
-            &mut || pass(image),
+        let [ours, theirs, five_passes] = in_turn(8, [
+            &mut || timed(|| { black_box(library::judge(black_box(image))); }),
+            &mut || timed(|| { black_box(reference::judge(black_box(image))); }),
+            &mut || timed(|| (0..5).for_each(|_| pass(image))),
         ]);
-        let passes = ours / pass;
+        let passes = ours / (five_passes / 5.0);
         sum.ours += share * ours;
         sum.theirs += share * theirs;
         sum.passes += share * passes;
@@ -108,16 +106,19 @@ fn judging(goals: &mut Goals) {
     }
 }
 
-fn judge_all(images: &[Vec<u16>]) {
-    for image in images {
-        black_box(library::judge(black_box(image)));
-    }
+fn judge_all(images: &[Vec<u16>]) -> Duration {
+    timed(|| {
+        for image in images {
+            black_box(library::judge(black_box(image)));
+        }
+    })
 }
 
 /// As many cards are judged at each k, in turn: one small image judged again and again would be known to the processor's caches
 /// and branch predictor. The sizes of objects are drawn first, so that image n is of the same kind at each k.
 fn growing(goals: &mut Goals) {
-    let kinds: [(&str, fn(usize) -> Vec<Vec<u16>>); 4] = [
+    type Make = fn(usize) -> Vec<Vec<u16>>;
+    let kinds: [(&str, Make); 4] = [
         ("no cycle", |k| vec![work::compact(k)]),
         ("no cycle, random", |k| drawn(idle, k, 24)),
         ("in a cycle", |k| vec![work::half_marked(k)]),
@@ -138,10 +139,13 @@ fn making(goals: &mut Goals) {
     println!("fresh");
     for k in [1, 16, 512] {
         let image = RefCell::new(vec![1; reference::length(k)]);
-        let [ours, theirs] = in_turn(25, [
-            &mut || { black_box(library::fresh(black_box(&mut image.borrow_mut()))); },
-            &mut || { black_box(reference::fresh(black_box(&mut image.borrow_mut()))); },
-        ]);
+        // A small store is made in less time than a clock tells apart.
+        let times = 512 / k;
+        let [ours, theirs] = in_turn(100, [
+            &mut || timed(|| (0..times).for_each(|_| { black_box(library::fresh(black_box(&mut image.borrow_mut()))); })),
+            &mut || timed(|| (0..times).for_each(|_| { black_box(reference::fresh(black_box(&mut image.borrow_mut()))); })),
+        ])
+        .map(|all| all / times as f64);
         println!("  k = {k:3}               {ours:12.0} {theirs:10.0} {:14.2}", ours / theirs);
         goals.at_most("fresh against the second implementation", ours / theirs, NOT_SLOWER);
     }
@@ -167,22 +171,33 @@ fn stepping(goals: &mut Goals) {
         for size in [1, 100, 1_000] {
             let count = if size == 1 { 100 } else { 2_000 };
             let part = &steps[..8 * count];
-            let ours = shortest(5, || in_batches(library::batch, &image, part, size)) / count as f64;
-            let theirs = shortest(3, || in_batches(reference::batch, &image, part, size)) / count as f64;
+            let [ours, theirs] = in_turn(1, [
+                &mut || in_batches(library::batch, &image, part, size),
+                &mut || in_batches(reference::batch, &image, part, size),
+            ])
+            .map(|all| all / count as f64);
             println!("  k = {k:3}, batches of {size:5} {ours:11.0} {theirs:10.0} {:14.2}", ours / theirs);
             goals.at_most("steps against the second implementation", ours / theirs, NOT_SLOWER);
         }
     }
 }
 
-/// A finish alone: the time of a batch of one finish less that of an empty batch, which judges the image too.
-fn pause(batch: Batch, image: &[u16]) -> f64 {
-    let run = |steps: &[u8]| {
-        let mut copy = image.to_vec();
-        let mut answers = vec![0; steps.len() / 4];
-        timed(|| { black_box(batch(&mut copy, steps, &mut answers)); })
-    };
-    shortest(9, || run(&FINISH)) - shortest(9, || run(&[]))
+/// One batch on a copy of the image.
+fn batch_of(batch: Batch, image: &[u16], steps: &[u8]) -> Duration {
+    let mut copy = image.to_vec();
+    let mut answers = vec![0; steps.len() / 4];
+    timed(|| { black_box(batch(&mut copy, steps, &mut answers)); })
+}
+
+/// A finish alone, of both: the time of a batch of one finish less that of an empty batch, which judges the image too.
+fn pauses_of(image: &[u16]) -> [f64; 2] {
+    let [ours, ours_empty, theirs, theirs_empty] = in_turn(12, [
+        &mut || batch_of(library::batch, image, &FINISH),
+        &mut || batch_of(library::batch, image, &[]),
+        &mut || batch_of(reference::batch, image, &FINISH),
+        &mut || batch_of(reference::batch, image, &[]),
+    ]);
+    [ours - ours_empty, theirs - theirs_empty]
 }
 
 fn finishing(goals: &mut Goals) {
@@ -193,8 +208,7 @@ fn finishing(goals: &mut Goals) {
         let marked = work::marked(&begun);
         let mut pauses = Vec::new();
         for (what, image) in [("right after a begin", &begun), ("after marking", &marked)] {
-            let ours = pause(library::batch, image);
-            let theirs = pause(reference::batch, image);
+            let [ours, theirs] = pauses_of(image);
             println!("  k = {k:3}, {what:19} {ours:9.0} {theirs:10.0} {:14.2}", ours / theirs);
             goals.at_most("finish against the second implementation", ours / theirs, NOT_SLOWER);
             pauses.push(ours);
