@@ -5,7 +5,7 @@ pub mod Searched
 pub mod Stretch
 pub mod MarkWords
 pub mod Cases
-pub mod NextStart
+pub mod Counted
 pub mod Walk
 pub mod Fill
 pub mod Idle

@@ -1,6 +1,6 @@
 -- The walk over objects and runs.
 use mathlib.Core.Path.{_≡_, refl, sym, ap, _∙_}
-use mathlib.Core.Bool.{Bool, true, false, not, _&&_}
+use mathlib.Core.Bool.{Bool, true, false, not, _&&_, and-true, and-false}
 use mathlib.Core.List.{List, [], _∷_}
 use Prim.Native.Nat.{ℕ, suc, _+_, _*_, _-_, _≤_, _<_}
 use native.Mathlib.Omega.{arith}
@@ -11,51 +11,67 @@ use borrow.Author.Tests.{leb-true, eqb-true, le-leb, eq-eqb, not-true, not-false
 use Rattle.model.specs.Base.{nth, all, every, zeroes}
 use Rattle.model.specs.Image.{word, isStart}
 use Rattle.model.specs.Undamaged.{bare, piece}
-use Rattle.model.proofs.Laws.{and-split, and-join, every-use, every-cons, every-nil, same-test}
+use Rattle.model.proofs.Laws.{all-make, and-split, and-join, every-use, every-cons, every-nil, same-test}
 use Rattle.model.proofs.Entries.{nth-drop}
 use Rattle.image.specs.Sized.{Sized, narrow}
 use Rattle.image.proofs.Sections.{narrow-lengths}
-use Rattle.judge_lines.specs.Tests.{notStart, clear, startBehind, objectAt, runAt, pieceAt, nextRun}
+use Rattle.judge_lines.specs.Tests.{notStart, clear, objectAt, runAt, pieceAt, nextRun}
 use Rattle.judge_lines.proofs.Loops.{all-cong}
 use Rattle.judge_lines.proofs.Stretch.{zero-stretch}
-use Rattle.judge_lines.proofs.NextStart.{behind-use, behind-make}
 
--- ---- the head of an object, and of a run, where `after` is the next start behind it
+-- ---- the head of an object, and of a run
 
-pub record Head (g s n after : ℕ) : Type 0 where
+pub record Head (k g s n : ℕ) : Type 0 where
   pub pos : 1 ≤ s
   pub few : s ≤ 1024
-  pub inside : g + s ≤ after
+  pub inside : g + s ≤ 64 * k
   pub links-in : n + 2 ≤ 4 * s
 
 abbrev pub headOk : ℕ → ℕ → ℕ → ℕ → Bool
-headOk g s n after = ((leb 1 s && leb s 1024) && leb (g + s) after) && leb (n + 2) (4 * s)
+headOk k g s n = ((leb 1 s && leb s 1024) && leb (g + s) (64 * k)) && leb (n + 2) (4 * s)
 
-pub head-use : (g s n after : ℕ) → headOk g s n after ≡ true → Head g s n after
-head-use g s n after h =
+pub head-use : (k g s n : ℕ) → headOk k g s n ≡ true → Head k g s n
+head-use k g s n h =
     let a = and-split _ _ h in
     let b = and-split _ _ (a .0) in
     let c = and-split _ _ (b .0) in
     record { pos = leb-true _ _ (c .0); few = leb-true _ _ (c .1); inside = leb-true _ _ (b .1); links-in = leb-true _ _ (a .1) }
 
-head-make : (g s n after : ℕ) → Head g s n after → headOk g s n after ≡ true
-head-make g s n after h = and-join _ _ (and-join _ _ (and-join _ _ (le-leb _ _ (h .pos)) (le-leb _ _ (h .few))) (le-leb _ _ (h .inside))) (le-leb _ _ (h .links-in))
+head-make : (k g s n : ℕ) → Head k g s n → headOk k g s n ≡ true
+head-make k g s n h = and-join _ _ (and-join _ _ (and-join _ _ (le-leb _ _ (h .pos)) (le-leb _ _ (h .few))) (le-leb _ _ (h .inside))) (le-leb _ _ (h .links-in))
 
-record RunHead (g next : ℕ) (run : Bool) (s after : ℕ) : Type 0 where
+record RunHead (k g next : ℕ) (run : Bool) (s : ℕ) : Type 0 where
   pub apart : run ≡ false
   pub here : g ≡ next
   pub pos : 1 ≤ s
-  pub inside : g + s ≤ after
+  pub inside : g + s ≤ 64 * k
 
-abbrev pub runHeadOk : ℕ → ℕ → Bool → ℕ → ℕ → Bool
-runHeadOk g next run s after = ((not run && eqb g next) && leb 1 s) && leb (g + s) after
+abbrev pub runHeadOk : ℕ → ℕ → ℕ → Bool → ℕ → Bool
+runHeadOk k g next run s = ((not run && eqb g next) && leb 1 s) && leb (g + s) (64 * k)
 
-run-use : (g next : ℕ) (run : Bool) (s after : ℕ) → runHeadOk g next run s after ≡ true → RunHead g next run s after
-run-use g next run s after h =
+run-use : (k g next : ℕ) (run : Bool) (s : ℕ) → runHeadOk k g next run s ≡ true → RunHead k g next run s
+run-use k g next run s h =
     let a = and-split _ _ h in
     let b = and-split _ _ (a .0) in
     let c = and-split (not run) _ (b .0) in
     record { apart = not-true run (c .0); here = eqb-true _ _ (c .1); pos = leb-true _ _ (b .1); inside = leb-true _ _ (a .1) }
+
+-- ---- starts inside a piece, apart from its other lines
+
+bare-nowhere : (g s : ℕ) → bare (λ _. false) g s ≡ true
+unfolding bare
+bare-nowhere g s = all-make (s - 1) _ (λ i h. refl)
+
+apart : (a b x c : Bool) → (a && (b && (x && c))) ≡ ((a && (b && (true && c))) && x)
+apart true true true c = sym (and-true c)
+apart true true false c = sym (and-false c)
+apart true false x c = refl
+apart false b x c = refl
+
+pub piece-split : (st : ℕ → Bool) (g s : ℕ) (ws : List ℕ) (next : ℕ) (run b : Bool) → piece st g s ws next run b ≡ (piece (λ _. false) g s ws next run b && bare st g s)
+unfolding piece every
+piece-split st g s ws next run true = rw (bare-nowhere g s) (apart (leb 1 s) (leb (4 * s) (suc (length ws))) (bare st g s) _)
+piece-split st g s ws next run false = rw (bare-nowhere g s) (apart (leb 1 s) (leb (4 * s) (suc (length ws))) (bare st g s) _)
 
 -- ---- pieces by index
 
@@ -75,39 +91,31 @@ module _ (k : ℕ) (l : List ℕ) (z : Sized k l) (g : ℕ) (hg : g < 64 * k) wh
   unfolding bare clear notStart
   bare-is s = refl
 
-  module _ (s after : ℕ) (es : s ≡ word (narrow k l) g 0) (ea : after ≡ startBehind (narrow k l) g) where
-    pub fits-in : 1 ≤ s → g + s ≤ after → (g + s ≤ 64 * k) × (clear (narrow k l) (g + 1) (s - 1) ≡ true)
-    fits-in p h = behind-use k l z g s hg p (rw ea at h)
+  pub object-is : (s n : ℕ) → s ≡ word (narrow k l) g 0 → n ≡ word (narrow k l) g 1 → headOk k g s n ≡ objectAt (narrow k l) g
+  unfolding objectAt piece
+  object-is s n es en = rw (← es) (same-test _ _ from to)
+    where
+      ws : List ℕ
+      ws = drop (suc (4 * g)) (narrow k l .heap)
 
-    fits-make : 1 ≤ s → 4 * s ≤ suc (length (drop (suc (4 * g)) (narrow k l .heap))) → bare (isStart (narrow k l)) g s ≡ true → g + s ≤ after
-    fits-make p q c = rw ea (behind-make k l z g s hg p (omega (arith, tail-long)) (sym (bare-is s) ∙ c))
+      to : every (leb 1 s ∷ leb (4 * s) (suc (length ws)) ∷ bare (λ _. false) g s ∷ leb s 1024 ∷ leb (nth ws 0) (4 * s - 2) ∷ []) ≡ true → headOk k g s n ≡ true
+      to e =
+          let a : 1 ≤ s = leb-true _ _ (every-use _ e 0) in
+          let b : 4 * s ≤ suc (length ws) = leb-true _ _ (every-use _ e 1) in
+          let c : s ≤ 1024 = leb-true _ _ (every-use _ e 3) in
+          let d : nth ws 0 ≤ 4 * s - 2 = leb-true _ _ (every-use _ e 4) in
+          let t : nth ws 0 ≡ n = tail-at 0 ∙ sym en in
+          head-make k g s n (record { pos = a; few = c; inside = omega (arith, tail-long); links-in = omega arith })
 
-    pub object-is : (n : ℕ) → n ≡ word (narrow k l) g 1 → headOk g s n after ≡ objectAt (narrow k l) g
-    unfolding objectAt piece
-    object-is n en = rw (← es) (same-test _ _ from to)
-      where
-        ws : List ℕ
-        ws = drop (suc (4 * g)) (narrow k l .heap)
-
-        to : every (leb 1 s ∷ leb (4 * s) (suc (length ws)) ∷ bare (isStart (narrow k l)) g s ∷ leb s 1024 ∷ leb (nth ws 0) (4 * s - 2) ∷ []) ≡ true → headOk g s n after ≡ true
-        to e =
-            let a : 1 ≤ s = leb-true _ _ (every-use _ e 0) in
-            let b : 4 * s ≤ suc (length ws) = leb-true _ _ (every-use _ e 1) in
-            let c : s ≤ 1024 = leb-true _ _ (every-use _ e 3) in
-            let d : nth ws 0 ≤ 4 * s - 2 = leb-true _ _ (every-use _ e 4) in
-            let t : nth ws 0 ≡ n = tail-at 0 ∙ sym en in
-            head-make g s n after (record { pos = a; few = c; inside = fits-make a b (every-use _ e 2); links-in = omega arith })
-
-        from : headOk g s n after ≡ true → every (leb 1 s ∷ leb (4 * s) (suc (length ws)) ∷ bare (isStart (narrow k l)) g s ∷ leb s 1024 ∷ leb (nth ws 0) (4 * s - 2) ∷ []) ≡ true
-        from e =
-            let h = head-use g s n after e in
-            let f = fits-in (h .pos) (h .inside) in
-            let t : nth ws 0 ≡ n = tail-at 0 ∙ sym en in
-            every-cons _ _ (le-leb _ _ (h .pos))
-            (every-cons _ _ (le-leb (4 * s) (suc (length ws)) (omega (arith, f .0, tail-long)))
-            (every-cons _ _ (bare-is s ∙ f .1)
-            (every-cons _ _ (le-leb _ _ (h .few))
-            (every-cons _ _ (le-leb (nth ws 0) (4 * s - 2) (omega (arith, h .links-in))) every-nil))))
+      from : headOk k g s n ≡ true → every (leb 1 s ∷ leb (4 * s) (suc (length ws)) ∷ bare (λ _. false) g s ∷ leb s 1024 ∷ leb (nth ws 0) (4 * s - 2) ∷ []) ≡ true
+      from e =
+          let h = head-use k g s n e in
+          let t : nth ws 0 ≡ n = tail-at 0 ∙ sym en in
+          every-cons _ _ (le-leb _ _ (h .pos))
+          (every-cons _ _ (le-leb (4 * s) (suc (length ws)) (omega (arith, h .inside, tail-long)))
+          (every-cons _ _ (bare-nowhere g s)
+          (every-cons _ _ (le-leb _ _ (h .few))
+          (every-cons _ _ (le-leb (nth ws 0) (4 * s - 2) (omega (arith, h .links-in))) every-nil))))
 
   -- the words behind a run's two, as they stand in the heap
   tail-zero : (s : ℕ) → 1 ≤ s → g + s ≤ 64 * k → all (4 * s - 2) (λ i. eqb (nth (drop (suc (4 * g)) (narrow k l .heap)) (suc i)) 0) ≡ zeroes (take (4 * s - 2) (drop (4 * g + 2) (narrow k l .heap)))
@@ -118,44 +126,43 @@ module _ (k : ℕ) (l : List ℕ) (z : Sized k l) (g : ℕ) (hg : g < 64 * k) wh
       rw (tail-at (suc i), e))
       ∙ sym (zero-stretch (narrow k l .heap) (4 * g + 2) (4 * s - 2) (omega (arith, narrow-lengths k l z .heap-length)))
 
-  module _ (after next : ℕ) (run : Bool) (s : ℕ) (es : s ≡ word (narrow k l) g 0) (ea : after ≡ startBehind (narrow k l) g) where
-    run-is : runAt (narrow k l) g next run ≡ (runHeadOk g next run s after && zeroes (take (4 * s - 2) (drop (4 * g + 2) (narrow k l .heap))))
+  module _ (next : ℕ) (run : Bool) (s : ℕ) (es : s ≡ word (narrow k l) g 0) where
+    run-is : runAt (narrow k l) g next run ≡ (runHeadOk k g next run s && zeroes (take (4 * s - 2) (drop (4 * g + 2) (narrow k l .heap))))
     unfolding runAt piece
     run-is = rw (← es) (same-test _ _ to from)
       where
         ws : List ℕ
         ws = drop (suc (4 * g)) (narrow k l .heap)
 
-        to : every (leb 1 s ∷ leb (4 * s) (suc (length ws)) ∷ bare (isStart (narrow k l)) g s ∷ not run ∷ eqb g next ∷ all (4 * s - 2) (λ i. eqb (nth ws (suc i)) 0) ∷ []) ≡ true
-            → (runHeadOk g next run s after && zeroes (take (4 * s - 2) (drop (4 * g + 2) (narrow k l .heap)))) ≡ true
+        to : every (leb 1 s ∷ leb (4 * s) (suc (length ws)) ∷ bare (λ _. false) g s ∷ not run ∷ eqb g next ∷ all (4 * s - 2) (λ i. eqb (nth ws (suc i)) 0) ∷ []) ≡ true
+            → (runHeadOk k g next run s && zeroes (take (4 * s - 2) (drop (4 * g + 2) (narrow k l .heap)))) ≡ true
         to e =
             let a : 1 ≤ s = leb-true _ _ (every-use _ e 0) in
             let b : 4 * s ≤ suc (length ws) = leb-true _ _ (every-use _ e 1) in
-            let i : g + s ≤ after = fits-make s after es ea a b (every-use _ e 2) in
+            let i : g + s ≤ 64 * k = omega (arith, tail-long) in
             and-join _ _ (and-join _ _ (and-join _ _ (and-join _ _ (every-use _ e 3) (every-use _ e 4)) (le-leb _ _ a)) (le-leb _ _ i))
-            (sym (tail-zero s a ((fits-in s after es ea a i) .0)) ∙ every-use _ e 5)
+            (sym (tail-zero s a i) ∙ every-use _ e 5)
 
-        from : (runHeadOk g next run s after && zeroes (take (4 * s - 2) (drop (4 * g + 2) (narrow k l .heap)))) ≡ true
-            → every (leb 1 s ∷ leb (4 * s) (suc (length ws)) ∷ bare (isStart (narrow k l)) g s ∷ not run ∷ eqb g next ∷ all (4 * s - 2) (λ i. eqb (nth ws (suc i)) 0) ∷ []) ≡ true
+        from : (runHeadOk k g next run s && zeroes (take (4 * s - 2) (drop (4 * g + 2) (narrow k l .heap)))) ≡ true
+            → every (leb 1 s ∷ leb (4 * s) (suc (length ws)) ∷ bare (λ _. false) g s ∷ not run ∷ eqb g next ∷ all (4 * s - 2) (λ i. eqb (nth ws (suc i)) 0) ∷ []) ≡ true
         from e =
             let a = and-split _ _ e in
-            let h = run-use g next run s after (a .0) in
-            let f = fits-in s after es ea (h .pos) (h .inside) in
+            let h = run-use k g next run s (a .0) in
             every-cons _ _ (le-leb _ _ (h .pos))
-            (every-cons _ _ (le-leb (4 * s) (suc (length ws)) (omega (arith, f .0, tail-long)))
-            (every-cons _ _ (bare-is s ∙ f .1)
+            (every-cons _ _ (le-leb (4 * s) (suc (length ws)) (omega (arith, h .inside, tail-long)))
+            (every-cons _ _ (bare-nowhere g s)
             (every-cons _ _ (ap not (h .apart))
             (every-cons _ _ (eq-eqb _ _ (h .here))
-            (every-cons _ _ (tail-zero s (h .pos) (f .0) ∙ a .1) every-nil)))))
+            (every-cons _ _ (tail-zero s (h .pos) (h .inside) ∙ a .1) every-nil)))))
 
-    pub run-fits : not (runHeadOk g next run s after) ≡ false → (1 ≤ s) × (g + s ≤ 64 * k)
-    run-fits h = let r = run-use g next run s after (not-false _ h) in (r .pos, (fits-in s after es ea (r .pos) (r .inside)) .0)
+    pub run-fits : not (runHeadOk k g next run s) ≡ false → (1 ≤ s) × (g + s ≤ 64 * k)
+    run-fits h = let r = run-use k g next run s (not-false _ h) in (r .pos, r .inside)
 
-    pub run-no : not (runHeadOk g next run s after) ≡ true → false ≡ runAt (narrow k l) g next run
-    run-no h = rw (run-is, not-true (runHeadOk g next run s after) h)
+    pub run-no : not (runHeadOk k g next run s) ≡ true → false ≡ runAt (narrow k l) g next run
+    run-no h = rw (run-is, not-true (runHeadOk k g next run s) h)
 
-    pub run-yes : (b : Bool) → not (runHeadOk g next run s after) ≡ false → b ≡ zeroes (take (4 * s - 2) (drop (4 * g + 2) (narrow k l .heap))) → b ≡ runAt (narrow k l) g next run
-    run-yes b h q = rw (run-is, not-false (runHeadOk g next run s after) h) q
+    pub run-yes : (b : Bool) → not (runHeadOk k g next run s) ≡ false → b ≡ zeroes (take (4 * s - 2) (drop (4 * g + 2) (narrow k l .heap))) → b ≡ runAt (narrow k l) g next run
+    run-yes b h q = rw (run-is, not-false (runHeadOk k g next run s) h) q
 
   -- ---- a piece is an object or a run
 

@@ -30,30 +30,23 @@ module _ (m : Image) where
   unfoldable pub clear : ℕ → ℕ → Bool
   clear a n = all n (notStart a)
 
-  -- the first start among the n granules from a on, or their end
-  unfoldable pub nextStart : ℕ → ℕ → ℕ
-  nextStart zero a = a
-  nextStart (suc n) a = cond (isStart m a) a (nextStart n (suc a))
-
-  -- the first start from g on, and behind g, or the heap's end
-  unfoldable pub startFrom : ℕ → ℕ
-  startFrom g = nextStart (granules m - g) g
-
-  unfoldable pub startBehind : ℕ → ℕ
-  startBehind g = startFrom (g + 1)
+  -- how many of the n granules from a on are starts
+  unfoldable pub startsIn : ℕ → ℕ → ℕ
+  startsIn a zero = 0
+  startsIn a (suc n) = startsIn a n + cond (isStart m (a + n)) 1 0
 
   unfoldable pub linkOk : ℕ → ℕ → Bool
   linkOk g i = nilOrStart m (link m g i)
 
-  -- the object at g, the run at g, the piece at g are in order
+  -- the object at g, the run at g, the piece at g are in order, whatever starts lie inside
   unfoldable pub objectAt : ℕ → Bool
-  objectAt g = piece (isStart m) g (word m g 0) (drop (suc (4 * g)) (m .heap)) 0 false true
+  objectAt g = piece (λ _. false) g (word m g 0) (drop (suc (4 * g)) (m .heap)) 0 false true
 
   unfoldable pub runAt : ℕ → ℕ → Bool → Bool
-  runAt g next run = piece (isStart m) g (word m g 0) (drop (suc (4 * g)) (m .heap)) next run false
+  runAt g next run = piece (λ _. false) g (word m g 0) (drop (suc (4 * g)) (m .heap)) next run false
 
   unfoldable pub pieceAt : ℕ → ℕ → Bool → Bool
-  pieceAt g next run = piece (isStart m) g (word m g 0) (drop (suc (4 * g)) (m .heap)) next run (isStart m g)
+  pieceAt g next run = piece (λ _. false) g (word m g 0) (drop (suc (4 * g)) (m .heap)) next run (isStart m g)
 
   -- where the run after the piece at g must be
   unfoldable pub nextRun : ℕ → ℕ → ℕ

@@ -1,12 +1,12 @@
 // Objects and runs fill the heap; links and registers are nil or starts.
 ghost use mathlib.Core.Path.{_≡_};
-ghost use mathlib.Core.Bool.{false, _&&_};
+ghost use mathlib.Core.Bool.{false, cond, _&&_};
 ghost use Prim.Native.Nat.{_+_, _*_, _≤_, _<_, min};
 ghost use Rattle.model.specs.Base.{all};
 ghost use Rattle.model.specs.Image.{granules, isStart, firstRun};
 ghost use Rattle.model.specs.Undamaged.{regOk, linksOk, zeroGranule, filled};
 ghost use Rattle.image.specs.Sized.{Sized, narrow};
-ghost use Rattle.judge_lines.specs.Tests.{Room, Names, firstZero, linkOk, startFrom, startBehind, objectAt, runAt, pieceAt, nextRun};
+ghost use Rattle.judge_lines.specs.Tests.{Room, Names, firstZero, linkOk, objectAt, runAt, pieceAt, nextRun};
 
 // ---- registers, and links of the object at g
 
@@ -82,52 +82,41 @@ pub fn object_links(im: &[u16], k: usize, names: &[u16], g: usize, object: bool)
     true
 }
 
-// ---- pieces: no start lies behind the first granule of the piece at g if it ends at `after`, the next start, or before
+// ---- pieces, whatever starts lie inside
 
-pub fn object_ok(im: &[u16], k: usize, g: usize, after: usize) -> bool
+pub fn object_ok(im: &[u16], k: usize, g: usize) -> bool
     requires { ⌜ Sized k (now im) ⌝ }
     requires { ⌜ g < 64 * k ⌝ }
-    requires { ⌜ after ≡ startBehind (narrow k (now im)) g ⌝ }
     ensures { λ r. ⌜ r ≡ objectAt (narrow k (now (im .entry))) g ⌝ }
 {
     let s = image::word(im, k, g, 0) as usize;
     let n = image::word(im, k, g, 1) as usize;
-    (1 <= s) & (s <= 1024) & (g + s <= after) & (n + 2 <= 4 * s)
+    (1 <= s) & (s <= 1024) & (g + s <= 64 * k) & (n + 2 <= 4 * s)
 }
 
-pub fn run_ok(im: &[u16], k: usize, g: usize, after: usize, next: usize, run: bool) -> bool
+pub fn run_ok(im: &[u16], k: usize, g: usize, next: usize, run: bool) -> bool
     requires { ⌜ Sized k (now im) ⌝ }
     requires { ⌜ g < 64 * k ⌝ }
-    requires { ⌜ after ≡ startBehind (narrow k (now im)) g ⌝ }
     ensures { λ r. ⌜ r ≡ runAt (narrow k (now (im .entry))) g next run ⌝ }
 {
     let s = image::word(im, k, g, 0) as usize;
-    let fits = (!run) & (g == next) & (1 <= s) & (g + s <= after);
+    let fits = (!run) & (g == next) & (1 <= s) & (g + s <= 64 * k);
     if !fits {
         return false;
     }
     image::parts::run_zero(im, k, g, s)
 }
 
-pub fn piece_ok(
-    im: &[u16],
-    k: usize,
-    g: usize,
-    object: bool,
-    after: usize,
-    next: usize,
-    run: bool,
-) -> bool
+pub fn piece_ok(im: &[u16], k: usize, g: usize, object: bool, next: usize, run: bool) -> bool
     requires { ⌜ Sized k (now im) ⌝ }
     requires { ⌜ g < 64 * k ⌝ }
     requires { ⌜ object ≡ isStart (narrow k (now im)) g ⌝ }
-    requires { ⌜ after ≡ startBehind (narrow k (now im)) g ⌝ }
     ensures { λ r. ⌜ r ≡ pieceAt (narrow k (now (im .entry))) g next run ⌝ }
 {
     if object {
-        return object_ok(im, k, g, after);
+        return object_ok(im, k, g);
     }
-    run_ok(im, k, g, after, next, run)
+    run_ok(im, k, g, next, run)
 }
 
 pub fn next_run(im: &[u16], k: usize, g: usize, object: bool, next: usize) -> usize
@@ -144,19 +133,14 @@ pub fn next_run(im: &[u16], k: usize, g: usize, object: bool, next: usize) -> us
 
 // ---- the walk
 
-// The next start behind g, where `start` is the next one from g on.
-pub fn start_behind(im: &[u16], k: usize, g: usize, start: usize) -> usize
-    requires { ⌜ Sized k (now im) ⌝ }
-    requires { ⌜ g < 64 * k ⌝ }
-    requires { ⌜ start ≡ startFrom (narrow k (now im)) g ⌝ }
-    ensures { λ r. ⌜ r ≡ startBehind (narrow k (now (im .entry))) g ⌝ }
+fn one_more(seen: usize, object: bool) -> usize
+    requires { ⌜ seen < 65536 ⌝ }
+    ensures { λ r. ⌜ r ≡ seen + cond object 1 0 ⌝ }
 {
-    if g == start {
-        return crate::starts::next_start(im, k, g + 1);
-    }
-    start
+    if object { seen + 1 } else { seen }
 }
 
+// That no start lies inside a piece is told at the end: then there are as many starts as objects.
 pub fn walk(im: &[u16], k: usize, names: &[u16], first: usize) -> bool
     requires { ⌜ Sized k (now im) ⌝ }
     requires { ⌜ Names (narrow k (now im)) (now names) ⌝ }
@@ -167,21 +151,21 @@ pub fn walk(im: &[u16], k: usize, names: &[u16], first: usize) -> bool
     let mut g = 1;
     let mut next = first;
     let mut run = false;
-    let mut start = crate::starts::next_start(im, k, 1);
+    let mut seen = 0;
     while g < 64 * k {
-        let object = g == start;
-        start = start_behind(im, k, g, start);
-        if !piece_ok(im, k, g, object, start, next, run) {
+        let object = image::bits::is_start(im, k, g);
+        if !piece_ok(im, k, g, object, next, run) {
             return false;
         }
         if !object_links(im, k, names, g, object) {
             return false;
         }
         run = !object;
+        seen = one_more(seen, object);
         next = next_run(im, k, g, object, next);
         g += image::word(im, k, g, 0) as usize;
     }
-    next == 0
+    (next == 0) & (seen == crate::starts::count_starts(im, k))
 }
 
 // ---- granule 0, and the whole heap

@@ -1,10 +1,10 @@
-// The next start; sets of granules, as bits, and that of the granules which a link may name.
+// Starts counted; sets of granules, as bits, and that of the granules which a link may name.
 ghost use mathlib.Core.Path.{_≡_};
 ghost use Prim.Native.Nat.{_*_, _/_, _≤_, _<_, min};
 ghost use lib.ListN.{length, replicate};
 ghost use Rattle.model.specs.Base.{bit};
 ghost use Rattle.image.specs.Sized.{Sized, narrow};
-ghost use Rattle.judge_lines.specs.Tests.{startFrom, Names};
+ghost use Rattle.judge_lines.specs.Tests.{startsIn, Names};
 
 pub fn least(a: usize, b: usize) -> usize
     ensures { λ r. ⌜ r ≡ min a b ⌝ }
@@ -12,21 +12,17 @@ pub fn least(a: usize, b: usize) -> usize
     if a < b { a } else { b }
 }
 
-// The first start from granule a on, or the end.
-pub fn next_start(im: &[u16], k: usize, a: usize) -> usize
+pub fn count_starts(im: &[u16], k: usize) -> usize
     requires { ⌜ Sized k (now im) ⌝ }
-    requires { ⌜ a ≤ 64 * k ⌝ }
-    ensures { λ r. ⌜ r ≡ startFrom (narrow k (now (im .entry))) a ⌝ }
+    ensures { λ r. ⌜ r ≡ startsIn (narrow k (now (im .entry))) 0 (64 * k) ⌝ }
 {
-    let mut b = a;
-    while b < 64 * k {
-        let left = image::start_word(im, k, b / 16) >> ((b % 16) as u16);
-        if left != 0 {
-            return b + u16::trailing_zeros(left) as usize;
-        }
-        b = 16 * (b / 16 + 1);
+    let mut n = 0;
+    let mut i = 0;
+    while i < 4 * k {
+        n += u16::count_ones(image::start_word(im, k, i)) as usize;
+        i += 1;
     }
-    64 * k
+    n
 }
 
 // ---- sets of granules

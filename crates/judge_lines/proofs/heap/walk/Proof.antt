@@ -1,17 +1,14 @@
-use Rattle.judge_lines.proofs.Fill.{Walk, w-start, w-object, w-stop, w-link, w-more, w-less, w-room, w-end}
+use Rattle.judge_lines.proofs.Fill.{Walk, w-start, w-small, w-stop, w-link, w-more, w-less, w-room, w-end}
 use Prim.Native.Nat.{_*_, _-_}
 use borrow.Author.Needs.{needs}
 use Rattle.judge_lines.proofs.heap.walk.Statement.{statement}
 use Rattle.judge_lines.proofs.heap.walk.Tie as tie
 
 abbrev Inv-loop : tie.InvT-loop
-Inv-loop im k names first g₀ next₀ run₀ start₀ g next run start = Walk k im g next run start
+Inv-loop im k names first g₀ next₀ run₀ seen₀ g next run seen = Walk k im g next run seen
 
 abbrev μ-loop : tie.MeasureT-loop
-μ-loop im k names first g₀ next₀ run₀ start₀ g next run start = 64 * k - g
-
-next-start-requires : tie.Need-next-start-requires Inv-loop μ-loop
-next-start-requires c κs = search needs
+μ-loop im k names first g₀ next₀ run₀ seen₀ g next run seen = 64 * k - g
 
 loop-holds : tie.Need-loop-holds Inv-loop μ-loop
 loop-holds c = search w-start
@@ -19,23 +16,26 @@ loop-holds c = search w-start
 mul-loop : tie.Need-mul-loop Inv-loop μ-loop
 mul-loop c = search needs
 
-start-behind-requires : tie.Need-start-behind-requires Inv-loop μ-loop
-start-behind-requires c κs = (search needs, (search needs, c .before .loop .inv .ahead))
+is-start-requires : tie.Need-is-start-requires Inv-loop μ-loop
+is-start-requires c κs = search needs
 
 piece-ok-requires : tie.Need-piece-ok-requires Inv-loop μ-loop
-piece-ok-requires c κs = (search needs, (search needs, (search w-object, c .start-behind .ensures)))
+piece-ok-requires c κs = search needs
 
 returns : tie.Need-returns Inv-loop μ-loop
 returns c = search w-stop
 
 object-links-requires : tie.Need-object-links-requires Inv-loop μ-loop
-object-links-requires c κs = (search needs, (search needs, (search needs, (search w-object, w-room _ _ (c .before .before .before .before .before .before .before .before .pre .0) _ _ _ _ (c .before .before .before .before .loop .inv) (c .before .before .before .loop-test .taken) _ (c .before .piece-ok .ensures) (c .if1 .left)))))
+object-links-requires c κs = (search needs, (search needs, (search needs, (search needs, w-room _ _ (c .before .before .before .before .before .before .before .pre .0) _ _ _ _ (c .before .before .before .before .loop .inv) (c .before .before .before .loop-test .taken) _ (c .before .piece-ok .ensures) (c .if1 .left)))))
 
 returns-2 : tie.Need-returns-2 Inv-loop μ-loop
 returns-2 c = search w-link
 
+one-more-requires : tie.Need-one-more-requires Inv-loop μ-loop
+one-more-requires c κs = search w-small
+
 next-run-requires : tie.Need-next-run-requires Inv-loop μ-loop
-next-run-requires c κs = (search needs, (search needs, search w-object))
+next-run-requires c κs = search needs
 
 word-requires : tie.Need-word-requires Inv-loop μ-loop
 word-requires c κs = search needs
@@ -47,10 +47,13 @@ add-g : tie.Need-add-g Inv-loop μ-loop
 add-g c = search needs
 
 loop-less : tie.Need-loop-less Inv-loop μ-loop
-loop-less c = w-less _ _ (c .before .before .before .before .before .before .before .before .before .before .before .before .pre .0) _ _ _ _ (c .before .before .before .before .before .before .before .before .loop .inv) (c .before .before .before .before .before .before .before .loop-test .taken) _ (c .before .before .before .before .before .piece-ok .ensures) (c .before .before .before .before .if1 .left) _ (c .word .ensures)
+loop-less c = w-less _ _ (c .before .before .before .before .before .before .before .before .before .before .before .before .pre .0) _ _ _ _ (c .before .before .before .before .before .before .before .before .before .loop .inv) (c .before .before .before .before .before .before .before .before .loop-test .taken) _ (c .before .before .before .before .before .before .piece-ok .ensures) (c .before .before .before .before .before .if1 .left) _ (c .word .ensures)
 
 loop-again : tie.Need-loop-again Inv-loop μ-loop
-loop-again c = w-more _ _ (c .before .before .before .before .before .before .before .before .before .before .before .before .pre .0) _ _ _ _ (c .before .before .before .before .before .before .before .before .loop .inv) (c .before .before .before .before .before .before .before .loop-test .taken) _ (c .before .before .before .before .before .piece-ok .ensures) (c .before .before .before .before .if1 .left) _ _ _ _ (c .before .before .before .object-links .ensures) (c .before .before .if2 .left) (c .before .next-run .ensures) (c .word .ensures) (c .before .before .before .before .before .before .start-behind .ensures)
+loop-again c = w-more _ _ (c .before .before .before .before .before .before .before .before .before .before .before .before .pre .0) _ _ _ _ (c .before .before .before .before .before .before .before .before .before .loop .inv) (c .before .before .before .before .before .before .before .before .loop-test .taken) _ (c .before .before .before .before .before .before .piece-ok .ensures) (c .before .before .before .before .before .if1 .left) _ _ _ _ _ (c .before .before .before .before .before .before .before .is-start .ensures) (c .before .before .before .before .object-links .ensures) (c .before .before .before .if2 .left) (c .before .before .one-more .ensures) (c .before .next-run .ensures) (c .word .ensures)
+
+count-starts-requires : tie.Need-count-starts-requires Inv-loop μ-loop
+count-starts-requires c κs = search needs
 
 returns-3 : tie.Need-returns-3 Inv-loop μ-loop
 returns-3 c = search w-end
@@ -61,18 +64,19 @@ walk-spec =
     (tie.spec
     Inv-loop
     μ-loop
-    next-start-requires
     loop-holds
     mul-loop
-    start-behind-requires
+    is-start-requires
     piece-ok-requires
     returns
     object-links-requires
     returns-2
+    one-more-requires
     next-run-requires
     word-requires
     cast-g
     add-g
     loop-less
     loop-again
+    count-starts-requires
     returns-3)
