@@ -4,12 +4,12 @@ use mathlib.Core.Bool.{Bool, true, false, _&&_, _||_, and-true, and-assoc, or-fa
 use mathlib.Core.List.{List, [], _∷_}
 use Prim.Native.Nat.{ℕ, suc, _+_, _*_, _/_, _%_, _≤_, _<_}
 use native.Mathlib.Numerals.{add-one}
-use native.Mathlib.Decide.{ℕ-discrete, decLt}
+use native.Mathlib.Decide.{ℕ-discrete}
 use native.Mathlib.Omega.{arith}
 use lib.Count.{trailingZeros}
-use lib.Dec.{leb, ltb, eqb}
+use lib.Dec.{leb, eqb}
 use lib.ListN.{length}
-use borrow.Author.Tests.{lt-ltb, le-ltb, eq-eqb, ne-eqb}
+use borrow.Author.Tests.{eq-eqb, ne-eqb}
 use Rattle.model.specs.Base.{nth, all, any, every, some, implies, testBit, bit}
 use Rattle.model.specs.Image.{image, imageOf, word, marked, links, link, state, isDirty, dirty, hand, nextLink, handCard, nextGranule, owed}
 use Rattle.model.specs.Undamaged.{linkToCome, granuleToCome, owedWith, covered, cover}
@@ -20,7 +20,7 @@ use Rattle.image.proofs.Masks.{withoutBit-same, withoutBit-less, withoutBit-oth
 use Rattle.image.proofs.Trailing.{Lowest, trailing-lowest}
 use Rattle.judge_lines.specs.Tests.{atWord, wordwise}
 use Rattle.judge_lines.specs.Once.{EnteredSet}
-use Rattle.judge_lines.proofs.Loops.{Passed, all-cong, all-pick}
+use Rattle.judge_lines.proofs.Loops.{all-cong, all-pick}
 use Rattle.judge_lines.proofs.Idle.{no-bit}
 use Rattle.judge_lines.proofs.MarkWords.{by-words}
 use Rattle.judge.specs.Order.{Ready, handComes, cardComes, holds, owes, plain, coming, late, objectCovered}

@@ -12,7 +12,7 @@ use lib.Seq.{drop-drop}
 use borrow.Author.Tests.{leb-true, not-true, not-false}
 use Rattle.model.specs.Base.{nth, all, implies}
 use Rattle.model.specs.Image.{image, imageOf, granules, word, isStart, links, firstRun}
-use Rattle.model.specs.Undamaged.{bare, piece, fill, filled, linksOk}
+use Rattle.model.specs.Undamaged.{piece, fill, filled, linksOk}
 use Rattle.model.proofs.Laws.{false≢, and-split, all-use, all-make, every-use}
 use Rattle.image.specs.Sized.{Sized, narrow}
 use Rattle.image.proofs.Reading.{all-first}
