@@ -2,7 +2,7 @@
 use mathlib.Core.Path.{_≡_, refl, sym, ap, _∙_}
 use mathlib.Core.Bool.{Bool, true, false, _&&_, _||_, and-true, and-assoc, or-false}
 use mathlib.Core.List.{List, [], _∷_}
-use Prim.Native.Nat.{ℕ, suc, _+_, _*_, _/_, _%_, _≤_, _<_}
+use Prim.Native.Nat.{ℕ, suc, _+_, _*_, _/_, _≤_, _<_}
 use native.Mathlib.Numerals.{add-one}
 use native.Mathlib.Decide.{ℕ-discrete}
 use native.Mathlib.Omega.{arith}
@@ -21,6 +21,7 @@ use Rattle.image.proofs.Trailing.{Lowest, trailing-lowest}
 use Rattle.judge_lines.specs.Tests.{atWord, wordwise}
 use Rattle.judge_lines.specs.Once.{EnteredSet}
 use Rattle.judge_lines.proofs.Loops.{all-cong, all-pick}
+use Rattle.judge_lines.proofs.Past.{bit-at}
 use Rattle.judge_lines.proofs.Idle.{no-bit}
 use Rattle.judge_lines.proofs.MarkWords.{by-words}
 use Rattle.judge.specs.Order.{Ready, handComes, cardComes, holds, owes, plain, coming, late, objectCovered}
@@ -95,11 +96,8 @@ module _ (k : ℕ) (l : List ℕ) where
 
   module _ (w x : ℕ) where
     mark-is : x ≡ nth (narrow k l .marks) w → (i : ℕ) → i < 16 → testBit x i ≡ marked (narrow k l) (16 * w + i)
-    unfolding marked bit narrow imageOf image
-    mark-is e i h =
-        let y : (16 * w + i) / 16 ≡ w = omega arith in
-        let z : (16 * w + i) % 16 ≡ i = omega arith in
-        rw (y, z, e)
+    unfolding marked narrow imageOf image
+    mark-is e i h = rw (bit-at (narrow k l .marks) w i h, e)
 
     pub taken-none : x < 65536 → x ≡ nth (narrow k l .marks) w → Taken w true x
     unfolding leftOk wordwise atWord objectCovered

@@ -15,9 +15,10 @@ use Rattle.model.proofs.Laws.{all-make, and-split, and-join, every-use, every-c
 use Rattle.model.proofs.Entries.{nth-drop}
 use Rattle.image.specs.Sized.{Sized, narrow}
 use Rattle.image.proofs.Sections.{narrow-lengths}
-use Rattle.judge_lines.specs.Tests.{notStart, clear, objectAt, runAt, pieceAt, nextRun}
+use Rattle.judge_lines.specs.Tests.{objectAt, runAt, pieceAt, nextRun}
 use Rattle.judge_lines.proofs.Loops.{all-cong}
 use Rattle.judge_lines.proofs.Stretch.{zero-stretch}
+use Rattle.judge_lines.proofs.Counted.{notStart, clear}
 
 -- ---- the head of an object, and of a run
 

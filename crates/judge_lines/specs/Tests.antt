@@ -23,13 +23,6 @@ module _ (m : Image) where
   unfoldable pub firstZero : ℕ → Bool
   firstZero i = eqb (nth (m .heap) i) 0
 
-  unfoldable pub notStart : ℕ → ℕ → Bool
-  notStart a i = not (isStart m (a + i))
-
-  -- none of the n granules from a on is a start
-  unfoldable pub clear : ℕ → ℕ → Bool
-  clear a n = all n (notStart a)
-
   -- how many of the n granules from a on are starts
   unfoldable pub startsIn : ℕ → ℕ → ℕ
   startsIn a zero = 0
