@@ -18,9 +18,9 @@ use Rattle.image.specs.Answer.{doneOf, numberOf, valueOf}
 use Rattle.image.specs.Sized.{Sized, narrow}
 use Rattle.image.proofs.Sections.{narrow-lengths}
 use Rattle.image.specs.declared.answer.Answer.the-variants.{Done, NothingToDo}
-use Rattle.packets.specs.declared.tracer.Tracer.{Tracer}
-use Rattle.packets.specs.Tracers.{tracerAt, withCard, withTracer}
-use Rattle.packets.proofs.TracerWords.{card-written}
+use Rattle.tracers.specs.declared.tracer.Tracer.{Tracer}
+use Rattle.tracers.specs.Tracers.{tracerAt, withCard, withTracer}
+use Rattle.tracers.proofs.TracerWords.{card-written}
 use Rattle.collector.specs.Refusals.{doneUnless}
 use Rattle.collector.proofs.TraceLines.{read-hand}
 

@@ -16,9 +16,9 @@ use Rattle.theory.proofs.Facts.{heap-filled-of, link-value}
 use Rattle.theory.proofs.Tracing.{in-hand-ok}
 use Rattle.image.specs.Sized.{Sized, narrow}
 use Rattle.image.proofs.Sections.{narrow-lengths}
-use Rattle.packets.specs.declared.tracer.Tracer.{Tracer}
-use Rattle.packets.specs.Tracers.{tracerAt, withHand, withTracer}
-use Rattle.packets.proofs.TracerWords.{hand-written}
+use Rattle.tracers.specs.declared.tracer.Tracer.{Tracer}
+use Rattle.tracers.specs.Tracers.{tracerAt, withHand, withTracer}
+use Rattle.tracers.proofs.TracerWords.{hand-written}
 use Rattle.collector.specs.Hands.{afterLink, advanced}
 use lib.ListN.{length}
 

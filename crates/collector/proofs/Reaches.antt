@@ -15,7 +15,7 @@ use Rattle.theory.specs.Lines.{HeldOk, NilOr, Start, Lines}
 use Rattle.theory.proofs.Sections.{hold-ok}
 use Rattle.theory.proofs.Reaching.{mark-lines, take-lines, took}
 use Rattle.image.specs.Sized.{narrow}
-use Rattle.packets.specs.Packets.{Tidy}
+use Rattle.tracers.specs.Packets.{Tidy}
 use Rattle.collector.specs.Pool.{lacksSpace, Spare}
 
 -- ---- the output packet

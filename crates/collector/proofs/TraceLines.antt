@@ -15,10 +15,10 @@ use Rattle.theory.specs.Lines.{Lines}
 use Rattle.image.specs.Answer.{doneOf, numberOf, valueOf}
 use Rattle.image.specs.Sized.{narrow}
 use Rattle.image.specs.declared.answer.Answer.the-variants.{Done, NothingToDo}
-use Rattle.packets.specs.declared.tracer.Tracer.{Tracer}
-use Rattle.packets.specs.Packets.{Tidy, Popped}
-use Rattle.packets.specs.Tracers.{tracerAt, withInput, withOutput, withTracer}
-use Rattle.packets.proofs.TracerWords.{input-written, input-output-written}
+use Rattle.tracers.specs.declared.tracer.Tracer.{Tracer}
+use Rattle.tracers.specs.Packets.{Tidy, Popped}
+use Rattle.tracers.specs.Tracers.{tracerAt, withInput, withOutput, withTracer}
+use Rattle.tracers.proofs.TracerWords.{input-written, input-output-written}
 use Rattle.collector.specs.Refusals.{doneUnless}
 use Rattle.collector.proofs.Choosing.{input-few, output-few}
 

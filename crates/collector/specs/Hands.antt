@@ -4,8 +4,8 @@ use Prim.Native.Nat.{ℕ, suc}
 use lib.Dec.{ltb}
 use Rattle.model.specs.Image.{Image}
 use Rattle.model.specs.Collect.{putHand}
-use Rattle.packets.specs.declared.tracer.Tracer.{Tracer}
-use Rattle.packets.specs.Tracers.{withHand}
+use Rattle.tracers.specs.declared.tracer.Tracer.{Tracer}
+use Rattle.tracers.specs.Tracers.{withHand}
 
 -- link i of the n links of object g was reached: the state, and the image with it
 unfoldable pub afterLink : Tracer → ℕ → ℕ → ℕ → Tracer

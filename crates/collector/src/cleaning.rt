@@ -7,11 +7,11 @@ ghost use Rattle.model.specs.Steps.{step};
 ghost use Rattle.theory.specs.Lines.{Lines, Sound};
 ghost use Rattle.image.specs.Sized.{Sized, narrow};
 ghost use Rattle.image.specs.Answer.{doneOf, asked};
-ghost use Rattle.packets.specs.Tracers.{tracerAt, withCard, withTracer};
+ghost use Rattle.tracers.specs.Tracers.{tracerAt, withCard, withTracer};
 ghost use Rattle.collector.specs.Refusals.{doneUnless};
 use crate::refusals::Turn;
 use image::answer::Answer;
-use packets::tracer::Tracer;
+use tracers::tracer::Tracer;
 
 // "the card is let go", its state as it is
 fn let_go(im: &mut [u16], k: usize, t: usize, x: Tracer)
@@ -21,7 +21,7 @@ fn let_go(im: &mut [u16], k: usize, t: usize, x: Tracer)
     ensures { λ _. ⌜ narrow k (now (im .exit)) ≡ withTracer (narrow k (now (im .entry))) t (withCard x 0 0) ⌝ }
 {
     let gone = x.with_card(0, 0);
-    packets::tracer::write_tracer(im, k, t, gone);
+    tracers::tracer::write_tracer(im, k, t, gone);
 }
 
 // "the next marked object from its next granule goes in hand at link 0 (unless without links) and the next granule is the
@@ -33,14 +33,14 @@ fn clean_card(im: &mut [u16], k: usize, t: usize, x: Tracer)
     ensures { λ _. ⌜ narrow k (now (im .exit)) ≡ cleanCard (narrow k (now (im .entry))) t ⌝ }
 {
     let c = x.card;
-    let g = packets::marks::next_marked(im, k, x.granule as usize, c as usize);
+    let g = tracers::marks::next_marked(im, k, x.granule as usize, c as usize);
     if g == 0 {
         let_go(im, k, t, x);
         return;
     }
     let object = g - 1;
     let y = x.with_card(c, g as u16);
-    packets::tracer::write_tracer(im, k, t, y);
+    tracers::tracer::write_tracer(im, k, t, y);
     crate::hands::take_object(im, k, t, object as u16);
 }
 
@@ -51,9 +51,9 @@ fn take_card(im: &mut [u16], k: usize, t: usize, c: usize)
     ensures { λ _. ⌜ narrow k (now (im .exit)) ≡ takeCard (narrow k (now (im .entry))) t c ⌝ }
 {
     image::set_card(im, k, c, 2);
-    let x = packets::tracer::read_tracer(im, k, t);
+    let x = tracers::tracer::read_tracer(im, k, t);
     let y = x.with_card((c + 1) as u16, (64 * c) as u16);
-    packets::tracer::write_tracer(im, k, t, y);
+    tracers::tracer::write_tracer(im, k, t, y);
 }
 
 fn clean_lines(im: &mut [u16], k: usize, t: usize) -> Answer
@@ -62,7 +62,7 @@ fn clean_lines(im: &mut [u16], k: usize, t: usize) -> Answer
     requires { ⌜ t < 8 ⌝ }
     ensures { λ r. ⌜ doneOf r (narrow k (now (im .exit))) ≡ doneUnless (eqb (cleanLine (narrow k (now (im .entry))) t) 0) (narrow k (now (im .entry))) (cleanStep (narrow k (now (im .entry))) t) ⌝ }
 {
-    let x = packets::tracer::read_tracer(im, k, t);
+    let x = tracers::tracer::read_tracer(im, k, t);
     if x.hand != 0 {
         crate::hands::trace_hand(im, k, t);
         return Answer::Done(0);

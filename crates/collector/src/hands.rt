@@ -6,7 +6,7 @@ ghost use Rattle.model.specs.Collect.{reach, traceHand, takeObject};
 ghost use Rattle.theory.specs.Lines.{Lines, Start};
 ghost use Rattle.image.specs.Sized.{Sized, narrow};
 ghost use Rattle.collector.specs.Hands.{afterLink, advanced};
-use packets::tracer::Tracer;
+use tracers::tracer::Tracer;
 
 pub fn links(im: &[u16], k: usize, g: usize) -> u16
     requires { ⌜ Sized k (now im) ⌝ }
@@ -32,9 +32,9 @@ fn advance(im: &mut [u16], k: usize, t: usize, g: u16, i: u16, n: u16)
     requires { ⌜ (t < 8) × (i < n) ⌝ }
     ensures { λ _. ⌜ narrow k (now (im .exit)) ≡ advanced (narrow k (now (im .entry))) t g i n ⌝ }
 {
-    let x = packets::tracer::read_tracer(im, k, t);
+    let x = tracers::tracer::read_tracer(im, k, t);
     let y = after_link(x, g, i, n);
-    packets::tracer::write_tracer(im, k, t, y);
+    tracers::tracer::write_tracer(im, k, t, y);
 }
 
 fn reach_link(im: &mut [u16], k: usize, t: usize, g: usize, i: usize)
@@ -54,7 +54,7 @@ pub fn trace_hand(im: &mut [u16], k: usize, t: usize)
     requires { ⌜ (t < 8) × (0 < hand (narrow k (now im)) t) ⌝ }
     ensures { λ _. ⌜ narrow k (now (im .exit)) ≡ traceHand (narrow k (now (im .entry))) t ⌝ }
 {
-    let x = packets::tracer::read_tracer(im, k, t);
+    let x = tracers::tracer::read_tracer(im, k, t);
     let g = x.hand;
     let i = x.link;
     let n = links(im, k, g as usize);
@@ -71,7 +71,7 @@ pub fn take_object(im: &mut [u16], k: usize, t: usize, g: u16)
     if links(im, k, g as usize) == 0 {
         return;
     }
-    let x = packets::tracer::read_tracer(im, k, t);
+    let x = tracers::tracer::read_tracer(im, k, t);
     let y = x.with_hand(g, 0);
-    packets::tracer::write_tracer(im, k, t, y);
+    tracers::tracer::write_tracer(im, k, t, y);
 }

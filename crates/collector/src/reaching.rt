@@ -33,7 +33,7 @@ pub fn enter(im: &mut [u16], k: usize, t: usize, g: u16)
     if x == 0 {
         crate::cards::dirty_card(im, k, g as usize / 64);
     } else {
-        packets::packet::append_entry(im, k, x - 1, g);
+        tracers::packet::append_entry(im, k, x - 1, g);
     }
 }
 

@@ -9,11 +9,11 @@ ghost use Rattle.model.specs.Steps.{step};
 ghost use Rattle.theory.specs.Lines.{Lines, Sound};
 ghost use Rattle.image.specs.Sized.{Sized, narrow};
 ghost use Rattle.image.specs.Answer.{doneOf, asked};
-ghost use Rattle.packets.specs.Tracers.{tracerAt};
+ghost use Rattle.tracers.specs.Tracers.{tracerAt};
 ghost use Rattle.collector.specs.Refusals.{doneUnless};
 use crate::refusals::Turn;
 use image::answer::Answer;
-use packets::tracer::Tracer;
+use tracers::tracer::Tracer;
 
 // "Input has entries: the last comes off; it goes in hand at link 0, unless its card is dirty or it has no links."
 fn trace_input(im: &mut [u16], k: usize, t: usize, p: usize)
@@ -22,7 +22,7 @@ fn trace_input(im: &mut [u16], k: usize, t: usize, p: usize)
     requires { ⌜ (t < 8) × (p < 32) × (input (narrow k (now im)) t ≡ suc p) × (0 < count (narrow k (now im)) p) ⌝ }
     ensures { λ _. ⌜ narrow k (now (im .exit)) ≡ traceInput (narrow k (now (im .entry))) t ⌝ }
 {
-    let g = packets::packet::pop_entry(im, k, p);
+    let g = tracers::packet::pop_entry(im, k, p);
     if crate::cards::is_dirty(im, k, g as usize / 64) {
         return;
     }
@@ -41,14 +41,14 @@ fn trace_packets(im: &mut [u16], k: usize, t: usize, x: Tracer) -> Answer
     let f = crate::pool::fullest(im, k);
     if f != 0 {
         let y = x.with_input(f as u16);
-        packets::tracer::write_tracer(im, k, t, y);
+        tracers::tracer::write_tracer(im, k, t, y);
         return Answer::Done(0);
     }
     let o = x.output;
     if crate::pool::has_entries(im, k, o as usize) {
         let y = x.with_input(o);
         let z = y.with_output(0);
-        packets::tracer::write_tracer(im, k, t, z);
+        tracers::tracer::write_tracer(im, k, t, z);
         return Answer::Done(0);
     }
     Answer::NothingToDo
@@ -60,7 +60,7 @@ fn trace_lines(im: &mut [u16], k: usize, t: usize) -> Answer
     requires { ⌜ t < 8 ⌝ }
     ensures { λ r. ⌜ doneOf r (narrow k (now (im .exit))) ≡ doneUnless (eqb (traceLine (narrow k (now (im .entry))) t) 0) (narrow k (now (im .entry))) (traceStep (narrow k (now (im .entry))) t) ⌝ }
 {
-    let x = packets::tracer::read_tracer(im, k, t);
+    let x = tracers::tracer::read_tracer(im, k, t);
     if x.hand != 0 {
         crate::hands::trace_hand(im, k, t);
         return Answer::Done(0);

@@ -18,12 +18,12 @@ use Rattle.image.specs.Bits.{withoutBit}
 use Rattle.image.specs.Sized.{Sized, narrow}
 use Rattle.image.proofs.Masks.{withoutBit-same, withoutBit-less, withoutBit-other}
 use Rattle.image.proofs.Trailing.{Lowest, trailing-lowest}
-use Rattle.judge_lines.specs.Tests.{atWord, wordwise}
-use Rattle.judge_lines.specs.Once.{EnteredSet}
-use Rattle.judge_lines.proofs.Loops.{all-cong, all-pick}
-use Rattle.judge_lines.proofs.Past.{bit-at}
-use Rattle.judge_lines.proofs.Idle.{no-bit}
-use Rattle.judge_lines.proofs.MarkWords.{by-words}
+use Rattle.soundness.specs.Tests.{atWord, wordwise}
+use Rattle.soundness.specs.Once.{EnteredSet}
+use Rattle.soundness.proofs.Loops.{all-cong, all-pick}
+use Rattle.soundness.proofs.Past.{bit-at}
+use Rattle.soundness.proofs.Idle.{no-bit}
+use Rattle.soundness.proofs.MarkWords.{by-words}
 use Rattle.judge.specs.Order.{Ready, handComes, cardComes, holds, owes, plain, coming, late, objectCovered}
 
 -- ---- seven lines in another order

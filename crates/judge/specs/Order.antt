@@ -7,7 +7,7 @@ use lib.Dec.{leb, eqb}
 use Rattle.model.specs.Base.{all, any, every, some, implies}
 use Rattle.model.specs.Image.{Image, marked, links, link, dirty, reg, hand, nextLink, handCard, nextGranule, owed}
 use Rattle.model.specs.Undamaged.{entered, linkToCome, granuleToCome, owedWith, covered}
-use Rattle.judge_lines.specs.Tests.{Packed}
+use Rattle.soundness.specs.Tests.{Packed}
 
 module _ (m : Image) where
   -- ---- the tests of one tracer, register or player

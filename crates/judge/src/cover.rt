@@ -6,8 +6,8 @@ ghost use Rattle.model.specs.Base.{all, any};
 ghost use Rattle.model.specs.Image.{marked, dirty};
 ghost use Rattle.model.specs.Undamaged.{cover};
 ghost use Rattle.image.specs.Sized.{Sized, narrow};
-ghost use Rattle.judge_lines.specs.Tests.{wordwise};
-ghost use Rattle.judge_lines.specs.Once.{EnteredSet};
+ghost use Rattle.soundness.specs.Tests.{wordwise};
+ghost use Rattle.soundness.specs.Once.{EnteredSet};
 ghost use Rattle.judge.specs.Order.{Ready, handComes, cardComes, holds, owes, plain, coming, late, objectCovered};
 
 // ---- hands
@@ -130,7 +130,7 @@ pub fn is_coming(im: &[u16], k: usize, entered: &[u16], g: usize) -> bool
     if is_dirty(im, k, g / 64) {
         return true;
     }
-    if judge_lines::starts::in_set(entered, g) {
+    if soundness::starts::in_set(entered, g) {
         return true;
     }
     granule_to_come(im, k, g)
@@ -142,7 +142,7 @@ pub fn is_plain(im: &[u16], k: usize, g: usize, j: usize) -> bool
     ensures { λ r. ⌜ r ≡ plain (narrow k (now (im .entry))) g j ⌝ }
 {
     let a = image::word(im, k, g, 2 + j) as usize;
-    (a == 0) | judge_lines::marks::marked_at(im, k, a)
+    (a == 0) | soundness::marks::marked_at(im, k, a)
 }
 
 // The first two words for links stand in every object: both are read, so that no branch hangs on how many links there are.
@@ -161,7 +161,7 @@ pub fn all_plain(im: &[u16], k: usize, g: usize, n: usize) -> bool
     ensures { λ r. ⌜ r ≡ all n (plain (narrow k (now (im .entry))) g) ⌝ }
 {
     let mut ok = first_plain(im, k, g, n);
-    let mut i = judge_lines::starts::least(2, n);
+    let mut i = soundness::starts::least(2, n);
     while i < n {
         ok = ok & is_plain(im, k, g, i);
         i += 1;
@@ -252,6 +252,6 @@ pub fn is_covered(im: &[u16], k: usize) -> bool
     ensures { λ r. ⌜ r ≡ cover (narrow k (now (im .entry))) ⌝ }
 {
     let mut entered: [u16; 2048] = [0; 2048];
-    judge_lines::packets::all_once(im, k, &mut entered);
+    soundness::packets::all_once(im, k, &mut entered);
     all_covered(im, k, &entered)
 }

@@ -20,6 +20,6 @@ pub fn finish(im: &mut [u16], k: usize, who: usize, a: usize, b: usize, c: usize
     if image::running(im, k) == 0 {
         return Answer::WrongPhase;
     }
-    let freed = sweep::finish(im, k);
+    let freed = finish::finish(im, k);
     Answer::Done(freed)
 }

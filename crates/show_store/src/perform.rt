@@ -16,7 +16,7 @@ pub fn perform(im: &mut [u16], k: usize, r: Record) -> Answer
 {
     let kind = r.kind;
     match kind {
-        1 => mutator::news::new(im, k, r.who, r.a, r.b, r.c),
+        1 => mutator::new::new(im, k, r.who, r.a, r.b, r.c),
         2 => mutator::objects::load(im, k, r.who, r.a, r.b, r.c),
         3 => mutator::objects::store(im, k, r.who, r.a, r.b, r.c),
         4 => mutator::registers::barrier(im, k, r.who, r.a, r.b, r.c),

@@ -7,9 +7,9 @@ use Rattle.collector.proofs.cleaning.clean_card.Reads as reads
 use Rattle.collector.proofs.cleaning.clean_card.Lts as lts
 use Rattle.collector.proofs.cleaning.let_go.Reads as let-go-reads
 use Rattle.collector.proofs.hands.take_object.Reads as take-object-reads
-use Rattle.packets.proofs.marks.next_marked.Reads as next-marked-reads
-use Rattle.packets.proofs.tracer.Tracer.with_card.Reads as with-card-reads
-use Rattle.packets.proofs.tracer.write_tracer.Reads as write-tracer-reads
+use Rattle.tracers.proofs.marks.next_marked.Reads as next-marked-reads
+use Rattle.tracers.proofs.tracer.Tracer.with_card.Reads as with-card-reads
+use Rattle.tracers.proofs.tracer.write_tracer.Reads as write-tracer-reads
 
 cast-next-marked : tie.Need-cast-next-marked
 cast-next-marked c = search needs

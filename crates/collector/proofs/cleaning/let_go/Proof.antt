@@ -3,8 +3,8 @@ use Rattle.collector.proofs.cleaning.let_go.Statement.{statement}
 use Rattle.collector.proofs.cleaning.let_go.Tie as tie
 use Rattle.collector.proofs.cleaning.let_go.Reads as reads
 use Rattle.collector.proofs.cleaning.let_go.Lts as lts
-use Rattle.packets.proofs.tracer.Tracer.with_card.Reads as with-card-reads
-use Rattle.packets.proofs.tracer.write_tracer.Reads as write-tracer-reads
+use Rattle.tracers.proofs.tracer.Tracer.with_card.Reads as with-card-reads
+use Rattle.tracers.proofs.tracer.write_tracer.Reads as write-tracer-reads
 
 with-card-requires : tie.Need-with-card-requires
 with-card-requires c κs = search needs

@@ -1,0 +1,79 @@
+-- The sweep's code, case by case, and its loop.
+use mathlib.Core.Path.{_≡_, refl, _∙_}
+use mathlib.Core.Bool.{Bool, true, false}
+use mathlib.Core.List.{List}
+use Prim.Native.Nat.{ℕ, suc, _+_, _*_, _-_, _<_, _≤_}
+use native.Mathlib.Omega.{arith}
+use lib.ListN.{length}
+use borrow.Author.Tests.{lt-ltb, le-ltb}
+use Rattle.model.specs.Base.{nth, put}
+use Rattle.model.specs.Image.{Image, marked, firstRun, withHeap, setFirstRun}
+use Rattle.image.specs.Clear.{zeroed}
+use Rattle.image.specs.Sized.{Sized, narrow}
+use Rattle.finish.specs.Gaps.{edged, runAt, gap, passed, down, sweptAll}
+
+pub run-done : (m : Image) (a e n : ℕ) → n ≡ nth (m .general) 1 → (m1 m2 m3 m4 : Image) → m1 ≡ withHeap m (zeroed (4 * a) (4 * e) (m .heap)) → m2 ≡ withHeap m1 (put (m1 .heap) (4 * a) (e - a))
+    → m3 ≡ withHeap m2 (put (m2 .heap) (4 * a + 1) n) → m4 ≡ setFirstRun m3 a → m4 ≡ runAt m a e
+unfolding runAt firstRun withHeap
+run-done m a e n en m1 m2 m3 m4 e1 e2 e3 e4 = rw (e4, e3, e2, e1, en)
+
+pub gap-some : (m m' : Image) (a e : ℕ) → a < e → m' ≡ runAt m a e → m' ≡ gap m a e
+unfolding gap
+gap-some m m' a e l q = q ∙ rw (lt-ltb a e l)
+
+pub gap-none : (m : Image) (a e : ℕ) → e ≤ a → m ≡ gap m a e
+unfolding gap
+gap-none m a e l = rw (le-ltb a e l)
+
+module _ (m : Image) (h e : ℕ) (r : Bool) (er : r ≡ marked m h) where
+  pub sweep-none : r ≡ false → edged e m ≡ passed m h e
+  unfolding passed
+  sweep-none q = rw (← er, q)
+
+  pub sweep-keep : r ≡ true → (n : ℕ) → n ≡ nth (m .heap) (4 * h) → (m' : Image) → m' ≡ gap m (h + n) e → edged h m' ≡ passed m h e
+  unfolding passed
+  sweep-keep q n en m' em = rw (← er, q, ← en, em)
+
+-- ---- the loop
+
+pub record Sweeping (k : ℕ) (im₀ im : List ℕ) (e h : ℕ) : Type 0 where
+  pub low : 1 ≤ h
+  pub high : h ≤ 64 * k
+  pub sized : Sized k im
+  pub same : length im ≡ length im₀
+  pub top : e ≤ 64 * k
+  pub state : edged e (narrow k im) ≡ down (64 * k) (narrow k im₀) (64 * k - h)
+
+pub sweeping-none : (k : ℕ) (im : List ℕ) → Sized k im → Sweeping k im im (64 * k) (64 * k)
+unfolding down
+sweeping-none k im z =
+    record {
+      low = omega (arith, z .low);
+      high = omega arith;
+      sized = z;
+      same = refl;
+      top = omega arith;
+      state = (let q : 64 * k - 64 * k ≡ 0 = omega arith in rw q);
+    }
+
+module _ (k : ℕ) (im₀ im : List ℕ) (e h : ℕ) (t : Sweeping k im₀ im e h) where
+  pub sweeping-more : 1 < h → (e' : ℕ) (im' : List ℕ) → length im' ≡ length im → e' ≤ 64 * k → edged e' (narrow k im') ≡ passed (narrow k im) (h - 1) e → Sweeping k im₀ im' e' (h - 1)
+  unfolding down
+  sweeping-more l e' im' ll te s =
+      record {
+        low = omega arith;
+        high = omega (arith, t .high);
+        sized = record { low = t .sized .low; high = t .sized .high; long = ll ∙ t .sized .long };
+        same = ll ∙ t .same;
+        top = te;
+        state =
+            (let q : 64 * k - (h - 1) ≡ suc (64 * k - h) = omega (arith, t .high) in
+            let p : 64 * k - suc (64 * k - h) ≡ h - 1 = omega (arith, t .high) in
+            s ∙ rw (q, p, ← (t .state)));
+      }
+
+  pub sweeping-end : (m : Image) → narrow k im₀ ≡ setFirstRun m 0 → h ≤ 1 → (im' : List ℕ) → narrow k im' ≡ gap (narrow k im) 1 e → narrow k im' ≡ sweptAll k m
+  unfolding sweptAll
+  sweeping-end m em l im' s =
+      let q : 64 * k - 1 ≡ 64 * k - h = omega (arith, t .low) in
+      s ∙ rw (q, ← em, ← (t .state))

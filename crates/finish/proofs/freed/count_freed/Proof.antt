@@ -1,0 +1,51 @@
+use Rattle.finish.proofs.Ends.{Counting, counting-none, counting-more, counting-end}
+use Prim.Native.Nat.{_-_}
+use native.Mathlib.Omega.{arith}
+use borrow.Author.Needs.{needs}
+use Rattle.finish.proofs.freed.count_freed.Statement.{statement}
+use Rattle.finish.proofs.freed.count_freed.Tie as tie
+
+abbrev Inv-loop : tie.InvT-loop
+Inv-loop im k f₀ h₀ h-end f h = Counting k im h-end f h
+
+abbrev μ-loop : tie.MeasureT-loop
+μ-loop im k f₀ h₀ h-end f h = h-end - h
+
+mul-h-end : tie.Need-mul-h-end Inv-loop μ-loop
+mul-h-end c = search needs
+
+loop-holds : tie.Need-loop-holds Inv-loop μ-loop
+loop-holds c = counting-none _ _
+
+goes-at-requires : tie.Need-goes-at-requires Inv-loop μ-loop
+goes-at-requires c κs = (search needs, omega (arith, c .before .loop .inv .top))
+
+add-f : tie.Need-add-f Inv-loop μ-loop
+add-f c = omega (arith, c .before .before .loop .inv .small, c .before .before .loop .inv .top, c .goes-at .ensures .1)
+
+add-h : tie.Need-add-h Inv-loop μ-loop
+add-h c = omega (arith, c .before .before .loop .inv .top)
+
+loop-less : tie.Need-loop-less Inv-loop μ-loop
+loop-less c = search needs
+
+loop-again : tie.Need-loop-again Inv-loop μ-loop
+loop-again c = counting-more _ _ _ _ _ _ (c .before .before .loop .inv) (omega arith) (c .goes-at .ensures .0) (c .goes-at .ensures .1)
+
+returns : tie.Need-returns Inv-loop μ-loop
+returns c = counting-end _ _ _ _ _ (c .before .loop .inv) (omega arith)
+
+pub count-freed-spec : {M : Type 1} → statement M
+count-freed-spec =
+    tie.close
+    (tie.spec
+    Inv-loop
+    μ-loop
+    mul-h-end
+    loop-holds
+    goes-at-requires
+    add-f
+    add-h
+    loop-less
+    loop-again
+    returns)

@@ -1,0 +1,59 @@
+use Rattle.finish_marking.proofs.Loops.{Listing, listing-none, listing-more, listing-end}
+use Prim.Native.Nat.{_-_}
+use native.Mathlib.Omega.{arith}
+use borrow.Author.Needs.{needs}
+use Rattle.finish_marking.proofs.seeds.list_all.Statement.{statement}
+use Rattle.finish_marking.proofs.seeds.list_all.Tie as tie
+
+abbrev Inv-loop : tie.InvT-loop
+Inv-loop im₀ k c₀ im c = Listing k im₀ im c
+
+abbrev μ-loop : tie.MeasureT-loop
+μ-loop im₀ k c₀ im c = k - c
+
+loop-holds : tie.Need-loop-holds Inv-loop μ-loop
+loop-holds c = listing-none _ _ (c .before .pre)
+
+add-set-card : tie.Need-add-set-card Inv-loop μ-loop
+add-set-card c = search needs
+
+cast-set-card : tie.Need-cast-set-card Inv-loop μ-loop
+cast-set-card c = search needs
+
+set-card-requires : tie.Need-set-card-requires Inv-loop μ-loop
+set-card-requires c κs = (c .before .before .loop .inv .sized, omega arith)
+
+add-c : tie.Need-add-c Inv-loop μ-loop
+add-c c = search needs
+
+loop-less : tie.Need-loop-less Inv-loop μ-loop
+loop-less c = search needs
+
+loop-again : tie.Need-loop-again Inv-loop μ-loop
+loop-again c = let L = c .before .before .before .before .before .loop in listing-more _ _ _ _ (L .inv) (omega arith) _ (search needs) (c .before .before .set-card .ensures)
+
+add-result : tie.Need-add-result Inv-loop μ-loop
+add-result c = search needs
+
+same-length : tie.Need-same-length Inv-loop μ-loop
+same-length c = c .before .loop .inv .same
+
+returns : tie.Need-returns Inv-loop μ-loop
+returns c = listing-end _ _ _ _ (c .before .loop .inv) (omega arith)
+
+pub list-all-spec : {M : Type 1} → statement M
+list-all-spec =
+    tie.close
+    (tie.spec
+    Inv-loop
+    μ-loop
+    loop-holds
+    add-set-card
+    cast-set-card
+    set-card-requires
+    add-c
+    loop-less
+    loop-again
+    add-result
+    same-length
+    returns)

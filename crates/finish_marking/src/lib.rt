@@ -1,0 +1,23 @@
+// The marking of a finish: all that it keeps is marked, with no memory beyond the image's own bits and cards.
+ghost use mathlib.Core.Path.{_≡_};
+ghost use mathlib.Core.Bool.{true};
+ghost use Rattle.model.specs.Undamaged.{sound};
+ghost use Rattle.image.specs.Sized.{Sized, narrow};
+ghost use Rattle.finish_marking.specs.Seeds.{KeptMarked};
+
+pub mod follow; // follow.rt: links followed from pending objects on, with the cards as a work list
+pub mod seeds; // seeds.rt: the objects whose links are followed first
+
+// Marks all that a finish keeps: the seeds become pending, then their links are followed.
+pub fn mark_found(im: &mut [u16], k: usize)
+    requires { ⌜ Sized k (now im) ⌝ }
+    requires { ⌜ sound (narrow k (now im)) ≡ true ⌝ }
+    ensures { λ _. ⌜ KeptMarked (narrow k (now (im .entry))) (narrow k (now (im .exit))) ⌝ }
+{
+    seeds::open_entries(im, k);
+    seeds::open_hands(im, k);
+    seeds::open_dirties(im, k);
+    seeds::hold_all(im, k);
+    let head = seeds::list_all(im, k);
+    follow::mark_all(im, k, head);
+}
