@@ -13,7 +13,7 @@ use Rattle.model.specs.Image.{Image, imageOf, image, marked, hand, handCard, ne
 use Rattle.model.specs.Collect.{traceHand, putCard, takeObject, nextMarked, cleanTo, cleanCard, lowestDirty, takeCard, cleanLine, cleanStep}
 use Rattle.model.proofs.Laws.{best-ok}
 use Rattle.theory.specs.Lines.{CardInHand, Lines}
-use Rattle.theory.proofs.Cleaning.{card-in-hand}
+use Rattle.theory.proofs.steps.Cleaning.{card-in-hand}
 use Rattle.image.specs.Answer.{doneOf, numberOf, valueOf}
 use Rattle.image.specs.Sized.{Sized, narrow}
 use Rattle.image.proofs.Sections.{narrow-lengths}

@@ -11,9 +11,9 @@ use Rattle.model.specs.Image.{Image, imageOf, image, granules, isStart, marked,
 use Rattle.model.specs.Collect.{putHand, reach, traceHand, takeObject}
 use Rattle.theory.specs.Heap.{ObjectAt}
 use Rattle.theory.specs.Lines.{NilOr, Start, Lines}
-use Rattle.theory.proofs.Walk.{object-at}
-use Rattle.theory.proofs.Facts.{heap-filled-of, link-value}
-use Rattle.theory.proofs.Tracing.{in-hand-ok}
+use Rattle.theory.proofs.heap.Walk.{object-at}
+use Rattle.theory.proofs.heap.Facts.{heap-filled-of, link-value}
+use Rattle.theory.proofs.steps.Tracing.{in-hand-ok}
 use Rattle.image.specs.Sized.{Sized, narrow}
 use Rattle.image.proofs.Sections.{narrow-lengths}
 use Rattle.tracers.specs.declared.tracer.Tracer.{Tracer}

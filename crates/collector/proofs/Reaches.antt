@@ -12,8 +12,8 @@ use Rattle.model.specs.Image.{Image, imageOf, image, marked, count, output, wit
 use Rattle.model.specs.Collect.{emptiest, append, noOutput, takeOutput, enter, reach}
 use Rattle.model.proofs.Laws.{best-ok}
 use Rattle.theory.specs.Lines.{HeldOk, NilOr, Start, Lines}
-use Rattle.theory.proofs.Sections.{hold-ok}
-use Rattle.theory.proofs.Reaching.{mark-lines, take-lines, took}
+use Rattle.theory.proofs.lines.Sections.{hold-ok}
+use Rattle.theory.proofs.steps.Reaching.{mark-lines, take-lines, took}
 use Rattle.image.specs.Sized.{narrow}
 use Rattle.tracers.specs.Packets.{Tidy}
 use Rattle.collector.specs.Pool.{lacksSpace, Spare}

@@ -10,8 +10,8 @@ use Rattle.model.specs.Base.{nth}
 use Rattle.model.specs.Image.{Image, reg}
 use Rattle.model.specs.Collect.{reach, reachAll}
 use Rattle.theory.specs.Lines.{NilOr, Start, Lines}
-use Rattle.theory.proofs.Facts.{reg-value}
-use Rattle.theory.proofs.Reaching.{Reached, reach-does}
+use Rattle.theory.proofs.heap.Facts.{reg-value}
+use Rattle.theory.proofs.steps.Reaching.{Reached, reach-does}
 
 -- n is left of m when the first r registers of player p have been reached by tracer t
 pub record Scanning (m : Image) (t p r : ℕ) (n : Image) : Type 0 where

@@ -9,8 +9,8 @@ use Rattle.model.specs.Base.{nth}
 use Rattle.model.specs.Image.{Image, isStart, marked}
 use Rattle.model.specs.Finish.{runTail, Swept, swept, sweep}
 use Rattle.theory.specs.Heap.{Filled, f-end, f-object, f-run, runWords, Bare}
-use Rattle.theory.proofs.Lists.{length-run}
-use Rattle.theory.proofs.Sweep.{not-kept, sweep-piece}
+use Rattle.theory.proofs.heap.Lists.{length-run}
+use Rattle.theory.proofs.finish.Sweep.{not-kept, sweep-piece}
 use Rattle.finish.specs.Gaps.{goes, freedBelow}
 use Rattle.finish.proofs.Fold.{words-behind, size-first}
 

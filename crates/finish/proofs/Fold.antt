@@ -15,8 +15,8 @@ use Rattle.model.specs.Finish.{runTail, Swept, sweptWords, firstOf, swept, swee
 use Rattle.model.proofs.Laws.{nth-put-same}
 use Rattle.model.proofs.Entries.{nth-take, nth-drop}
 use Rattle.theory.specs.Heap.{Filled, f-end, f-object, f-run, runWords, Bare}
-use Rattle.theory.proofs.Lists.{nth-left, nth-head, length-run}
-use Rattle.theory.proofs.Sweep.{not-kept, sweep-piece}
+use Rattle.theory.proofs.heap.Lists.{nth-left, nth-head, length-run}
+use Rattle.theory.proofs.finish.Sweep.{not-kept, sweep-piece}
 use Rattle.image.specs.Clear.{zeroed}
 use Rattle.finish.specs.Gaps.{Edge, edged, runAt, gap, passed, down, sweptAll}
 

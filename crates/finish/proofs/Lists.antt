@@ -12,7 +12,7 @@ use Rattle.model.specs.Base.{nth, put, zeros, testBit, withBit, bit, setBit, ad
 use Rattle.model.specs.Finish.{scannedOff}
 use Rattle.model.proofs.Laws.{nth-replicate, nth-put-same, nth-put-other, length-put, put-out}
 use Rattle.model.proofs.Bits.{length-addBits, addBits-bit, bit-zeros}
-use Rattle.theory.proofs.Replaced.{off-length, off-owed}
+use Rattle.theory.proofs.finish.Replaced.{off-length, off-owed}
 use Rattle.finish_marking.specs.Mark.{digit}
 use Rattle.finish_marking.proofs.Digits.{digit-off}
 use Rattle.finish_marking.proofs.WordBits.{bitOf, bit-half, bit-zero}

@@ -20,7 +20,7 @@ use Rattle.finish_marking.specs.Mark
 use Rattle.finish_marking.specs.Seeds.{KeptMarked}
 use Rattle.finish_marking.proofs.Lengths.{narrow-width, narrow-k, sizes, start-words, mark-words}
 use Rattle.finish_marking.proofs.Fits.{sound-lines}
-use Rattle.theory.proofs.Facts.{heap-filled-of}
+use Rattle.theory.proofs.heap.Facts.{heap-filled-of}
 use Rattle.finish.specs.Gaps.{goes, sweptAll, freedBelow}
 use Rattle.finish.specs.Ending.{StartsKept, unscanned, ended, finished}
 use Rattle.finish.proofs.Fold.{reheaped, swept-all}

@@ -9,9 +9,9 @@ use Rattle.model.specs.Base.{nth, bit}
 use Rattle.model.specs.Image.{Image, granules, word, isStart, marked, links, link}
 use Rattle.model.specs.Undamaged.{sound}
 use Rattle.theory.specs.Lines.{Pair, none, one, Lines, NilOr, Start, InHand, CardInHand}
-use Rattle.theory.proofs.Walk.{object-at}
-use Rattle.theory.proofs.Judged.{sound-use}
-use Rattle.theory.proofs.Facts.{heap-filled-of}
+use Rattle.theory.proofs.heap.Walk.{object-at}
+use Rattle.theory.proofs.lines.Judged.{sound-use}
+use Rattle.theory.proofs.heap.Facts.{heap-filled-of}
 use Rattle.image.specs.Sized.{Sized, narrow}
 use Rattle.finish_marking.specs.Mark.{digit, markBit, startBit, objectBit, World}
 use Rattle.finish_marking.specs.Seeds.{Fit}

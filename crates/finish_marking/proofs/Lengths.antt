@@ -8,7 +8,7 @@ use Rattle.model.specs.Image.{image, imageOf}
 use Rattle.theory.specs.Lines.{Sizes}
 use Rattle.image.specs.Sized.{Sized, narrow}
 use Rattle.image.proofs.Sections.{narrow-fits}
-use Rattle.theory.proofs.Sizes.{fits-sizes}
+use Rattle.theory.proofs.lines.Sizes.{fits-sizes}
 use Rattle.finish_marking.specs.Mark.{Shape}
 
 pub narrow-width : (k : ℕ) (ws : List ℕ) → narrow k ws .width ≡ 16

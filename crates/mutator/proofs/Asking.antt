@@ -11,8 +11,8 @@ use Rattle.model.specs.Records.{Step, Kind}
 use Rattle.model.specs.Steps.{offDesk, isNew, badSize, noRoom, owes, owing, noObject, pastEnd, act, step}
 use Rattle.theory.specs.Heap.{ObjectAt}
 use Rattle.theory.specs.Lines.{NilOr, Start, Sound}
-use Rattle.theory.proofs.Walk.{object-at}
-use Rattle.theory.proofs.Facts.{heap-filled-of, reg-value}
+use Rattle.theory.proofs.heap.Walk.{object-at}
+use Rattle.theory.proofs.heap.Facts.{heap-filled-of, reg-value}
 use Rattle.image.specs.Sized.{narrow}
 use Rattle.image.specs.Answer.{doneOf}
 use Rattle.image.specs.declared.answer.Answer.the-variants.{OffDesk, Owing, NoObject, PastEnd}

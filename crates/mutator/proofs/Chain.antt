@@ -9,11 +9,11 @@ use Rattle.model.specs.Image.{Image, granules, word, firstRun, image, imageOf}
 use Rattle.model.specs.Mutate.{Room, roomFor}
 use Rattle.theory.specs.Lines.{Sound}
 use Rattle.theory.specs.Pieces.{at-end, at-object, at-run, PiecesIn, PlaceIn}
-use Rattle.theory.proofs.Pieces.{image-pieces}
-use Rattle.theory.proofs.Unused.{clear-one}
-use Rattle.theory.proofs.Room.{room-place, place-apart}
-use Rattle.theory.proofs.Carve.{place-below}
-use Rattle.theory.proofs.Facts.{heap-filled-of, heap-sized-of}
+use Rattle.theory.proofs.heap.Pieces.{image-pieces}
+use Rattle.theory.proofs.heap.Unused.{clear-one}
+use Rattle.theory.proofs.new.Room.{room-place, place-apart}
+use Rattle.theory.proofs.new.Carve.{place-below}
+use Rattle.theory.proofs.heap.Facts.{heap-filled-of, heap-sized-of}
 use Rattle.image.specs.Sized.{narrow}
 use Rattle.image.specs.Runs.{Linked, linked-end, linked-run}
 use Rattle.mutator.specs.Rooms.{RoomAt}

@@ -13,7 +13,7 @@ use Rattle.model.specs.Records.{recordBytes, records}
 use Rattle.model.specs.Steps.{run, after, answersOf}
 use Rattle.model.specs.Batch.{misfit, callNumber, events, batchWith, batchAt, batchOf}
 use Rattle.theory.specs.Lines.{Undamaged}
-use Rattle.theory.proofs.Passing.{parts-pass}
+use Rattle.theory.proofs.lines.Passing.{parts-pass}
 use Rattle.image.specs.Size.{sizeOf}
 use Rattle.image.specs.Sized.{narrow}
 use Rattle.image.specs.declared.size.Size.{Size}

@@ -7,7 +7,7 @@ use Rattle.model.specs.Steps.{answersOf}
 use Rattle.model.specs.Batch.{Batch, callNumber, batchWith, batchAt, batchOf, judgeOf}
 use Rattle.model.specs.Claim.{Lent, eventsOf, history, results, Claim}
 use Rattle.model.specs.Undamaged.{judgeAt}
-use Rattle.theory.proofs.Kept.{batch-judged}
+use Rattle.theory.proofs.steps.Kept.{batch-judged}
 use Rattle.theory.proofs.Demand.{demand-three}
 use Rattle.show_store.specs.Called.{Called, none, more, writtenBy, written}
 use Rattle.show_store.proofs.Ran.{answers-append}

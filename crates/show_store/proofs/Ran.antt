@@ -11,8 +11,8 @@ use Rattle.model.specs.Image.{Image}
 use Rattle.model.specs.Records.{recordBytes, records}
 use Rattle.model.specs.Steps.{Done, Event, step, run, after, answersOf}
 use Rattle.theory.specs.Lines.{Undamaged}
-use Rattle.theory.proofs.Kept.{step-keeps}
-use Rattle.theory.proofs.Steps.{run-append}
+use Rattle.theory.proofs.steps.Kept.{step-keeps}
+use Rattle.theory.proofs.steps.Steps.{run-append}
 use Rattle.image.specs.Sized.{Sized, narrow}
 use Rattle.show_store.specs.Run.{recordAt, ran, answered}
 

@@ -16,8 +16,8 @@ use Rattle.model.specs.Claim.{Lent, eventsOf, history, results, Claim}
 use Rattle.model.specs.Plain.{SameAnswers}
 use Rattle.model.proofs.Laws.{first-none}
 use Rattle.theory.specs.Events.{Linked, Steady, Stored}
-use Rattle.theory.proofs.Linked.{run-linked, linked-fine, done-ok, begin-numbers, finish-numbers, all-finish, unreached-freed}
-use Rattle.theory.proofs.Steps.{run-append, run-ok}
+use Rattle.theory.proofs.cycle.Linked.{run-linked, linked-fine, done-ok, begin-numbers, finish-numbers, all-finish, unreached-freed}
+use Rattle.theory.proofs.steps.Steps.{run-append, run-ok}
 
 module _ (w : ℕ) (Ok : Image → Type 0) (st : Steady Ok) (wd : Stored w Ok) where
   -- the image that the records of a batch leave

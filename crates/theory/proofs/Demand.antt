@@ -11,11 +11,11 @@ use Rattle.model.specs.Claim.{Lent, Claim}
 use Rattle.theory.specs.Lines.{Undamaged, Passes}
 use Rattle.theory.specs.Same.{WordsStay}
 use Rattle.theory.proofs.Claim.{claim}
-use Rattle.theory.proofs.FinishKept.{facts-of, finish-does}
-use Rattle.theory.proofs.NewKept.{new-does}
-use Rattle.theory.proofs.Kept.{step-passes}
-use Rattle.theory.proofs.Passing.{judge-use}
-use Rattle.theory.proofs.PlainList.{plain-store}
+use Rattle.theory.proofs.finish.FinishKept.{facts-of, finish-does}
+use Rattle.theory.proofs.new.NewKept.{new-does}
+use Rattle.theory.proofs.steps.Kept.{step-passes}
+use Rattle.theory.proofs.lines.Passing.{judge-use}
+use Rattle.theory.proofs.plain.PlainList.{plain-store}
 use Rattle.theory.proofs.InOrder.{steady, stored}
 
 -- a finish leaves the words of what a chain reaches

@@ -2,12 +2,12 @@
 use Prim.Native.Nat.{ℕ}
 use Rattle.theory.specs.Events.{Steady, Stored}
 use Rattle.theory.specs.Lines.{Passes}
-use Rattle.theory.proofs.FinishKept.{facts-of}
-use Rattle.theory.proofs.FinishMade.{finish-made}
-use Rattle.theory.proofs.Facts.{heap-filled-of, heap-sized-of}
-use Rattle.theory.proofs.Kept.{step-passes}
-use Rattle.theory.proofs.NewKept.{new-does}
-use Rattle.theory.proofs.Passing.{words-round, judge-make}
+use Rattle.theory.proofs.finish.FinishKept.{facts-of}
+use Rattle.theory.proofs.finish.FinishMade.{finish-made}
+use Rattle.theory.proofs.heap.Facts.{heap-filled-of, heap-sized-of}
+use Rattle.theory.proofs.steps.Kept.{step-passes}
+use Rattle.theory.proofs.new.NewKept.{new-does}
+use Rattle.theory.proofs.lines.Passing.{words-round, judge-make}
 
 pub steady : (w : ℕ) → Steady (Passes w)
 steady w = record {

@@ -1,6 +1,6 @@
 use borrow.Author.Needs.{needs}
 use Rattle.show_store.proofs.WholeStore.{finish-who, finish-unnamed, finish-idle, finish-done}
-use Rattle.theory.proofs.Judged.{sound-make}
+use Rattle.theory.proofs.lines.Judged.{sound-make}
 use Rattle.show_store.proofs.finish.finish.Statement.{statement}
 use Rattle.show_store.proofs.finish.finish.Tie as tie
 

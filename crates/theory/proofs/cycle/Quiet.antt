@@ -1,0 +1,151 @@
+-- The collector's steps but finish leave heap, start bits, registers and owed cards as they are, and mark only what they reach.
+use mathlib.Core.Path.{_≡_, refl, sym, subst, _∙_}
+use mathlib.Core.Logic.{_⊎_, inl, inr}
+use mathlib.Core.Bool.{Bool, true, false, cond}
+use mathlib.Core.List.{List, [], _∷_, List·Memᴰ, List·Memᴰ·head, List·Memᴰ·tail}
+use Prim.Native.Nat.{ℕ, zero, suc, _+_, _*_, _-_, _/_}
+use native.Mathlib.Decide.{ℕ-discrete}
+use native.Mathlib.Omega.{arith}
+use lib.Dec.{eqb, ltb}
+use lib.ListN.{getD, take, drop}
+use borrow.Author.Tests.{eqb-false, not-true}
+use Rattle.model.specs.Base.{some, bit, setBit}
+use Rattle.model.specs.Image.{Image, word, isStart, marked, links, link, reg, owed, hand, nextLink, handCard, nextGranule, input, entry, count, dirty, setMark, setState, setTracer, setScanned, withMarks, withCards, withPackets, withTracers, withPlayers, withGeneral, fields-open}
+use Rattle.model.specs.Collect.{append, pop, takeOutput, enter, reach, reachAll, scanPlayer, beginCycle, putHand, takeObject, traceHand, traceInput, tracePool, traceOutput, traceLine, traceStep, putCard, nextMarked, cleanTo, cleanCard, lowestDirty, takeCard, cleanLine, cleanStep}
+use Rattle.model.proofs.Laws.{some-false, nth-put-other, first-passes}
+use Rattle.model.proofs.Bits.{setBit-other}
+use Rattle.theory.specs.Cycle.{Quiet}
+use Rattle.theory.proofs.steps.Reaching.{enter-cases}
+
+-- the image with other cards, packets, tracers, players and general words
+abbrev pub silent : Image → (cs ps ts ls gs : List ℕ) → Image
+silent m cs ps ts ls gs = record { width = m .width; k = m .k; heap = m .heap; starts = m .starts; marks = m .marks; cards = cs; regs = m .regs; packets = ps; tracers = ts; players = ls; general = gs }
+
+-- the next link of the object in hand, if it is an object, passes
+abbrev pub Next : (ℕ → Type 0) → Image → ℕ → Type 0
+Next P m t = (hand m t ≡ 0 → ⊥) → (link m (hand m t) (nextLink m t) ≡ 0 → ⊥) → P (link m (hand m t) (nextLink m t))
+
+module _ {P : ℕ → Type 0} where
+  pub quiet-refl : (m : Image) → Quiet P m m
+  quiet-refl m = record { same-word = λ g i. refl; same-start = λ g. refl; same-reg = λ p r. refl; same-owed = λ p. refl; new-marks = λ g k. inl k }
+
+  pub quiet-trans : {l m n : Image} → Quiet P l m → Quiet P m n → Quiet P l n
+  quiet-trans {l} {m} x y = record {
+    same-word = λ g i. y .same-word g i ∙ x .same-word g i;
+    same-start = λ g. y .same-start g ∙ x .same-start g;
+    same-reg = λ p r. y .same-reg p r ∙ x .same-reg p r;
+    same-owed = λ p. y .same-owed p ∙ x .same-owed p;
+    new-marks = λ g k. two g (y .new-marks g k);
+  }
+    where
+      two : (g : ℕ) → (marked m g ≡ true) ⊎ P g → (marked l g ≡ true) ⊎ P g
+      two g (inl k) = x .new-marks g k
+      two g (inr p) = inr p
+
+  quiet-cond : {m x y : Image} (b : Bool) → Quiet P m x → Quiet P m y → Quiet P m (cond b x y)
+  quiet-cond true p q = p
+  quiet-cond false p q = q
+
+  quiet-silent : (m : Image) (cs ps ts gs : List ℕ) → Quiet P m (silent m cs ps ts (m .players) gs)
+  unfolding word isStart reg owed marked
+  quiet-silent m cs ps ts gs = record { same-word = λ g i. refl; same-start = λ g. refl; same-reg = λ p r. refl; same-owed = λ p. refl; new-marks = λ g k. inl k }
+
+  -- ---- reach
+
+  quiet-mark : (m : Image) (g : ℕ) → P g → Quiet P m (setMark m g)
+  unfolding word isStart reg owed marked setMark withMarks
+  quiet-mark m g ok = record { same-word = λ h i. refl; same-start = λ h. refl; same-reg = λ p r. refl; same-owed = λ p. refl; new-marks = λ h k. by h k (ℕ-discrete h g) }
+    where
+      by : (h : ℕ) → bit (m .width) (setBit (m .width) (m .marks) g) h ≡ true → Dec (h ≡ g) → (bit (m .width) (m .marks) h ≡ true) ⊎ P h
+      by h k (yes e) = inr (subst P (sym e) ok)
+      by h k (no ne) = inl (sym (setBit-other (m .width) (m .marks) g h ne) ∙ k)
+
+  quiet-enter : (m : Image) (t g : ℕ) → Quiet P m (enter m t g)
+  quiet-enter m t g = enter-cases (Quiet P m) m t g (unfold fields-open in quiet-silent m _ _ _ _) (λ p e. unfold append withPackets in quiet-silent m _ _ _ _)
+
+  quiet-output : (m : Image) (t : ℕ) → Quiet P m (takeOutput m t)
+  unfolding takeOutput setTracer withTracers
+  quiet-output m t = quiet-silent m _ _ _ _
+
+  -- what is reached, if it is an object at all, passes
+  pub quiet-reach : (m : Image) (t g : ℕ) → ((g ≡ 0 → ⊥) → P g) → Quiet P m (reach m t g)
+  unfolding reach
+  quiet-reach m t g ok = go (some (eqb g 0 ∷ marked m g ∷ [])) refl
+    where
+      go : (b : Bool) → some (eqb g 0 ∷ marked m g ∷ []) ≡ b → Quiet P m (elim b [ true ↦ m | false ↦ enter (takeOutput (setMark m g) t) t g ])
+      go true e = quiet-refl m
+      go false e = quiet-trans (quiet-mark m g (ok (eqb-false g 0 (some-false _ e 0)))) (quiet-trans (quiet-output (setMark m g) t) (quiet-enter (takeOutput (setMark m g) t) t g))
+
+  pub quiet-reachAll : (m : Image) (t : ℕ) (l : List ℕ) → ((g : ℕ) → List·Memᴰ g l → (g ≡ 0 → ⊥) → P g) → Quiet P m (reachAll m t l)
+  unfolding reachAll
+  quiet-reachAll m t [] ok = quiet-refl m
+  quiet-reachAll m t (g ∷ l) ok = quiet-trans (quiet-reach m t g (ok g (List·Memᴰ·head refl))) (quiet-reachAll (reach m t g) t l (λ h k. ok h (List·Memᴰ·tail k)))
+
+  -- ---- kinds
+
+  pub quiet-begin : (m : Image) → Quiet P m (beginCycle m)
+  unfolding beginCycle withCards withGeneral
+  quiet-begin m = quiet-silent m _ _ _ _
+
+  quiet-scanned : (m : Image) (p : ℕ) → Quiet P m (setScanned m p)
+  unfolding setScanned withPlayers word isStart reg owed marked
+  quiet-scanned m p = record { same-word = λ g i. refl; same-start = λ g. refl; same-reg = λ q r. refl; same-owed = λ q. nth-put-other (m .players) (2 * p + 1) (2 * q) 1 (λ e. omega arith); new-marks = λ g k. inl k }
+
+  pub quiet-scan : (m : Image) (t p : ℕ) → ((g : ℕ) → List·Memᴰ g (take 16 (drop (16 * p) (m .regs))) → (g ≡ 0 → ⊥) → P g) → Quiet P m (scanPlayer m t p)
+  unfolding scanPlayer
+  quiet-scan m t p ok = quiet-trans (quiet-reachAll m t _ ok) (quiet-scanned _ p)
+
+  quiet-hand : (m : Image) (t g i : ℕ) → Quiet P m (putHand m t g i)
+  unfolding putHand setTracer withTracers
+  quiet-hand m t g i = quiet-silent m _ _ _ _
+
+  quiet-take : (m : Image) (t g : ℕ) → Quiet P m (takeObject m t g)
+  unfolding takeObject
+  quiet-take m t g = quiet-cond (eqb (links m g) 0) (quiet-refl m) (quiet-hand m t g 0)
+
+  quiet-traceHand : (m : Image) (t : ℕ) → Next P m t → (hand m t ≡ 0 → ⊥) → Quiet P m (traceHand m t)
+  unfolding traceHand
+  quiet-traceHand m t ok h =
+      let q = quiet-reach m t (link m (hand m t) (nextLink m t)) (ok h) in
+      quiet-cond (ltb (suc (nextLink m t)) (links m (hand m t))) (quiet-trans q (quiet-hand _ t _ _)) (quiet-trans q (quiet-hand _ t 0 0))
+
+  quiet-traceInput : (m : Image) (t : ℕ) → Quiet P m (traceInput m t)
+  unfolding traceInput
+  quiet-traceInput m t = quiet-cond (dirty m (entry m (input m t - 1) (count m (input m t - 1) - 1) / 64)) (unfold pop fields-open in quiet-silent m _ _ _ _) (quiet-trans (quiet-pop (input m t - 1)) (quiet-take (pop m (input m t - 1)) t _))
+    where
+      quiet-pop : (p : ℕ) → Quiet P m (pop m p)
+      quiet-pop p = unfold pop withPackets in quiet-silent m _ _ _ _
+
+  pub quiet-trace : (m : Image) (t : ℕ) → Next P m t → Quiet P m (traceStep m t)
+  unfolding traceStep traceLine tracePool traceOutput setTracer withTracers
+  quiet-trace m t ok = go (traceLine m t) refl
+    where
+      go : (x : ℕ) → traceLine m t ≡ x → Quiet P m (getD (m ∷ traceHand m t ∷ traceInput m t ∷ tracePool m t ∷ traceOutput m t ∷ []) x m)
+      go zero e = quiet-refl m
+      go (suc zero) e = quiet-traceHand m t ok (eqb-false _ _ (not-true _ (first-passes 0 _ 0 e)))
+      go (suc (suc zero)) e = quiet-traceInput m t
+      go (suc (suc (suc zero))) e = quiet-silent m _ _ _ _
+      go (suc (suc (suc (suc zero)))) e = quiet-silent m _ _ _ _
+      go (suc (suc (suc (suc (suc x))))) e = quiet-refl m
+
+  quiet-cleanCard : (m : Image) (t : ℕ) → Quiet P m (cleanCard m t)
+  unfolding cleanCard
+  quiet-cleanCard m t = go (nextMarked m (64 * handCard m t - nextGranule m t) (nextGranule m t))
+    where
+      card : (c n : ℕ) → Quiet P m (putCard m t c n)
+      card c n = unfold putCard setTracer withTracers in quiet-silent m _ _ _ _
+
+      go : (x : ℕ) → Quiet P m (cleanTo m t x)
+      go zero = unfold cleanTo putCard fields-open in quiet-silent m _ _ _ _
+      go (suc g) = unfold cleanTo in quiet-trans (card (handCard m t) (suc g)) (quiet-take _ t g)
+
+  pub quiet-clean : (m : Image) (t : ℕ) → Next P m t → Quiet P m (cleanStep m t)
+  unfolding cleanStep cleanLine takeCard putCard setTracer withTracers setState withCards
+  quiet-clean m t ok = go (cleanLine m t) refl
+    where
+      go : (x : ℕ) → cleanLine m t ≡ x → Quiet P m (getD (m ∷ traceHand m t ∷ cleanCard m t ∷ takeCard m t (lowestDirty m - 1) ∷ []) x m)
+      go zero e = quiet-refl m
+      go (suc zero) e = quiet-traceHand m t ok (eqb-false _ _ (not-true _ (first-passes 0 _ 0 e)))
+      go (suc (suc zero)) e = quiet-cleanCard m t
+      go (suc (suc (suc zero))) e = quiet-silent m _ _ _ _
+      go (suc (suc (suc (suc x)))) e = quiet-refl m

@@ -1,0 +1,129 @@
+-- A finish as a step: its rule on every image that is undamaged but for Cover, and what it never frees on undamaged ones.
+use mathlib.Core.Path.{_≡_, refl, sym, ap, _∙_}
+use mathlib.Core.Logic.{_↔_}
+use mathlib.Core.Bool.{true}
+use mathlib.Core.List.{List}
+use Prim.Native.Nat.{ℕ, _+_, _*_, _≤_, _<_}
+use native.Mathlib.Decide.{ℕ-discrete, decLt}
+use native.Mathlib.Omega.{arith}
+use lib.ListN.{length}
+use Rattle.model.specs.Image.{Image, granules, word, isStart, size, lengths, sections, fits, image, imageOf, parts, words}
+use Rattle.model.specs.Undamaged.{sound}
+use Rattle.model.specs.Records.{Step, finish, kindOf}
+use Rattle.model.specs.Finish.{Finish, keptSet, Kept, finishWith, finishStep}
+use Rattle.model.specs.Steps.{accept, finishDone, act, step}
+use Rattle.model.specs.Batch.{finishAt}
+use Rattle.model.proofs.Found.{kept-is}
+use Rattle.model.proofs.Words.{Fits, parts-fit, parts-words}
+use Rattle.theory.specs.Pieces.{Unused}
+use Rattle.theory.specs.Finish.{FinishMade, FinishRule, FinishSafe}
+use Rattle.theory.specs.Lines.{Lines, Undamaged}
+use Rattle.theory.proofs.steps.Beginning.{length-zeros}
+use Rattle.theory.proofs.finish.Replaced.{off-length}
+use Rattle.theory.proofs.heap.Facts.{heap-filled-of, heap-sized-of, laid-of, proper-of}
+use Rattle.theory.proofs.finish.FinishKept.{finish-does, finish-keeps}
+use Rattle.theory.proofs.finish.FinishMade.{finish-made, freed-run, freed-zero}
+use Rattle.theory.proofs.lines.Judged.{sound-use}
+use Rattle.theory.proofs.lines.Passing.{parts-sizes}
+use Rattle.theory.proofs.steps.Steps.{step-number, accepted}
+
+-- an accepted finish is the finish of the model
+pub finish-step : (m : Image) (s : Step) → kindOf (s .kind) ≡ finish → (step m s) .number ≡ 0 → ((step m s) .image ≡ (finishStep m) .image) × ((step m s) .value ≡ (finishStep m) .value)
+unfolding act finishDone accept
+finish-step m s k e = let a = accepted m s k (sym (step-number m s k) ∙ e) in (ap (λ d. d .image) a, ap (λ d. d .value) a)
+
+-- ---- the rule, on images that are undamaged but for Cover
+
+module _ (w : ℕ) (ws : List ℕ) (fit : fits w (length ws) ≡ true) (ok : sound (parts w ws) ≡ true) where
+  abbrev m : Image
+  m = parts w ws
+
+  abbrev f : Finish
+  f = finishStep m
+
+  o : Lines m
+  o = (sound-use m (parts-sizes w ws fit) ok) .lines
+
+  made : FinishMade m (keptSet m) f
+  made = finish-made m (heap-filled-of o) (heap-sized-of o)
+
+  starts-are : (g : ℕ) → (isStart (f .image) g ≡ true) ↔ (isStart m g ≡ true) × Kept m g
+  starts-are g = (λ h. kept-is w ws fit ok g .0 (sym (made .starts g) ∙ h), λ k. made .starts g ∙ kept-is w ws fit ok g .1 k)
+
+  kept-words : (g i : ℕ) → isStart m g ≡ true → Kept m g → i < 4 * size m g → word (f .image) g i ≡ word m g i
+  kept-words g i h k l = made .words g i (kept-is w ws fit ok g .1 (h, k)) l
+
+  -- an object that is left was there, as large
+  was : (h : ℕ) → isStart (f .image) h ≡ true → (isStart m h ≡ true) × Kept m h × (size (f .image) h ≡ size m h)
+  unfolding size
+  was h s = let r = starts-are h .0 s in (r .0, r .1, kept-words h 0 (r .0) (r .1) (omega (arith, laid-of o .inside h (r .0))))
+
+  same-granules : granules (f .image) ≡ granules m
+  unfolding finishStep finishWith granules
+  same-granules = refl
+
+  unused-stays : (y : ℕ) → Unused m y → Unused (f .image) y
+  unused-stays y u = record {
+    in-range = (u .in-range .0, rw same-granules (u .in-range .1));
+    in-no-object = λ h s l q. let r = was h s in u .in-no-object h (r .0) l (omega (arith, r .2));
+  }
+
+  freed-unused : (g y : ℕ) → isStart m g ≡ true → (Kept m g → ⊥) → g ≤ y → y < g + size m g → Unused (f .image) y
+  freed-unused g y s nk l q = record {
+    in-range = (omega (arith, heap-filled-of o .start-range g s), rw same-granules (omega (arith, laid-of o .inside g s)));
+    in-no-object = λ h t a b. let r = was h t in go h (r .0) (r .1) a (omega (arith, r .2)) (ℕ-discrete h g) (decLt h g);
+  }
+    where
+      go : (h : ℕ) → isStart m h ≡ true → Kept m h → h ≤ y → y < h + size m h → Dec (h ≡ g) → Dec (h < g) → ⊥
+      go h t k a b (yes e) d = nk (rw e at k)
+      go h t k a b (no e) (yes d) = omega (arith, laid-of o .apart h g t s d)
+      go h t k a b (no e) (no d) = omega (arith, laid-of o .apart g h s t (omega arith))
+
+  pub finish-rule : FinishRule m f
+  finish-rule = record {
+    starts-are = starts-are;
+    kept-words = kept-words;
+    value-is = made .grown;
+    freed-unused = freed-unused;
+    unused-stays = unused-stays;
+    in-run = freed-run made;
+    zeroed = freed-zero made;
+  }
+
+  -- ---- the same of the words that a finish alone leaves
+
+  left-fits : Fits (f .image)
+  unfolding finishStep finishWith sections lengths granules
+  left-fits =
+      let k : Fits m = parts-fit w ws fit in
+      let e : 4 * (64 * m .k) ≡ 256 * m .k = omega arith in
+      record {
+        some-card = k .some-card;
+        few-cards = k .few-cards;
+        section-lengths =
+            rw (
+              made .filled .heap-words,
+              e,
+              made .starts-length ∙ o .heap-ok .starts-sized,
+              length-zeros (m .marks) ∙ o .marks-ok .exact,
+              length-zeros (m .cards) ∙ o .cards-ok .sized,
+              o .regs-ok .sized,
+              length-zeros (m .packets) ∙ o .packets-ok .sized,
+              length-zeros (m .tracers) ∙ o .tracers-ok .sized,
+              off-length (m .players) ∙ o .players-ok .sized,
+              made .general-length ∙ o .general-ok .sized,
+            )
+            refl;
+      }
+
+  pub finish-rule-words : FinishRule m (record { image = parts w ((finishAt w ws) .image); value = (finishAt w ws) .value })
+  unfolding finishAt
+  finish-rule-words = rw left-is finish-rule
+    where
+      left-is : parts w (words (f .image)) ≡ f .image
+      left-is = unfold finishStep finishWith parts imageOf image in parts-words (f .image) left-fits
+
+-- ---- on undamaged images
+
+pub finish-safe : (m : Image) → Undamaged m → FinishSafe m ((finishStep m) .image)
+finish-safe m u = record { nothing-dangles = proper-of (finish-keeps m u .sound .lines); reached-stay = finish-does m u .reached-stay }

@@ -1,0 +1,8 @@
+-- The heap: pieces, unused granules, free runs.
+pub mod Lists
+pub mod Walk
+pub mod Pieces
+pub mod Facts
+pub mod Free
+pub mod Unused
+pub mod Outside

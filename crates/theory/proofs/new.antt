@@ -1,0 +1,7 @@
+-- New: the run that is taken, and the object in it.
+pub mod NewKept
+pub mod Room
+pub mod Carve
+pub mod TakeRun
+pub mod NewHeap
+pub mod NewMade

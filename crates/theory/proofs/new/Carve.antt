@@ -1,0 +1,190 @@
+-- With a new object in the lowest run that suffices, pieces fill the heap again.
+use mathlib.Core.Path.{_≡_, refl, sym, ap, subst, _∙_}
+use mathlib.Core.Logic.{_⊎_, inl, inr}
+use mathlib.Core.Bool.{Bool, true, false}
+use Prim.Native.Nat.{ℕ, zero, _+_, _*_, _≤_, _<_}
+use native.Mathlib.Decide.{ℕ-discrete}
+use native.Mathlib.Omega.{arith}
+use borrow.Author.Tests.{eq-eqb, ne-eqb}
+use Rattle.model.specs.Base.{nth}
+use Rattle.model.specs.Image.{Image, granules, word, isStart}
+use Rattle.theory.specs.Heap.{Bare}
+use Rattle.theory.specs.Pieces.{Pieces, ObjectHere, RunHere, at-end, at-object, at-run, past-object, past-run, place-here, ObjectIn, RunIn, PiecesIn, PlaceIn}
+use Rattle.theory.specs.New.{Carved, following}
+use Rattle.theory.proofs.heap.Pieces.{loosen}
+
+-- ---- where the places lie
+
+pub place-past : (m : Image) {b x next last r before : ℕ} {f : Bool} → PlaceIn m b x next f last r before → x ≤ r
+place-past m (past-object o p) = omega (arith, place-past m p)
+place-past m (past-run o l p) = omega (arith, place-past m p)
+place-past m (place-here o l p) = omega arith
+
+place-order : (m : Image) {b x next last r before : ℕ} {f : Bool} → PlaceIn m b x next f last r before → (before ≡ last) ⊎ (x ≤ before)
+place-order m {x = x} {last = last} {before = before} (past-object o p) = cs (place-order m p)
+  where
+    cs : (before ≡ last) ⊎ (x + word m x 0 ≤ before) → (before ≡ last) ⊎ (x ≤ before)
+    cs (inl e) = inl e
+    cs (inr l) = inr (omega arith)
+place-order m {x = x} {last = last} {before = before} (past-run o k p) = cs (place-order m p)
+  where
+    cs : (before ≡ x) ⊎ (x + word m x 0 ≤ before) → (before ≡ last) ⊎ (x ≤ before)
+    cs (inl e) = inr (omega arith)
+    cs (inr l) = inr (omega arith)
+place-order m (place-here o l p) = inl refl
+
+pub place-below : (m : Image) {b x next last r before : ℕ} {f : Bool} → PlaceIn m b x next f last r before → last < x → before < r
+place-below m (past-object o p) h = place-below m p (omega arith)
+place-below m (past-run o l p) h = place-below m p (omega (arith, o .long))
+place-below m (place-here o l p) h = h
+
+module _ (m n : Image) (b c r before next : ℕ) (w : Carved m n b c r before next) (hb : 1 ≤ b) (below : before < r) where
+  -- pieces of n are those of m's granules
+  abbrev Obj : ℕ → Type 0
+  Obj = ObjectHere (isStart n) (word n) (granules m)
+
+  abbrev Run : ℕ → Type 0
+  Run = RunHere (isStart n) (word n) (granules m)
+
+  abbrev Now : ℕ → ℕ → Bool → Type 0
+  Now = Pieces (isStart n) (word n) (granules m)
+
+  -- words of granules before the run, but the pointer of the run before it
+  pub word-before : (h i : ℕ) → 4 * h + i < 4 * r → (4 * h + i ≡ 4 * before + 1 → ⊥) → word n h i ≡ word m h i
+  unfolding word
+  word-before h i l nb = w .others (4 * h + i) (λ e. omega arith) (λ e. omega arith) (λ u. nb) (λ k. ((λ e. omega arith), (λ e. omega arith)))
+
+  pub word-behind : (h i : ℕ) → r + word m r 0 ≤ h → b ≤ word m r 0 → word n h i ≡ word m h i
+  unfolding word
+  word-behind h i l lb = w .others (4 * h + i) (λ e. omega arith) (λ e. omega arith) (λ u e. omega arith) (λ k. ((λ e. omega arith), (λ e. omega arith)))
+
+  bare-same : (x s : ℕ) → ((h : ℕ) → x < h → h < x + s → h ≡ r → ⊥) → Bare (isStart m) x s → Bare (isStart n) x s
+  bare-same x s off ba h p q = w .start-old h (off h p q) ∙ ba h p q
+
+  -- a piece whose two first words stay
+  object-same : (x : ℕ) → (x ≡ r → ⊥) → word n x 0 ≡ word m x 0 → word n x 1 ≡ word m x 1 → ((h : ℕ) → x < h → h < x + word m x 0 → h ≡ r → ⊥) → ObjectIn m x → Obj x
+  object-same x ne e e₁ off o = record {
+    starts = w .start-old x ne ∙ o .starts;
+    long = rw e (o .long);
+    few = rw e (o .few);
+    links-fit = rw (e, e₁) (o .links-fit);
+    ends = rw e (o .ends);
+    alone = rw e (bare-same x (word m x 0) off (o .alone));
+  }
+
+  run-same : (x : ℕ) → (x ≡ r → ⊥) → word n x 0 ≡ word m x 0 → ((i : ℕ) → 2 + i < 4 * word m x 0 → word n x (2 + i) ≡ word m x (2 + i)) → ((h : ℕ) → x < h → h < x + word m x 0 → h ≡ r → ⊥) → RunIn m x → Run x
+  run-same x ne e es off o = record {
+    no-start = w .start-old x ne ∙ o .no-start;
+    long = rw e (o .long);
+    ends = rw e (o .ends);
+    alone = rw e (bare-same x (word m x 0) off (o .alone));
+    zero-words = rw e (λ i l. es i l ∙ o .zero-words i l);
+  }
+
+  -- ---- behind the run nothing changes
+
+  behind : {x nx : ℕ} {f : Bool} → b ≤ word m r 0 → PiecesIn m x nx f → r + word m r 0 ≤ x → Now x nx f
+  behind lb at-end l = at-end
+  behind {x} {nx} lb (at-object o p) l =
+      let e : word n x 0 ≡ word m x 0 = word-behind x 0 l lb in
+      at-object (object-same x (λ q. omega arith) e (word-behind x 1 l lb) (λ h u v q. omega arith) o)
+      (subst (λ y. Now (x + y) nx false) (sym e) (behind lb p (omega arith)))
+  behind {x} lb (at-run o p) l =
+      let e : word n x 0 ≡ word m x 0 = word-behind x 0 l lb in
+      at-run (run-same x (λ q. omega arith) e (λ i k. word-behind x (2 + i) l lb) (λ h u v q. omega arith) o)
+      (rw (e, word-behind x 1 l lb) (behind lb p (omega arith)))
+
+  -- ---- the run itself
+
+  module _ (o : RunIn m r) (lb : b ≤ word m r 0) (few : b ≤ 1024) (fits : c + 2 ≤ 4 * b) where
+    object-here : Obj r
+    object-here = record {
+      starts = w .start-new;
+      long = rw (w .size-new) hb;
+      few = rw (w .size-new) few;
+      links-fit = rw (w .size-new, w .links-new) fits;
+      ends = rw (w .size-new) (omega (arith, o .ends));
+      alone = rw (w .size-new) (bare-same r b (λ h p q e. omega arith) (λ h p q. o .alone h p (omega arith)));
+    }
+
+    left-here : b < word m r 0 → Run (r + b)
+    left-here l = record {
+      no-start = w .start-old (r + b) (λ e. omega arith) ∙ o .alone (r + b) (omega arith) (omega arith);
+      long = omega (arith, w .left-size l);
+      ends = omega (arith, w .left-size l, o .ends);
+      alone = λ h p q. w .start-old h (λ e. omega arith) ∙ o .alone h (omega arith) (omega (arith, w .left-size l));
+      zero-words = λ i k. zero i (omega (arith, w .left-size l));
+    }
+      where
+        zero : (i : ℕ) → 4 * b + (2 + i) < 4 * word m r 0 → word n (r + b) (2 + i) ≡ 0
+        zero i k = same i ∙ (shift i ∙ o .zero-words (4 * b + i) (omega arith))
+          where
+            same : (i : ℕ) → word n (r + b) (2 + i) ≡ word m (r + b) (2 + i)
+            same i = unfold word in w .others (4 * (r + b) + (2 + i)) (λ e. omega arith) (λ e. omega arith) (λ u e. omega arith) (λ k. ((λ e. omega arith), (λ e. omega arith)))
+
+            shift : (i : ℕ) → word m (r + b) (2 + i) ≡ word m r (2 + (4 * b + i))
+            shift i = unfold word in ap (nth (m .heap)) (omega arith)
+
+    here : PiecesIn m (r + word m r 0) (word m r 1) true → Now r next false
+    here p = at-object {next = next} object-here (rw (w .size-new) (cs (ℕ-discrete (word m r 0) b)))
+      where
+        rest : Now (r + word m r 0) (word m r 1) true
+        rest = behind lb p (omega arith)
+
+        cs : Dec (word m r 0 ≡ b) → Now (r + b) next false
+        cs (yes e) = rw (w .none-left e) (rw e at (loosen (isStart n) (word n) (granules m) rest))
+        cs (no e) =
+            let l : b < word m r 0 = omega arith in
+            let j : r + word m r 0 ≡ r + b + word n (r + b) 0 = omega (arith, w .left-size l) in
+            rw (w .left-next l) (at-run (left-here l) (rw (w .left-pointer l, ← j) rest))
+
+  -- ---- all pieces, from granule x on, behind the run `last`
+
+  other-last : (last now : ℕ) → (last ≡ before → ⊥) → following before next last now ≡ now
+  other-last last now ne = rw (ne-eqb last before ne)
+
+  same-last : (last now : ℕ) → last ≡ before → following before next last now ≡ next
+  same-last last now e = rw (eq-eqb last before e)
+
+  object-before : (x last : ℕ) → ObjectIn m x → x + word m x 0 ≤ r → last < x → (before ≡ last) ⊎ (x + word m x 0 ≤ before) → Obj x × (word n x 0 ≡ word m x 0)
+  object-before x last o past h d =
+      let e : word n x 0 ≡ word m x 0 = word-before x 0 (omega (arith, o .long)) (λ q. omega arith) in
+      (object-same x (λ q. omega (arith, o .long)) e (word-before x 1 (omega (arith, o .long)) (λ q. off d (omega arith))) (λ i u v q. omega arith) o, e)
+    where
+      off : (before ≡ last) ⊎ (x + word m x 0 ≤ before) → x ≡ before → ⊥
+      off (inl y) q = omega arith
+      off (inr y) q = omega (arith, o .long)
+
+  record RunBefore (x : ℕ) : Type 0 where
+    pub stays : Run x
+    pub same-size : word n x 0 ≡ word m x 0
+    pub points : word n x 1 ≡ following before next x (word m x 1)
+    pub at-or-past : x ≤ before
+
+  run-before : (x : ℕ) → 1 ≤ x → RunIn m x → x + word m x 0 ≤ r → (before ≡ x) ⊎ (x + word m x 0 ≤ before) → RunBefore x
+  run-before x hx o past d = record { stays = run-same x (λ q. omega (arith, o .long)) e (λ i k. word-before x (2 + i) (omega arith) (off i k d)) (λ i u v q. omega arith) o; same-size = e; points = points d; at-or-past = up d }
+    where
+      e : word n x 0 ≡ word m x 0
+      e = word-before x 0 (omega (arith, o .long)) (λ q. omega arith)
+
+      off : (i : ℕ) → 2 + i < 4 * word m x 0 → (before ≡ x) ⊎ (x + word m x 0 ≤ before) → 4 * x + (2 + i) ≡ 4 * before + 1 → ⊥
+      off i k (inl y) q = omega arith
+      off i k (inr y) q = omega arith
+
+      points : (before ≡ x) ⊎ (x + word m x 0 ≤ before) → word n x 1 ≡ following before next x (word m x 1)
+      points (inl y) = ap (λ y. word n y 1) (sym y) ∙ (w .pointer (λ q. omega arith) ∙ sym (same-last x (word m x 1) (sym y)))
+      points (inr y) = word-before x 1 (omega (arith, o .long)) (λ q. omega (arith, o .long)) ∙ sym (other-last x (word m x 1) (λ q. omega (arith, o .long)))
+
+      up : (before ≡ x) ⊎ (x + word m x 0 ≤ before) → x ≤ before
+      up (inl y) = omega arith
+      up (inr y) = omega arith
+
+  pub carve : {x nx last : ℕ} {f : Bool} → b ≤ 1024 → c + 2 ≤ 4 * b → PlaceIn m b x nx f last r before → last < x → Now x (following before next last nx) f
+  carve {x} {nx} {last} few fits (past-object o p) h =
+      let k = object-before x last o (place-past m p) h (place-order m p) in
+      at-object {next = following before next last nx} (k .0) (rw (k .1) (carve few fits p (omega arith)))
+  carve {x} {last = last} few fits (past-run o l p) h =
+      let k : RunBefore x = run-before x (omega arith) o (place-past m p) (place-order m p) in
+      subst (λ y. Now x y false) (sym (other-last last x (λ q. omega (arith, k .at-or-past))))
+      (at-run (k .stays) (rw (k .same-size, k .points) (carve few fits p (omega (arith, o .long)))))
+  carve {x} {last = last} few fits (place-here o l p) h = subst (λ y. Now x y false) (sym (same-last last x refl)) (here o l few fits p)

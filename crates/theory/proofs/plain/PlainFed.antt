@@ -1,0 +1,115 @@
+-- Which steps the plain store is fed; the others leave registers, owed cards and the words of what a chain reaches.
+use mathlib.Core.Path.{_≡_, refl, sym, ap, _∙_}
+use mathlib.Core.Logic.{_⊎_, inl, inr}
+use mathlib.Core.Bool.{true, false, not, cond}
+use Prim.Native.Nat.{ℕ}
+use native.Mathlib.Omega.{arith}
+use lib.Dec.{eqb}
+use borrow.Author.Tests.{eqb-true, eqb-false, ne-eqb, not-true, not-false}
+use Rattle.model.specs.Image.{Image, reg, owed}
+use Rattle.model.specs.Records.{Step, Kind, new, load, store, barrier, handOver, dropReg, read, write, begin, scan, trace, clean, finish, isDue, unknown, kindOf}
+use Rattle.model.specs.Finish.{finishWith, finishStep}
+use Rattle.model.specs.Steps.{Event, isNew, refusal, accept, finishDone, act, step}
+use Rattle.model.specs.Plain.{Object, made, upd, byPlayerKind, feeds, feedsEvent, named}
+use Rattle.model.proofs.Laws.{false≢, bool-cases}
+use Rattle.theory.specs.Cycle.{Quiet}
+use Rattle.theory.specs.Same.{WordsStay, KeptWords}
+use Rattle.theory.proofs.steps.Steps.{step-cases}
+use Rattle.theory.proofs.cycle.Quiet.{quiet-refl, quiet-begin, quiet-scan, quiet-trace, quiet-clean}
+use Rattle.theory.proofs.finish.Replaced.{off-owed}
+use Rattle.theory.proofs.plain.PlainAlike.{not-nine}
+use Rattle.theory.proofs.plain.PlainAccepted.{by-one}
+
+-- ---- which steps the plain store is fed
+
+-- the value for new, and those for the other kinds
+by-new : {A : Type 0} (z a b c d e f g h : A) (n : Kind) → byPlayerKind z a b c d e f g h n ≡ cond (isNew n) a (byPlayerKind z z b c d e f g h n)
+unfolding isNew
+by-new z a b c d e f g h new = refl
+by-new z a b c d e f g h load = refl
+by-new z a b c d e f g h store = refl
+by-new z a b c d e f g h barrier = refl
+by-new z a b c d e f g h handOver = refl
+by-new z a b c d e f g h dropReg = refl
+by-new z a b c d e f g h read = refl
+by-new z a b c d e f g h write = refl
+by-new z a b c d e f g h begin = refl
+by-new z a b c d e f g h scan = refl
+by-new z a b c d e f g h trace = refl
+by-new z a b c d e f g h clean = refl
+by-new z a b c d e f g h finish = refl
+by-new z a b c d e f g h isDue = refl
+by-new z a b c d e f g h unknown = refl
+
+-- the record of a new is fed unless it is answered 9, and any other whatever it is answered
+fed-new : (n : Kind) (r : ℕ) → isNew n ≡ true → feeds n r ≡ not (eqb r 9)
+unfolding feeds
+fed-new n r e = by-new _ _ _ _ _ _ _ _ _ n ∙ rw e refl
+
+fed-other : (n : Kind) (r t : ℕ) → isNew n ≡ false → feeds n r ≡ feeds n t
+unfolding feeds
+fed-other n r t e = by-new _ _ _ _ _ _ _ _ _ n ∙ (rw e refl ∙ sym (by-new _ _ _ _ _ _ _ _ _ n))
+
+pub fed-not-nine : (m : Image) (s : Step) (n : Kind) → feeds n (refusal m s n) ≡ true → refusal m s n ≡ 9 → ⊥
+fed-not-nine m s n e = go (bool-cases (isNew n))
+  where
+    go : (isNew n ≡ true) ⊎ (isNew n ≡ false) → refusal m s n ≡ 9 → ⊥
+    go (inl x) = eqb-false (refusal m s n) 9 (not-true _ (sym (fed-new n (refusal m s n) x) ∙ e))
+    go (inr x) = not-nine m s n x
+
+pub fed-zero : (n : Kind) (r : ℕ) → feeds n r ≡ true → feeds n 0 ≡ true
+fed-zero n r e = go (bool-cases (isNew n))
+  where
+    go : (isNew n ≡ true) ⊎ (isNew n ≡ false) → feeds n 0 ≡ true
+    go (inl x) = fed-new n 0 x
+    go (inr x) = fed-other n 0 r x ∙ e
+
+-- a step that is not fed names nothing
+pub unfed-named : (name : ℕ → Object) (i : ℕ) (e : Event) → feedsEvent e ≡ false → named name i e ≡ name
+unfolding named feedsEvent
+unfed-named name i e u = ap (λ b. cond b (upd name (e .done .value) (made i)) name) (by-new _ _ _ _ _ _ _ _ _ (kindOf (e .request .kind)) ∙ go (bool-cases (isNew (kindOf (e .request .kind)))))
+  where
+    n : Kind
+    n = kindOf (e .request .kind)
+
+    r : ℕ
+    r = e .done .number
+
+    go : (isNew n ≡ true) ⊎ (isNew n ≡ false) → cond (isNew n) (eqb r 0) (byPlayerKind false false false false false false false false false n) ≡ false
+    go (inl x) = let k : r ≡ 9 = eqb-true r 9 (not-false _ (sym (fed-new n r x) ∙ u)) in rw x (ne-eqb r 0 (λ z. omega arith))
+    go (inr x) = rw x (by-one false n)
+
+-- ---- what a step that is not fed leaves
+
+-- whatever is newly marked
+abbrev Still : Image → Image → Type 0
+Still m n = Quiet (λ g. Unit {0}) m n
+
+quiet-kept : (m n : Image) → Still m n → KeptWords m n
+quiet-kept m n q = record { kept-reg = q .same-reg; kept-owed = q .same-owed; kept-word = λ g i c l. q .same-word g i }
+
+finish-kept : (m : Image) (s : Step) → WordsStay m ((act m s finish) .image) → KeptWords m ((act m s finish) .image)
+unfolding act accept finishDone finishStep finishWith reg owed
+finish-kept m s k = record { kept-reg = λ p r. refl; kept-owed = λ p. off-owed (m .players) p; kept-word = k }
+
+module _ (m : Image) (s : Step) (stays : refusal m s finish ≡ 0 → WordsStay m ((act m s finish) .image)) where
+  unfed-act : (n : Kind) → feeds n 0 ≡ false → refusal m s n ≡ 0 → KeptWords m ((act m s n) .image)
+  unfolding feeds act accept
+  unfed-act new e z = false≢ (sym e)
+  unfed-act load e z = false≢ (sym e)
+  unfed-act store e z = false≢ (sym e)
+  unfed-act barrier e z = false≢ (sym e)
+  unfed-act handOver e z = false≢ (sym e)
+  unfed-act dropReg e z = false≢ (sym e)
+  unfed-act read e z = false≢ (sym e)
+  unfed-act write e z = false≢ (sym e)
+  unfed-act begin e z = quiet-kept m _ (quiet-begin m)
+  unfed-act scan e z = quiet-kept m _ (quiet-scan m (s .who) (s .a) (λ g k nz. tt))
+  unfed-act trace e z = quiet-kept m _ (quiet-trace m (s .who) (λ h nz. tt))
+  unfed-act clean e z = quiet-kept m _ (quiet-clean m (s .who) (λ h nz. tt))
+  unfed-act finish e z = finish-kept m s (stays z)
+  unfed-act isDue e z = quiet-kept m _ (quiet-refl m)
+  unfed-act unknown e z = quiet-kept m _ (quiet-refl m)
+
+  pub unfed-kept : feeds (kindOf (s .kind)) (refusal m s (kindOf (s .kind))) ≡ false → KeptWords m ((step m s) .image)
+  unfed-kept u = step-cases m s (KeptWords m) (quiet-kept m m (quiet-refl m)) (λ n k z. unfed-act n (ap (feeds n) (sym z) ∙ (ap (λ x. feeds x (refusal m s x)) (sym k) ∙ u)) z)

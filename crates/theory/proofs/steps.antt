@@ -1,0 +1,11 @@
+-- Steps: by their numbers, and what each keeps.
+pub mod Steps
+pub mod Reaching
+pub mod Tracing
+pub mod Cleaning
+pub mod Beginning
+pub mod Written
+pub mod Mutating
+pub mod EachKind
+pub mod Kept
+pub mod Numbers

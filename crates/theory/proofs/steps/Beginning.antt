@@ -1,0 +1,89 @@
+-- Scan and begin keep the lines and Cover.
+use mathlib.Core.Path.{_≡_, refl, sym, _∙_}
+use mathlib.Core.Logic.{inl}
+use mathlib.Core.List.{List}
+use Prim.Native.Nat.{ℕ, suc, _+_, _*_, _≤_, _<_}
+use native.Mathlib.Omega.{arith}
+use lib.ListN.{length, take, drop, length-replicate}
+use Rattle.model.specs.Base.{nth, put, zeros}
+use Rattle.model.specs.Image.{Image, marked, withCards, withPlayers, withGeneral, setScanned, fields-open}
+use Rattle.model.specs.Collect.{scanPlayer, beginCycle}
+use Rattle.model.proofs.Laws.{false≢, nth-put-same, nth-put-other, length-put, nth-replicate}
+use Rattle.model.proofs.Entries.{nth-drop}
+use Rattle.model.proofs.Bits.{no-bit}
+use Rattle.theory.specs.Cover.{Covered, Cover, owes-by, to-nil, to-marked, is-coming, is-owed}
+use Rattle.theory.specs.Lines.{NilOr, GeneralOk, Start, Lines, Idle, none}
+use Rattle.theory.proofs.lines.Covering.{same-coming}
+use Rattle.theory.proofs.lines.Lines.{put-players, put-general}
+use Rattle.theory.proofs.steps.Reaching.{each-take, Stays, reachAll-does, frame}
+use Rattle.theory.proofs.lines.Sections.{scanned-set}
+
+-- ---- scan
+
+scanned-cover : (m : Image) (p : ℕ) → Cover m → Cover (setScanned m p)
+unfolding fields-open
+scanned-cover m p cov g i hg k l = go (cov g i hg k l)
+  where
+    go : Covered m g i → Covered (setScanned m p) g i
+    go (to-nil q) = to-nil q
+    go (to-marked q) = to-marked q
+    go (is-coming d) = is-coming (same-coming m (setScanned m p) refl refl refl g i d)
+    go (is-owed (owes-by q r hq hr ow e)) = is-owed (owes-by q r hq hr (nth-put-other (m .players) (2 * p + 1) (2 * q) 1 (omega arith) ∙ ow) e)
+
+scanned-lines : (m : Image) → Lines m → (p : ℕ) → p < 16 → Lines (setScanned m p)
+unfolding setScanned
+scanned-lines m o p hp = put-players o _ (scanned-set (o .players-ok) p hp)
+
+scanned-frame : (m : Image) (p : ℕ) → frame (setScanned m p) ≡ frame m
+unfolding setScanned withPlayers
+scanned-frame m p = refl
+
+pub scan-does : (m : Image) → Lines m → Cover m → (t p : ℕ) → t < 8 → p < 16 → Stays m (scanPlayer m t p)
+unfolding scanPlayer
+scan-does m o cov t p ht hp =
+    let r = reachAll-does m o cov t ht (take 16 (drop (16 * p) (m .regs))) (each-take (NilOr (Start m)) (inl refl) 16 (drop (16 * p) (m .regs)) (λ i. rw (nth-drop (16 * p) (m .regs) i) (o .regs-ok .values (16 * p + i)))) in
+    record { lines = scanned-lines _ (r .lines) p hp; cover = scanned-cover _ p (r .cover); frame-same = scanned-frame _ p ∙ r .frame-same }
+
+-- ---- begin: nothing runs, so nothing is marked, held or entered
+
+pub zeros-nth : (l : List ℕ) (i : ℕ) → nth (zeros l) i ≡ 0
+unfolding zeros
+zeros-nth l i = nth-replicate (length l) i
+
+pub length-zeros : (l : List ℕ) → length (zeros l) ≡ length l
+unfolding zeros
+length-zeros l = length-replicate (length l) 0
+
+begin-cards : {m : Image} → Lines m → Idle (m .marks) (m .packets) (m .tracers) (m .players) → Lines (withCards m (zeros (m .cards)))
+unfolding withCards
+begin-cards {m} o z = record {
+  heap-ok = o .heap-ok;
+  regs-ok = o .regs-ok;
+  marks-ok = o .marks-ok;
+  packets-ok = o .packets-ok;
+  players-ok = o .players-ok;
+  general-ok = o .general-ok;
+  cards-ok = record { sized = length-zeros (m .cards) ∙ o .cards-ok .sized; states = λ c. rw (zeros-nth (m .cards) c) (omega arith) };
+  tracers-ok = record { sized = o .tracers-ok .sized; places = o .tracers-ok .places; hands = o .tracers-ok .hands; spare = o .tracers-ok .spare; handCards = record { pair = λ t h. none (z .no-tracers _) (z .no-tracers _) } };
+}
+
+-- the running word written
+pub running-ok : {gs : List ℕ} → GeneralOk gs → (v : ℕ) → v ≤ 1 → GeneralOk (put gs 0 v)
+running-ok {gs} o v h = record {
+  sized = simp length-put (o .sized);
+  runs = rw (nth-put-same gs 0 v (omega (arith, o .sized))) h;
+  rest = λ i. nth-put-other gs 0 (suc (suc i)) v (omega arith) ∙ o .rest i;
+}
+
+pub record Begun (m′ : Image) : Type 0 where
+  pub lines : Lines m′
+  pub cover : Cover m′
+  pub runs : nth (m′ .general) 0 ≡ 1
+
+pub begin-does : (m : Image) → Lines m → Idle (m .marks) (m .packets) (m .tracers) (m .players) → Begun (beginCycle m)
+unfolding beginCycle withCards withGeneral marked
+begin-does m o z = record {
+  lines = put-general (begin-cards o z) _ (running-ok (o .general-ok) 1 (omega arith)) (nth-put-other (m .general) 0 1 1 (omega arith));
+  cover = λ g i hg k l. false≢ (sym (no-bit (m .width) (m .marks) (z .no-marks) g) ∙ k);
+  runs = nth-put-same (m .general) 0 1 (omega (arith, o .general-ok .sized));
+}
