@@ -2,73 +2,82 @@
 ghost use mathlib.Core.Path.{_≡_};
 ghost use Prim.Native.Nat.{ℕ, _+_, _*_, _≤_, _<_};
 ghost use Rattle.model.specs.Base.{testBit, withBit};
-ghost use Rattle.model.specs.Image.{isStart, marked, setStart, setMark};
-ghost use Rattle.image.specs.Sized.{Sized, narrow};
-ghost use Rattle.image.specs.Bits.{withoutBit, clearStart};
+ghost use Rattle.model.specs.Image.{imageOf, isStart, marked, setStart, setMark};
+ghost use Rattle.image_laws.specs.Sized.{Sized};
+ghost use Rattle.image_laws.specs.Bits.{withoutBit, clearStart};
+ghost use Rattle.image.specs.Layout.{width};
+use crate::layout::BITS;
+use crate::layout::Word;
 
-pub fn has_bit(w: u16, j: u16) -> bool
-    requires { ⌜ j < 16 ⌝ }
+pub fn has_bit(w: Word, j: Word) -> bool
+    requires { ⌜ j < width ⌝ }
     ensures { λ r. ⌜ r ≡ testBit w j ⌝ }
 {
     (w >> j) & 1 == 1
 }
 
-pub fn with_bit(w: u16, j: u16) -> u16
-    requires { ⌜ j < 16 ⌝ }
+pub fn with_bit(w: Word, j: Word) -> Word
+    requires { ⌜ j < width ⌝ }
     ensures { λ r. ⌜ r ≡ withBit w j ⌝ }
 {
     w | (1 << j)
 }
 
-pub fn without_bit(w: u16, j: u16) -> u16
-    requires { ⌜ j < 16 ⌝ }
+pub fn without_bit(w: Word, j: Word) -> Word
+    requires { ⌜ j < width ⌝ }
     ensures { λ r. ⌜ r ≡ withoutBit w j ⌝ }
 {
     w & !(1 << j)
 }
 
-pub fn is_start(im: &[u16], k: usize, g: usize) -> bool
-    requires { ⌜ Sized k (now im) ⌝ }
+pub fn is_start(im: &[Word], k: usize, g: usize) -> bool
+    requires { ⌜ Sized width k (now im) ⌝ }
     requires { ⌜ g < 64 * k ⌝ }
-    ensures { λ r. ⌜ r ≡ isStart (narrow k (now (im .entry))) g ⌝ }
+    ensures { λ r. ⌜ r ≡ isStart (imageOf width k (now (im .entry))) g ⌝ }
 {
-    has_bit(crate::start_word(im, k, g / 16), (g % 16) as u16)
+    has_bit(
+        crate::sections::start_word(im, k, g / BITS),
+        (g % BITS) as Word,
+    )
 }
 
-pub fn is_marked(im: &[u16], k: usize, g: usize) -> bool
-    requires { ⌜ Sized k (now im) ⌝ }
+pub fn is_marked(im: &[Word], k: usize, g: usize) -> bool
+    requires { ⌜ Sized width k (now im) ⌝ }
     requires { ⌜ g < 64 * k ⌝ }
-    ensures { λ r. ⌜ r ≡ marked (narrow k (now (im .entry))) g ⌝ }
+    ensures { λ r. ⌜ r ≡ marked (imageOf width k (now (im .entry))) g ⌝ }
 {
-    has_bit(crate::mark_word(im, k, g / 16), (g % 16) as u16)
+    has_bit(
+        crate::sections::mark_word(im, k, g / BITS),
+        (g % BITS) as Word,
+    )
 }
 
-pub fn set_start(im: &mut [u16], k: usize, g: usize)
-    requires { ⌜ Sized k (now im) ⌝ }
+pub fn set_start(im: &mut [Word], k: usize, g: usize)
+    requires { ⌜ Sized width k (now im) ⌝ }
     requires { ⌜ g < 64 * k ⌝ }
-    ensures { λ _. ⌜ narrow k (now (im .exit)) ≡ setStart (narrow k (now (im .entry))) g ⌝ }
+    ensures { λ _. ⌜ imageOf width k (now (im .exit)) ≡ setStart (imageOf width k (now (im .entry))) g ⌝ }
 {
-    let starts = crate::start_word(im, k, g / 16);
-    let v = with_bit(starts, (g % 16) as u16);
-    crate::set_start_word(im, k, g / 16, v);
+    let starts = crate::sections::start_word(im, k, g / BITS);
+    let v = with_bit(starts, (g % BITS) as Word);
+    crate::sections::set_start_word(im, k, g / BITS, v);
 }
 
-pub fn clear_start(im: &mut [u16], k: usize, g: usize)
-    requires { ⌜ Sized k (now im) ⌝ }
+pub fn clear_start(im: &mut [Word], k: usize, g: usize)
+    requires { ⌜ Sized width k (now im) ⌝ }
     requires { ⌜ g < 64 * k ⌝ }
-    ensures { λ _. ⌜ narrow k (now (im .exit)) ≡ clearStart (narrow k (now (im .entry))) g ⌝ }
+    ensures { λ _. ⌜ imageOf width k (now (im .exit)) ≡ clearStart (imageOf width k (now (im .entry))) g ⌝ }
 {
-    let starts = crate::start_word(im, k, g / 16);
-    let v = without_bit(starts, (g % 16) as u16);
-    crate::set_start_word(im, k, g / 16, v);
+    let starts = crate::sections::start_word(im, k, g / BITS);
+    let v = without_bit(starts, (g % BITS) as Word);
+    crate::sections::set_start_word(im, k, g / BITS, v);
 }
 
-pub fn set_mark(im: &mut [u16], k: usize, g: usize)
-    requires { ⌜ Sized k (now im) ⌝ }
+pub fn set_mark(im: &mut [Word], k: usize, g: usize)
+    requires { ⌜ Sized width k (now im) ⌝ }
     requires { ⌜ g < 64 * k ⌝ }
-    ensures { λ _. ⌜ narrow k (now (im .exit)) ≡ setMark (narrow k (now (im .entry))) g ⌝ }
+    ensures { λ _. ⌜ imageOf width k (now (im .exit)) ≡ setMark (imageOf width k (now (im .entry))) g ⌝ }
 {
-    let marks = crate::mark_word(im, k, g / 16);
-    let v = with_bit(marks, (g % 16) as u16);
-    crate::set_mark_word(im, k, g / 16, v);
+    let marks = crate::sections::mark_word(im, k, g / BITS);
+    let v = with_bit(marks, (g % BITS) as Word);
+    crate::sections::set_mark_word(im, k, g / BITS, v);
 }

@@ -3,11 +3,19 @@ ghost use mathlib.Core.Path.{_≡_};
 ghost use Prim.Native.Nat.{ℕ, _+_, _*_, _≤_, _<_};
 ghost use lib.ListN.{length, replicate};
 ghost use Rattle.model.specs.Base.{zeros};
-ghost use Rattle.model.specs.Image.{withHeap, withMarks, withCards, withPackets, withTracers};
-ghost use Rattle.image.specs.Sized.{Sized, narrow};
-ghost use Rattle.image.specs.Clear.{zeroed};
+ghost use Rattle.model.specs.Image.{imageOf, withHeap, withMarks, withCards, withPackets, withTracers};
+ghost use Rattle.image_laws.specs.Sized.{Sized};
+ghost use Rattle.image_laws.specs.Clearing.{zeroed};
+ghost use Rattle.image.specs.Layout.{width};
+use crate::layout::CARDS;
+use crate::layout::MARKS;
+use crate::layout::PACKETS;
+use crate::layout::PER_CARD;
+use crate::layout::PLAYERS;
+use crate::layout::TRACERS;
+use crate::layout::Word;
 
-pub fn clear(s: &mut [u16])
+pub fn clear(s: &mut [Word])
     ensures { λ _. ⌜ now (s .exit) ≡ replicate (length (now (s .entry))) 0 ⌝ }
 {
     for i in 0..s.len() {
@@ -16,46 +24,46 @@ pub fn clear(s: &mut [u16])
 }
 
 // Heap words a to e - 1.
-pub fn clear_heap(im: &mut [u16], k: usize, a: usize, e: usize)
-    requires { ⌜ Sized k (now im) ⌝ }
+pub fn clear_heap(im: &mut [Word], k: usize, a: usize, e: usize)
+    requires { ⌜ Sized width k (now im) ⌝ }
     requires { ⌜ (a ≤ e) × (e ≤ 256 * k) ⌝ }
-    ensures { λ _. ⌜ narrow k (now (im .exit)) ≡ withHeap (narrow k (now (im .entry))) (zeroed a e (narrow k (now (im .entry)) .heap)) ⌝ }
+    ensures { λ _. ⌜ imageOf width k (now (im .exit)) ≡ withHeap (imageOf width k (now (im .entry))) (zeroed a e (imageOf width k (now (im .entry)) .heap)) ⌝ }
 {
     clear(&mut im[a..e]);
 }
 
-pub fn clear_marks(im: &mut [u16], k: usize)
-    requires { ⌜ Sized k (now im) ⌝ }
-    ensures { λ _. ⌜ narrow k (now (im .exit)) ≡ withMarks (narrow k (now (im .entry))) (zeros (narrow k (now (im .entry)) .marks)) ⌝ }
+pub fn clear_marks(im: &mut [Word], k: usize)
+    requires { ⌜ Sized width k (now im) ⌝ }
+    ensures { λ _. ⌜ imageOf width k (now (im .exit)) ≡ withMarks (imageOf width k (now (im .entry))) (zeros (imageOf width k (now (im .entry)) .marks)) ⌝ }
 {
-    let a = 260 * k;
-    let e = 264 * k;
+    let a = MARKS * k;
+    let e = CARDS * k;
     clear(&mut im[a..e]);
 }
 
-pub fn clear_cards(im: &mut [u16], k: usize)
-    requires { ⌜ Sized k (now im) ⌝ }
-    ensures { λ _. ⌜ narrow k (now (im .exit)) ≡ withCards (narrow k (now (im .entry))) (zeros (narrow k (now (im .entry)) .cards)) ⌝ }
+pub fn clear_cards(im: &mut [Word], k: usize)
+    requires { ⌜ Sized width k (now im) ⌝ }
+    ensures { λ _. ⌜ imageOf width k (now (im .exit)) ≡ withCards (imageOf width k (now (im .entry))) (zeros (imageOf width k (now (im .entry)) .cards)) ⌝ }
 {
-    let a = 264 * k;
-    let e = 265 * k;
+    let a = CARDS * k;
+    let e = PER_CARD * k;
     clear(&mut im[a..e]);
 }
 
-pub fn clear_packets(im: &mut [u16], k: usize)
-    requires { ⌜ Sized k (now im) ⌝ }
-    ensures { λ _. ⌜ narrow k (now (im .exit)) ≡ withPackets (narrow k (now (im .entry))) (zeros (narrow k (now (im .entry)) .packets)) ⌝ }
+pub fn clear_packets(im: &mut [Word], k: usize)
+    requires { ⌜ Sized width k (now im) ⌝ }
+    ensures { λ _. ⌜ imageOf width k (now (im .exit)) ≡ withPackets (imageOf width k (now (im .entry))) (zeros (imageOf width k (now (im .entry)) .packets)) ⌝ }
 {
-    let a = 265 * k + 256;
-    let e = 265 * k + 1280;
+    let a = PER_CARD * k + PACKETS;
+    let e = PER_CARD * k + TRACERS;
     clear(&mut im[a..e]);
 }
 
-pub fn clear_tracers(im: &mut [u16], k: usize)
-    requires { ⌜ Sized k (now im) ⌝ }
-    ensures { λ _. ⌜ narrow k (now (im .exit)) ≡ withTracers (narrow k (now (im .entry))) (zeros (narrow k (now (im .entry)) .tracers)) ⌝ }
+pub fn clear_tracers(im: &mut [Word], k: usize)
+    requires { ⌜ Sized width k (now im) ⌝ }
+    ensures { λ _. ⌜ imageOf width k (now (im .exit)) ≡ withTracers (imageOf width k (now (im .entry))) (zeros (imageOf width k (now (im .entry)) .tracers)) ⌝ }
 {
-    let a = 265 * k + 1280;
-    let e = 265 * k + 1344;
+    let a = PER_CARD * k + TRACERS;
+    let e = PER_CARD * k + PLAYERS;
     clear(&mut im[a..e]);
 }

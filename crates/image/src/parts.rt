@@ -3,12 +3,21 @@ ghost use mathlib.Core.Path.{_≡_};
 ghost use Prim.Native.Nat.{_+_, _*_, _-_, _≤_, _<_};
 ghost use lib.ListN.{take, drop};
 ghost use Rattle.model.specs.Base.{zeroes};
-ghost use Rattle.image.specs.Sized.{Sized, narrow};
+ghost use Rattle.model.specs.Image.{imageOf};
+ghost use Rattle.image_laws.specs.Sized.{Sized};
+ghost use Rattle.image.specs.Layout.{width};
+use crate::layout::CARDS;
+use crate::layout::MARKS;
+use crate::layout::PACKETS;
+use crate::layout::PER_CARD;
+use crate::layout::PLAYERS;
+use crate::layout::TRACERS;
+use crate::layout::Word;
 
-pub fn zeros(s: &[u16]) -> bool
+pub fn zeros(s: &[Word]) -> bool
     ensures { λ r. ⌜ r ≡ zeroes (now (s .entry)) ⌝ }
 {
-    let mut bad: u16 = 0;
+    let mut bad: Word = 0;
     let mut i = 0;
     while i < s.len() {
         bad |= s[i];
@@ -17,38 +26,38 @@ pub fn zeros(s: &[u16]) -> bool
     bad == 0
 }
 
-pub fn zero_marks(im: &[u16], k: usize) -> bool
-    requires { ⌜ Sized k (now im) ⌝ }
-    ensures { λ r. ⌜ r ≡ zeroes (narrow k (now (im .entry)) .marks) ⌝ }
+pub fn zero_marks(im: &[Word], k: usize) -> bool
+    requires { ⌜ Sized width k (now im) ⌝ }
+    ensures { λ r. ⌜ r ≡ zeroes (imageOf width k (now (im .entry)) .marks) ⌝ }
 {
-    let a = 260 * k;
-    let e = 264 * k;
+    let a = MARKS * k;
+    let e = CARDS * k;
     zeros(&im[a..e])
 }
 
-pub fn zero_packets(im: &[u16], k: usize) -> bool
-    requires { ⌜ Sized k (now im) ⌝ }
-    ensures { λ r. ⌜ r ≡ zeroes (narrow k (now (im .entry)) .packets) ⌝ }
+pub fn zero_packets(im: &[Word], k: usize) -> bool
+    requires { ⌜ Sized width k (now im) ⌝ }
+    ensures { λ r. ⌜ r ≡ zeroes (imageOf width k (now (im .entry)) .packets) ⌝ }
 {
-    let a = 265 * k + 256;
-    let e = 265 * k + 1280;
+    let a = PER_CARD * k + PACKETS;
+    let e = PER_CARD * k + TRACERS;
     zeros(&im[a..e])
 }
 
-pub fn zero_tracers(im: &[u16], k: usize) -> bool
-    requires { ⌜ Sized k (now im) ⌝ }
-    ensures { λ r. ⌜ r ≡ zeroes (narrow k (now (im .entry)) .tracers) ⌝ }
+pub fn zero_tracers(im: &[Word], k: usize) -> bool
+    requires { ⌜ Sized width k (now im) ⌝ }
+    ensures { λ r. ⌜ r ≡ zeroes (imageOf width k (now (im .entry)) .tracers) ⌝ }
 {
-    let a = 265 * k + 1280;
-    let e = 265 * k + 1344;
+    let a = PER_CARD * k + TRACERS;
+    let e = PER_CARD * k + PLAYERS;
     zeros(&im[a..e])
 }
 
 // the words of a run of s granules at g, behind its two
-pub fn run_zero(im: &[u16], k: usize, g: usize, s: usize) -> bool
-    requires { ⌜ Sized k (now im) ⌝ }
+pub fn run_zero(im: &[Word], k: usize, g: usize, s: usize) -> bool
+    requires { ⌜ Sized width k (now im) ⌝ }
     requires { ⌜ (1 ≤ s) × (g + s ≤ 64 * k) ⌝ }
-    ensures { λ r. ⌜ r ≡ zeroes (take (4 * s - 2) (drop (4 * g + 2) (narrow k (now (im .entry)) .heap))) ⌝ }
+    ensures { λ r. ⌜ r ≡ zeroes (take (4 * s - 2) (drop (4 * g + 2) (imageOf width k (now (im .entry)) .heap))) ⌝ }
 {
     let a = 4 * g + 2;
     let e = 4 * g + 4 * s;

@@ -1,24 +1,25 @@
 // The number of cards of a store, from the length of its slice.
 ghost use mathlib.Core.Path.{_≡_};
-ghost use Rattle.image.specs.Size.{sizeOf};
+ghost use Rattle.image_laws.specs.Size.{extentOf};
+ghost use Rattle.image.specs.Layout.{width};
+use crate::layout::BEHIND;
+use crate::layout::MOST_CARDS;
+use crate::layout::PER_CARD;
+use crate::layout::SHORTEST;
+use image_laws::Extent;
 
-pub enum Size {
-    Cards(usize),
-    Misfit,
-}
-
-pub fn cards(n: usize) -> Size
-    ensures { λ r. ⌜ r ≡ sizeOf n ⌝ }
+pub fn cards(n: usize) -> Extent
+    ensures { λ r. ⌜ r ≡ extentOf width n ⌝ }
 {
-    if n < 1649 {
-        return Size::Misfit;
+    if n < SHORTEST {
+        return Extent::Misfit;
     }
-    let k = (n - 1384) / 265;
-    if 512 < k {
-        return Size::Misfit;
+    let k = (n - BEHIND) / PER_CARD;
+    if MOST_CARDS < k {
+        return Extent::Misfit;
     }
-    if 265 * k + 1384 != n {
-        return Size::Misfit;
+    if PER_CARD * k + BEHIND != n {
+        return Extent::Misfit;
     }
-    Size::Cards(k)
+    Extent::Cards(k)
 }

@@ -29,11 +29,11 @@ unfoldable pub lengths : ℕ → ℕ → List ℕ
 lengths w k = 256 * k ∷ 64 * k / w ∷ 64 * k / w ∷ k ∷ 256 ∷ 1024 ∷ 64 ∷ 32 ∷ 8 ∷ []
 
 -- "Its length is 265 × k + 1384 words", with words of 16 bits
-unfoldable pub imageLength : ℕ → ℕ → ℕ
+abbrev pub imageLength : ℕ → ℕ → ℕ
 imageLength w k = 256 * k + 64 * k / w + 64 * k / w + k + 1384
 
 -- "A store has k cards, k from 1 to 512", with words of 16 bits; a wide store has words of 32 bits; there is no other
-unfoldable pub mostCards : ℕ → ℕ
+abbrev pub mostCards : ℕ → ℕ
 mostCards w = cond (eqb w 16) 512 (cond (eqb w 32) 65536 0)
 
 -- the number of cards whose image has n words, where there is one
@@ -54,6 +54,34 @@ split (n ∷ ns) ws = take n ws ∷ split ns (drop n ws)
 unfoldable pub join : List (List ℕ) → List ℕ
 join [] = []
 join (l ∷ ls) = l ++ join ls
+
+-- the places of the sections among them
+abbrev pub heapAt : ℕ
+heapAt = 0
+
+abbrev pub startsAt : ℕ
+startsAt = 1
+
+abbrev pub marksAt : ℕ
+marksAt = 2
+
+abbrev pub cardsAt : ℕ
+cardsAt = 3
+
+abbrev pub regsAt : ℕ
+regsAt = 4
+
+abbrev pub packetsAt : ℕ
+packetsAt = 5
+
+abbrev pub tracersAt : ℕ
+tracersAt = 6
+
+abbrev pub playersAt : ℕ
+playersAt = 7
+
+abbrev pub generalAt : ℕ
+generalAt = 8
 
 unfoldable pub sections : Image → List (List ℕ)
 sections m = m .heap ∷ m .starts ∷ m .marks ∷ m .cards ∷ m .regs ∷ m .packets ∷ m .tracers ∷ m .players ∷ m .general ∷ []

@@ -1,45 +1,18 @@
 use borrow.Author.Needs.{needs}
-use Rattle.image.proofs.Stretches.{zero-cards}
+use Prim.Native.Nat.{_*_}
+use Rattle.image.specs.Layout.{width, cardsFrom, perCard}
+use native.Mathlib.Omega.{arith}
+use Rattle.model.specs.Image.{cardsAt, imageOf, image, lengths, split, withCards}
+use Rattle.image_laws.proofs.Clearing.{zero-whole}
 use Rattle.image.proofs.clearing.clear_cards.Statement.{statement}
 use Rattle.image.proofs.clearing.clear_cards.Tie as tie
 
-mul-a : tie.Need-mul-a
-mul-a c = search needs
-
-mul-e : tie.Need-mul-e
-mul-e c = search needs
-
-mul-clear : tie.Need-mul-clear
-mul-clear c = search needs
-
-sub-clear : tie.Need-sub-clear
-sub-clear c = search needs
-
-part-clear-start : tie.Need-part-clear-start
-part-clear-start c = search needs
-
-part-clear-end : tie.Need-part-clear-end
-part-clear-end c = search needs
-
-clear-requires : tie.Need-clear-requires
-clear-requires c κs = search needs
-
-same-length : tie.Need-same-length
-same-length c = search needs
-
 returns : tie.Need-returns
-returns c = let A = c .before .before .before .before .before .args in zero-cards (A .k) (A .im .now) (c .before .before .clear .last .0) (search needs) (c .before .before .clear .ensures)
+unfolding imageOf image lengths split withCards
+returns c = let A = c .before .before .before .before .before .args in zero-whole width (A .k) (A .im .now) cardsAt (cardsFrom * A .k) (perCard * A .k) (omega arith) (omega arith) (omega arith) (c .before .before .clear .last .0) (c .before .before .clear .ensures)
 
 pub clear-cards-spec : {M : Type 1} → statement M
 clear-cards-spec =
     tie.close
-    (tie.spec
-    mul-a
-    mul-e
-    mul-clear
-    sub-clear
-    part-clear-start
-    part-clear-end
-    clear-requires
-    same-length
+    (tie.spec (λ c. search needs) (λ c. search needs) (λ c. search needs) (λ c. search needs) (λ c. search needs) (λ c. search needs) (λ c κs. search needs) (λ c. search needs)
     returns)

@@ -1,45 +1,18 @@
 use borrow.Author.Needs.{needs}
-use Rattle.image.proofs.Stretches.{zero-marks}
+use Prim.Native.Nat.{_*_}
+use Rattle.image.specs.Layout.{width, marksFrom, cardsFrom}
+use native.Mathlib.Omega.{arith}
+use Rattle.model.specs.Image.{marksAt, imageOf, image, lengths, split, withMarks}
+use Rattle.image_laws.proofs.Clearing.{zero-whole}
 use Rattle.image.proofs.clearing.clear_marks.Statement.{statement}
 use Rattle.image.proofs.clearing.clear_marks.Tie as tie
 
-mul-a : tie.Need-mul-a
-mul-a c = search needs
-
-mul-e : tie.Need-mul-e
-mul-e c = search needs
-
-mul-clear : tie.Need-mul-clear
-mul-clear c = search needs
-
-sub-clear : tie.Need-sub-clear
-sub-clear c = search needs
-
-part-clear-start : tie.Need-part-clear-start
-part-clear-start c = search needs
-
-part-clear-end : tie.Need-part-clear-end
-part-clear-end c = search needs
-
-clear-requires : tie.Need-clear-requires
-clear-requires c κs = search needs
-
-same-length : tie.Need-same-length
-same-length c = search needs
-
 returns : tie.Need-returns
-returns c = let A = c .before .before .before .before .before .args in zero-marks (A .k) (A .im .now) (c .before .before .clear .last .0) (search needs) (c .before .before .clear .ensures)
+unfolding imageOf image lengths split withMarks
+returns c = let A = c .before .before .before .before .before .args in zero-whole width (A .k) (A .im .now) marksAt (marksFrom * A .k) (cardsFrom * A .k) (omega arith) (omega arith) (omega arith) (c .before .before .clear .last .0) (c .before .before .clear .ensures)
 
 pub clear-marks-spec : {M : Type 1} → statement M
 clear-marks-spec =
     tie.close
-    (tie.spec
-    mul-a
-    mul-e
-    mul-clear
-    sub-clear
-    part-clear-start
-    part-clear-end
-    clear-requires
-    same-length
+    (tie.spec (λ c. search needs) (λ c. search needs) (λ c. search needs) (λ c. search needs) (λ c. search needs) (λ c. search needs) (λ c κs. search needs) (λ c. search needs)
     returns)

@@ -1,49 +1,18 @@
 use borrow.Author.Needs.{needs}
-use Rattle.image.proofs.Reading.{packets-zero}
+use Prim.Native.Nat.{_+_, _*_}
+use Rattle.image.specs.Layout.{width, perCard, packetsFrom, tracersFrom}
+use native.Mathlib.Omega.{arith}
+use Rattle.model.specs.Image.{packetsAt, imageOf, image, lengths, split}
+use Rattle.image_laws.proofs.Parts.{section-zero}
 use Rattle.image.proofs.parts.zero_packets.Statement.{statement}
 use Rattle.image.proofs.parts.zero_packets.Tie as tie
 
-mul-a : tie.Need-mul-a
-mul-a c = search needs
-
-add-a : tie.Need-add-a
-add-a c = search needs
-
-mul-e : tie.Need-mul-e
-mul-e c = search needs
-
-add-e : tie.Need-add-e
-add-e c = search needs
-
-mul-zeros : tie.Need-mul-zeros
-mul-zeros c = search needs
-
-sub-zeros : tie.Need-sub-zeros
-sub-zeros c = search needs
-
-part-zeros-start : tie.Need-part-zeros-start
-part-zeros-start c = search needs
-
-part-zeros-end : tie.Need-part-zeros-end
-part-zeros-end c = search needs
-
-zeros-requires : tie.Need-zeros-requires
-zeros-requires c κs = search needs
-
 returns : tie.Need-returns
-returns c = search packets-zero
+unfolding imageOf image lengths split
+returns c = let A = c .before .before .before .args in section-zero width (A .k) (A .im .now) _ packetsAt (perCard * A .k + packetsFrom) (perCard * A .k + tracersFrom) (omega arith) (omega arith) (omega arith) (c .zeros .ensures)
 
 pub zero-packets-spec : {M : Type 1} → statement M
 zero-packets-spec =
     tie.close
-    (tie.spec
-    mul-a
-    add-a
-    mul-e
-    add-e
-    mul-zeros
-    sub-zeros
-    part-zeros-start
-    part-zeros-end
-    zeros-requires
+    (tie.spec (λ c. search needs) (λ c. search needs) (λ c. search needs) (λ c. search needs) (λ c. search needs) (λ c. search needs) (λ c. search needs) (λ c. search needs) (λ c κs. search needs)
     returns)

@@ -1,5 +1,5 @@
-use Rattle.image.specs.Reading.{isZero}
-use Rattle.image.proofs.Reading.{Gathered, g-none, g-more, g-end, zeroes-all}
+use Rattle.image_laws.specs.Parts.{isZero}
+use Rattle.image_laws.proofs.Parts.{Gathered, g-none, g-more, g-end, zeroes-all}
 use Rattle.model.specs.Base.{nth}
 use Prim.Native.Nat.{_-_}
 use mathlib.Core.Path.{refl, _∙_}

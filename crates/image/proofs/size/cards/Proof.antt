@@ -1,28 +1,22 @@
 use borrow.Author.Needs.{needs}
-use Rattle.image.proofs.Sizes.{cards-few, cards-many, cards-odd, cards-fit}
+use Rattle.image.specs.Layout.{width, most, perCard}
+use mathlib.Core.Path.{refl}
+use native.Mathlib.Omega.{arith}
+use Rattle.image_laws.proofs.Size.{cards-few, cards-many, cards-odd, cards-fit}
 use Rattle.image.proofs.size.cards.Statement.{statement}
 use Rattle.image.proofs.size.cards.Tie as tie
 
 returns : tie.Need-returns
-returns c = search cards-few
-
-sub-k : tie.Need-sub-k
-sub-k c = search needs
+returns c = cards-few width perCard most _ (λ k. omega arith) refl (omega arith) (omega arith)
 
 returns-2 : tie.Need-returns-2
-returns-2 c = search cards-many
-
-mul-if3 : tie.Need-mul-if3
-mul-if3 c = search needs
-
-add-if3 : tie.Need-add-if3
-add-if3 c = search needs
+returns-2 c = cards-many width perCard most _ (λ k. omega arith) refl (omega arith) (omega arith)
 
 returns-3 : tie.Need-returns-3
-returns-3 c = search cards-odd
+returns-3 c = cards-odd width perCard most _ (λ k. omega arith) refl (omega arith) (omega arith) (omega arith) (search needs)
 
 returns-4 : tie.Need-returns-4
-returns-4 c = search cards-fit
+returns-4 c = cards-fit width perCard most _ (λ k. omega arith) refl (omega arith) (omega arith) (omega arith) (search needs)
 
 pub cards-spec : {M : Type 1} → statement M
-cards-spec = tie.close (tie.spec returns sub-k returns-2 mul-if3 add-if3 returns-3 returns-4)
+cards-spec = tie.close (tie.spec returns (λ c. search needs) returns-2 (λ c. search needs) (λ c. search needs) returns-3 returns-4)

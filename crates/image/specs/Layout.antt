@@ -1,0 +1,32 @@
+-- The numbers of this store, as src/layout.rt has them.
+use Prim.Native.Nat.{ℕ}
+
+-- bits in a word
+abbrev pub width : ℕ
+width = 16
+
+abbrev pub most : ℕ
+most = 512
+
+-- words a card before the mark bits, before the card states, and in all
+abbrev pub marksFrom : ℕ
+marksFrom = 260
+
+abbrev pub cardsFrom : ℕ
+cardsFrom = 264
+
+abbrev pub perCard : ℕ
+perCard = 265
+
+-- words behind these before the packets, before the tracers, before the players, and in all
+abbrev pub packetsFrom : ℕ
+packetsFrom = 256
+
+abbrev pub tracersFrom : ℕ
+tracersFrom = 1280
+
+abbrev pub playersFrom : ℕ
+playersFrom = 1344
+
+abbrev pub behind : ℕ
+behind = 1384

@@ -1,0 +1,36 @@
+// Cards: whether one is dirty, and one that turns dirty.
+ghost use mathlib.Core.Path.{_≡_};
+ghost use Prim.Native.Nat.{_<_};
+ghost use Rattle.model.specs.Image.{imageOf, dirty, dirtyState, dirtyCard};
+ghost use Rattle.image_laws.specs.Sized.{Sized};
+ghost use Rattle.image.specs.Layout.{width};
+use crate::layout::Word;
+
+pub fn is_dirty(im: &[Word], k: usize, c: usize) -> bool
+    requires { ⌜ Sized width k (now im) ⌝ }
+    requires { ⌜ c < k ⌝ }
+    ensures { λ r. ⌜ r ≡ dirty (imageOf width k (now (im .entry))) c ⌝ }
+{
+    let x = crate::sections::card(im, k, c);
+    (x == 1) | (x == 3)
+}
+
+// "0 to 1, 2 to 3; 1 and 3 stay"
+fn dirtied(x: Word) -> Word
+    ensures { λ r. ⌜ r ≡ dirtyState x ⌝ }
+{
+    match x {
+        0 => 1,
+        1 => 1,
+        _ => 3,
+    }
+}
+
+pub fn dirty_card(im: &mut [Word], k: usize, c: usize)
+    requires { ⌜ Sized width k (now im) ⌝ }
+    requires { ⌜ c < k ⌝ }
+    ensures { λ _. ⌜ imageOf width k (now (im .exit)) ≡ dirtyCard (imageOf width k (now (im .entry))) c ⌝ }
+{
+    let x = dirtied(crate::sections::card(im, k, c));
+    crate::sections::set_card(im, k, c, x);
+}

@@ -1,0 +1,28 @@
+// The word of this store, the most cards that it has, and where its sections begin: so many words a card, and so many behind those.
+pub type Word = u16;
+
+pub const BITS: usize = 16;
+
+pub const MOST_CARDS: usize = 512;
+
+pub const STARTS: usize = 256;
+
+pub const MARKS: usize = 260;
+
+pub const CARDS: usize = 264;
+
+pub const PER_CARD: usize = 265;
+
+pub const PACKETS: usize = 256;
+
+pub const TRACERS: usize = 1280;
+
+pub const PLAYERS: usize = 1344;
+
+pub const GENERAL: usize = 1376;
+
+pub const FIRST_RUN: usize = 1377;
+
+pub const BEHIND: usize = 1384;
+
+pub const SHORTEST: usize = 1649;

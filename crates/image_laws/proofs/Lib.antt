@@ -1,0 +1,11 @@
+pub mod Split
+pub mod Sections
+pub mod Clearing
+pub mod Size
+pub mod Masks
+pub mod Trailing
+pub mod Bits
+pub mod Fresh
+pub mod Parts
+pub mod Places
+pub mod Cards

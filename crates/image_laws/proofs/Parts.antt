@@ -1,0 +1,92 @@
+-- Parts of the slice read as a whole: words that are 0, gathered by a loop.
+use Rattle.image_laws.specs.Parts.{isZero}
+use Rattle.image_laws.proofs.Split.{place, split-part}
+use Rattle.model.specs.Base.{nth, all, zeroes}
+use Rattle.model.specs.Image.{lengths, split, image, imageOf}
+use Prim.Native.Nat.{ℕ, zero, suc, _+_, _*_, _-_, _≤_, _<_}
+use mathlib.Core.Path.{_≡_, refl, sym, ap, _∙_}
+use mathlib.Core.Bool.{Bool, true, _&&_, and-true, and-assoc}
+use mathlib.Core.List.{List, [], _∷_}
+use native.Mathlib.Omega.{arith}
+use lib.Dec.{eqb}
+use lib.ListN.{length, getD, take, drop}
+use lib.Seq.{drop-drop}
+use borrow.Author.Tests.{eq-eqb, ne-eqb}
+use lib.Bits.{bitOr, and-le-l, and-le-r, or-add-and}
+use native.Mathlib.Numerals.{add-one}
+use native.Mathlib.Decide.{ℕ-discrete}
+
+-- ---- all of the numbers below n
+
+pub all-none : (p : ℕ → Bool) → true ≡ all 0 p
+unfolding all
+all-none p = refl
+
+pub all-first : (n : ℕ) (p : ℕ → Bool) → all (suc n) p ≡ (p 0 && all n (λ i. p (suc i)))
+unfolding all
+all-first zero p = sym (and-true (p 0))
+all-first (suc n) p = rw (all-first n p) (and-assoc (p 0) _ _)
+
+-- ---- `bad` is 0 as long as all below i passed
+
+pub record Gathered (n : ℕ) (p : ℕ → Bool) (bad i : ℕ) : Type 0 where
+  pub within : i ≤ n
+  pub so-far : eqb bad 0 ≡ all i p
+
+pub g-none : {n : ℕ} {p : ℕ → Bool} → Gathered n p 0 0
+unfolding all
+g-none = record { within = omega arith; so-far = eq-eqb 0 0 refl }
+
+or-zero : (a b : ℕ) → eqb (bitOr a b) 0 ≡ (eqb a 0 && eqb b 0)
+or-zero a b = go (ℕ-discrete a 0) (ℕ-discrete b 0)
+  where
+    go : Dec (a ≡ 0) → Dec (b ≡ 0) → eqb (bitOr a b) 0 ≡ (eqb a 0 && eqb b 0)
+    go (yes p) (yes q) =
+        let e : bitOr a b ≡ 0 = omega (arith, or-add-and a b) in
+        rw (eq-eqb (bitOr a b) 0 e, eq-eqb a 0 p, eq-eqb b 0 q)
+    go (no p) d =
+        let n : bitOr a b ≡ 0 → ⊥ = λ e. p (omega (arith, or-add-and a b, and-le-r a b)) in
+        rw (ne-eqb (bitOr a b) 0 n, ne-eqb a 0 p)
+    go (yes p) (no q) =
+        let n : bitOr a b ≡ 0 → ⊥ = λ e. q (omega (arith, or-add-and a b, and-le-l a b)) in
+        rw (ne-eqb (bitOr a b) 0 n, eq-eqb a 0 p, ne-eqb b 0 q)
+
+pub g-more : (n : ℕ) (p : ℕ → Bool) (bad i x : ℕ) → Gathered n p bad i → i < n → eqb x 0 ≡ p i → Gathered n p (bitOr bad x) (i + 1)
+unfolding all
+g-more n p bad i x s h e = rw add-one (record { within = omega arith; so-far = rw (or-zero bad x, s .so-far, e) })
+
+pub g-end : {n : ℕ} {p : ℕ → Bool} {bad i : ℕ} → Gathered n p bad i → n ≤ i → eqb bad 0 ≡ all n p
+g-end {n} {p} {bad} {i} s h = let e : i ≡ n = omega (arith, s .within) in rw e at (s .so-far)
+
+-- ---- words that are 0
+
+pub zeroes-all : (l : List ℕ) → all (length l) (isZero l) ≡ zeroes l
+unfolding zeroes isZero nth
+zeroes-all [] = sym (all-none _)
+zeroes-all (x ∷ l) = all-first (length l) (isZero (x ∷ l)) ∙ ap (λ b. eqb x 0 && b) (zeroes-all l)
+
+-- ---- sections, and parts of them, by their stretch of the slice
+
+split-is : (ns ws : List ℕ) (s : ℕ) → s < length ns → getD (split ns ws) s [] ≡ take (getD ns s 0) (drop (place ns s) ws)
+unfolding split
+split-is [] ws s h = absurd (omega arith)
+split-is (n ∷ ns) ws zero h = refl
+split-is (n ∷ ns) ws (suc s) h = split-is ns (drop n ws) s (omega arith) ∙ rw (drop-drop (place ns s) n ws)
+
+sections-nine : (w k s : ℕ) → s < 9 → s < length (lengths w k)
+unfolding lengths
+sections-nine w k s l = l
+
+-- words o to e - 1 are section s
+pub section-zero : (w k : ℕ) (ws : List ℕ) (r : Bool) (s o e : ℕ) → s < 9 → place (lengths w k) s ≡ o → o + getD (lengths w k) s 0 ≡ e → r ≡ zeroes (take (e - o) (drop o ws)) → r ≡ zeroes (getD (split (lengths w k) ws) s [])
+section-zero w k ws r s o e l p q h =
+    let n : e - o ≡ getD (lengths w k) s 0 = omega arith in
+    rw (split-is (lengths w k) ws s (sections-nine w k s l), p) (rw n at h)
+
+-- the words of a run of s granules at g, behind its two
+pub run-zero : (w k : ℕ) (ws : List ℕ) (g s : ℕ) (r : Bool) → 1 ≤ s → g + s ≤ 64 * k → r ≡ zeroes (take (4 * g + 4 * s - (4 * g + 2)) (drop (4 * g + 2) ws)) → r ≡ zeroes (take (4 * s - 2) (drop (4 * g + 2) (imageOf w k ws .heap)))
+unfolding imageOf image lengths split
+run-zero w k ws g s r h f e =
+    let n : 4 * g + 4 * s - (4 * g + 2) ≡ 4 * s - 2 = omega arith in
+    let p : place (lengths w k) 0 + (4 * g + 2) ≡ 4 * g + 2 = omega arith in
+    (rw n at e) ∙ ap zeroes (sym (rw p at (split-part (lengths w k) ws 0 (4 * g + 2) (4 * s - 2) (omega arith))))

@@ -1,0 +1,101 @@
+-- The number of cards from the number of words, and what it says of a slice.
+use mathlib.Core.Path.{_≡_, refl, sym, ap, _∙_}
+use mathlib.Core.Bool.{Bool, true, false}
+use mathlib.Core.List.{List, [], _∷_}
+use Prim.Native.Nat.{ℕ, _+_, _*_, _-_, _/_, _<_, _≤_}
+use native.Mathlib.Omega.{arith}
+use borrow.Author.Tests.{le-leb, lt-leb, eq-eqb, ne-eqb, leb-true, eqb-true}
+use lib.Dec.{leb, eqb}
+use lib.ListN.{length}
+use Rattle.model.specs.Base.{every}
+use Rattle.model.specs.Image.{imageLength, mostCards, cardsOf, fits, imageOf, parts}
+use Rattle.model.proofs.Laws.{every-use}
+use Rattle.model.proofs.Words.{width-cases, cards-length}
+use native.Mathlib.Nat.{div-eq-of-lt, le-div-iff-mul-le}
+use Rattle.image_laws.specs.declared.Extent.{Extent}
+use Rattle.image_laws.specs.declared.Extent.the-variants.{Cards, Misfit}
+use Rattle.image_laws.specs.Size.{extentBy, extentOf}
+use Rattle.image_laws.specs.Sized.{Sized}
+
+-- ---- the ways out of `cards`, where a card has u words and a store at most `most` cards
+
+module _ (w u most n : ℕ) (per : (k : ℕ) → imageLength w k ≡ u * k + 1384) (lim : mostCards w ≡ most) (pos : 1 ≤ u) where
+  quotient : cardsOf w n ≡ (n - 1384) / u
+  unfolding cardsOf
+  quotient =
+      let e : imageLength w 1 - 1384 ≡ u = omega (arith, per 1) in
+      rw e
+
+  fits-by : fits w n ≡ every (leb 1 ((n - 1384) / u) ∷ leb ((n - 1384) / u) most ∷ eqb n (u * ((n - 1384) / u) + 1384) ∷ [])
+  unfolding fits
+  fits-by = rw (quotient, lim, per)
+
+  size-by : (b : Bool) → every (leb 1 ((n - 1384) / u) ∷ leb ((n - 1384) / u) most ∷ eqb n (u * ((n - 1384) / u) + 1384) ∷ []) ≡ b → extentBy b ((n - 1384) / u) ≡ extentOf w n
+  unfolding extentOf
+  size-by b e = rw (fits-by, e, quotient)
+
+  some-cards : u + 1384 ≤ n → 1 ≤ (n - 1384) / u
+  some-cards h = le-div-iff-mul-le pos .1 (omega arith)
+
+  pub cards-few : n < u + 1384 → Misfit ≡ extentOf w n
+  unfolding extentBy every
+  cards-few h =
+      let z : (n - 1384) / u ≡ 0 = div-eq-of-lt (omega arith) in
+      size-by false (rw (lt-leb 1 ((n - 1384) / u) (omega arith)))
+
+  pub cards-many : most < (n - 1384) / u → Misfit ≡ extentOf w n
+  unfolding extentBy every
+  cards-many h = size-by false (rw (le-leb 1 ((n - 1384) / u) (omega arith), lt-leb ((n - 1384) / u) most h))
+
+  pub cards-odd : u + 1384 ≤ n → (n - 1384) / u ≤ most → (u * ((n - 1384) / u) + 1384 ≡ n → ⊥) → Misfit ≡ extentOf w n
+  unfolding extentBy every
+  cards-odd h l q =
+      let k : ℕ = (n - 1384) / u in
+      size-by false (rw (le-leb 1 k (some-cards h), le-leb k most l, ne-eqb n (u * k + 1384) (λ e. q (sym e))))
+
+  pub cards-fit : u + 1384 ≤ n → (n - 1384) / u ≤ most → u * ((n - 1384) / u) + 1384 ≡ n → Cards ((n - 1384) / u) ≡ extentOf w n
+  unfolding extentBy every
+  cards-fit h l q =
+      let k : ℕ = (n - 1384) / u in
+      size-by true (rw (le-leb 1 k (some-cards h), le-leb k most l, eq-eqb n (u * k + 1384) (sym q)))
+
+-- ---- what the answer says
+
+size-cards : (b : Bool) (k j : ℕ) → extentBy b k ≡ Cards j → (b ≡ true) × (k ≡ j)
+unfolding extentBy
+size-cards true k j e = (refl, cc)
+size-cards false k j e = let z : _≡_ {A = ℕ} 0 1 = cc in absurd (omega arith)
+
+size-misfit : (b : Bool) (k : ℕ) → extentBy b k ≡ Misfit → b ≡ false
+unfolding extentBy
+size-misfit true k e = let z : _≡_ {A = ℕ} 0 1 = cc in absurd (omega arith)
+size-misfit false k e = refl
+
+pub fits-sized : (w : ℕ) (ws : List ℕ) → fits w (length ws) ≡ true → Sized w (cardsOf w (length ws)) ws
+unfolding fits
+fits-sized w ws e =
+    let n : ℕ = length ws in
+    let k : ℕ = cardsOf w n in
+    let l = leb 1 k ∷ leb k (mostCards w) ∷ eqb n (imageLength w k) ∷ [] in
+    record { low = leb-true 1 k (every-use l e 0); high = leb-true k (mostCards w) (every-use l e 1); long = eqb-true n (imageLength w k) (every-use l e 2) }
+
+pub sized-cards : (w k : ℕ) (ws : List ℕ) → Sized w k ws → cardsOf w (length ws) ≡ k
+sized-cards w k ws z = rw (z .long) (cards-length w k (width-cases w k (z .low) (z .high)))
+
+module _ (w : ℕ) (ws : List ℕ) (s : Extent) (e : s ≡ extentOf w (length ws)) where
+  pub misfit-fits : s ≡ Misfit → fits w (length ws) ≡ false
+  unfolding extentOf
+  misfit-fits q = size-misfit _ _ (sym e ∙ q)
+
+  module _ (k : ℕ) (q : s ≡ Cards k) where
+    pub cards-fits : fits w (length ws) ≡ true
+    unfolding extentOf
+    cards-fits = size-cards _ _ k (sym e ∙ q) .0
+
+    pub cards-sized : Sized w k ws
+    unfolding extentOf
+    cards-sized = let c = size-cards _ _ k (sym e ∙ q) in rw (c .1) at (fits-sized w ws (c .0))
+
+    pub cards-parts : parts w ws ≡ imageOf w k ws
+    unfolding parts
+    cards-parts = ap (λ j. imageOf w j ws) (sized-cards w k ws cards-sized)

@@ -1,0 +1,6 @@
+pub mod Sized
+pub mod Size
+pub mod Bits
+pub mod Clearing
+pub mod Fresh
+pub mod Parts

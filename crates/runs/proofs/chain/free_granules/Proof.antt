@@ -1,0 +1,67 @@
+use Rattle.image.specs.Layout.{width}
+use Rattle.runs_laws.proofs.Chain.{over, Counting, count-first, count-end, count-in, count-next, count-less}
+use Rattle.image_laws.proofs.Sections.{granules-image}
+use Rattle.model.specs.Image.{granules, imageOf}
+use native.Mathlib.Omega.{arith}
+use borrow.Author.Needs.{needs}
+use Rattle.runs.proofs.chain.free_granules.Statement.{statement}
+use Rattle.runs.proofs.chain.free_granules.Tie as tie
+
+abbrev Inv-loop : tie.InvT-loop
+Inv-loop im k total₀ g₀ total g = Counting (imageOf width k im) total g
+
+abbrev μ-loop : tie.MeasureT-loop
+μ-loop im k total₀ g₀ total g = over (granules (imageOf width k im)) g
+
+first-run-requires : tie.Need-first-run-requires Inv-loop μ-loop
+first-run-requires c κs = search needs
+
+cast-g : tie.Need-cast-g Inv-loop μ-loop
+cast-g c = search needs
+
+loop-holds : tie.Need-loop-holds Inv-loop μ-loop
+loop-holds c = search count-first
+
+word-requires : tie.Need-word-requires Inv-loop μ-loop
+word-requires c κs =
+    let A = c .before .before .before .before .args in
+    (search needs, omega (arith, count-in _ _ _ (c .before .loop .inv) (c .loop-test .taken), granules-image width (A .k) (A .im .now)))
+
+cast-total : tie.Need-cast-total Inv-loop μ-loop
+cast-total c = search needs
+
+add-total : tie.Need-add-total Inv-loop μ-loop
+add-total c =
+    let A = c .before .before .before .before .before .args in
+    omega (arith, c .before .before .loop .inv .small, granules-image width (A .k) (A .im .now))
+
+next-run-requires : tie.Need-next-run-requires Inv-loop μ-loop
+next-run-requires c κs =
+    let A = c .before .before .before .before .before .args in
+    (search needs, omega (arith, count-in _ _ _ (c .before .before .loop .inv) (c .before .loop-test .taken), granules-image width (A .k) (A .im .now)))
+
+loop-less : tie.Need-loop-less Inv-loop μ-loop
+loop-less c = rw (c .next-run .ensures) (count-less _ _ _ (c .before .before .before .loop .inv) (c .before .before .loop-test .taken))
+
+loop-again : tie.Need-loop-again Inv-loop μ-loop
+loop-again c = rw (c .next-run .ensures) (count-next _ _ _ (c .before .before .before .loop .inv) (c .before .before .loop-test .taken) _ (c .before .word .ensures) (omega arith))
+
+returns : tie.Need-returns Inv-loop μ-loop
+returns c = count-end _ _ _ (c .before .loop .inv) (c .loop-test .left)
+
+pub free-granules-spec : {M : Type 1} → statement M
+free-granules-spec =
+    tie.close
+    (tie.spec
+    Inv-loop
+    μ-loop
+    first-run-requires
+    cast-g
+    loop-holds
+    word-requires
+    cast-total
+    add-total
+    next-run-requires
+    loop-less
+    loop-again
+    returns)

@@ -1,0 +1,2 @@
+// The free runs.
+pub mod chain; // chain.rt: the walks along the chain of runs

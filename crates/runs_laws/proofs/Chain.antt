@@ -1,0 +1,159 @@
+-- The walks along the free runs, for the lowest that suffices and for their granules: where they stand, and each of their turns.
+use mathlib.Core.Path.{_≡_, refl, sym, ap, _∙_}
+use mathlib.Core.Logic.{_⊎_, inl, inr, ⊎-elim}
+use mathlib.Core.Bool.{Bool, true, false, cond}
+use Prim.Native.Nat.{ℕ, zero, suc, _+_, _-_, _≤_, _<_, _*_}
+use native.Mathlib.Omega.{arith}
+use lib.Dec.{eqb}
+use borrow.Author.Tests.{le-leb, lt-leb, eq-eqb, ne-eqb}
+use Rattle.model.specs.Image.{Image, granules, word, firstRun}
+use Rattle.model.specs.Mutate.{fit, roomFor, Room, freeFrom, freeGranules}
+use Rattle.runs_laws.specs.Chain.{Linked, linked-end, linked-run}
+use Rattle.model.specs.Steps.{run}
+use native.Mathlib.Nat.{zero-add}
+use Rattle.model.specs.Mutate
+
+-- ---- a place on the chain, with as many runs left to ask as there may be
+
+linked-in : (m : Image) (g : ℕ) → Linked m g → (g ≡ 0 → ⊥) → (g < granules m) × ((word m g 1 ≡ 0) ⊎ (g < word m g 1)) × Linked m (word m g 1)
+linked-in m g linked-end h = absurd (h refl)
+linked-in m g (linked-run a l n r) h = (l, n, r)
+
+pub record OnChain (m : Image) (left g : ℕ) : Type 0 where
+  pub enough : (g ≡ 0) ⊎ (granules m ≤ left + g)
+  pub linked : Linked m g
+
+-- what falls with each turn
+abbrev pub over : ℕ → ℕ → ℕ
+over n g = cond (eqb g 0) 0 (n - g)
+
+on-first : (m : Image) (g : ℕ) → g ≡ firstRun m → Linked m (firstRun m) → OnChain m (granules m) g
+on-first m g e l = record { enough = inr (omega arith); linked = rw e l }
+
+module _ (m : Image) (left g : ℕ) (o : OnChain m left g) (h : g ≡ 0 → ⊥) where
+  on-in : g < granules m
+  on-in = linked-in m g (o .linked) h .0
+
+  on-left : granules m ≤ left + g
+  on-left = ⊎-elim (λ e. absurd (h e)) (λ l. l) (o .enough)
+
+  on-some : 0 < left
+  on-some = omega (arith, on-in, on-left)
+
+  on-next : OnChain m (left - 1) (word m g 1)
+  on-next =
+      let r = linked-in m g (o .linked) h in
+      record { enough = ⊎-elim (λ z. inl z) (λ (z : g < word m g 1). inr (omega (arith, on-in, on-left))) (r .1); linked = r .2 }
+
+  on-less : over (granules m) (word m g 1) < over (granules m) g
+  on-less =
+      let r = linked-in m g (o .linked) h in
+      let i : g < granules m = on-in in
+      rw (ne-eqb g 0 h) (⊎-elim (λ z. rw (eq-eqb (word m g 1) 0 z) (omega arith)) (λ (z : g < word m g 1). go (eqb (word m g 1) 0) i z) (r .1))
+    where
+      go : (t : Bool) → g < granules m → g < word m g 1 → cond t 0 (granules m - word m g 1) < granules m - g
+      go true i z = omega arith
+      go false i z = omega arith
+
+-- ---- the walk for the lowest run that suffices
+
+module _ (m : Image) (b : ℕ) where
+  fit-end : (n before : ℕ) → fit m b n before 0 ≡ record { run = 0; before = before }
+  unfolding fit
+  fit-end zero before = refl
+  fit-end (suc n) before = refl
+
+  fit-here : (n before g : ℕ) → 0 < n → 0 < g → b ≤ word m g 0 → fit m b n before g ≡ record { run = g; before = before }
+  unfolding fit
+  fit-here zero before g h i l = absurd (omega arith)
+  fit-here (suc n) before zero h i l = absurd (omega arith)
+  fit-here (suc n) before (suc g) h i l = rw (le-leb b (word m (suc g) 0) l, fit)
+
+  fit-next : (n before g : ℕ) → 0 < g → word m g 0 < b → fit m b (suc n) before g ≡ fit m b n g (word m g 1)
+  unfolding fit
+  fit-next n before zero i l = absurd (omega arith)
+  fit-next n before (suc g) i l = rw (lt-leb b (word m (suc g) 0) l, fit)
+
+pub record Walk (m : Image) (b before g : ℕ) : Type 0 where
+  pub left : ℕ
+  pub on : OnChain m left g
+  pub same : fit m b left before g ≡ roomFor m b
+
+pub walk-first : (m : Image) (b g : ℕ) → g ≡ firstRun m → Linked m (firstRun m) → Walk m b 0 g
+unfolding roomFor
+walk-first m b g e l = record { left = granules m; on = on-first m g e l; same = rw e }
+
+module _ (m : Image) (b before g : ℕ) (w : Walk m b before g) where
+  pub walk-end : g ≡ 0 → _≡_ {A = Mutate.Room} (record { run = 0; before = before }) (roomFor m b)
+  walk-end e = sym (fit-end m b (w .left) before) ∙ (ap (fit m b (w .left) before) (sym e) ∙ w .same)
+
+  module _ (h : g ≡ 0 → ⊥) where
+    pub walk-in : g < granules m
+    walk-in = on-in m (w .left) g (w .on) h
+
+    pub walk-here : b ≤ word m g 0 → _≡_ {A = Mutate.Room} (record { run = g; before = before }) (roomFor m b)
+    walk-here l = sym (fit-here m b (w .left) before g (on-some m (w .left) g (w .on) h) (omega arith) l) ∙ w .same
+
+    pub walk-next : word m g 0 < b → Walk m b g (word m g 1)
+    walk-next l =
+        let e : suc (w .left - 1) ≡ w .left = omega (arith, on-some m (w .left) g (w .on) h) in
+        record {
+          left = w .left - 1;
+          on = on-next m (w .left) g (w .on) h;
+          same = sym (fit-next m b (w .left - 1) before g (omega arith) l) ∙ (rw e (w .same));
+        }
+
+    pub walk-less : over (granules m) (word m g 1) < over (granules m) g
+    walk-less = on-less m (w .left) g (w .on) h
+
+-- ---- the walk that counts granules
+
+free-end : (m : Image) (n : ℕ) → freeFrom m n 0 ≡ 0
+unfolding freeFrom
+free-end m zero = refl
+free-end m (suc n) = refl
+
+free-next : (m : Image) (n g : ℕ) → 0 < n → 0 < g → freeFrom m n g ≡ word m g 0 + freeFrom m (n - 1) (word m g 1)
+unfolding freeFrom
+free-next m zero g h i = absurd (omega arith)
+free-next m (suc n) zero h i = absurd (omega arith)
+free-next m (suc n) (suc g) h i =
+    let e : suc n - 1 ≡ n = omega arith in
+    rw e
+
+-- total granules are counted before run g, each run's fewer than the widest word can say
+pub record Counting (m : Image) (total g : ℕ) : Type 0 where
+  pub left : ℕ
+  pub on : OnChain m left g
+  pub same : total + freeFrom m left g ≡ freeGranules m
+  pub small : total ≤ 4294967295 * granules m
+  pub fewer : (g ≡ 0) ⊎ (total ≤ 4294967295 * g)
+
+pub count-first : (m : Image) (g : ℕ) → g ≡ firstRun m → Linked m (firstRun m) → Counting m 0 g
+unfolding freeGranules
+count-first m g e l = record { left = granules m; on = on-first m g e l; same = rw e (zero-add (freeFrom m (granules m) (firstRun m))); small = omega arith; fewer = inr (omega arith) }
+
+module _ (m : Image) (total g : ℕ) (w : Counting m total g) where
+  pub count-end : g ≡ 0 → total ≡ freeGranules m
+  count-end e = omega (arith, w .same, ap (freeFrom m (w .left)) e, free-end m (w .left))
+
+  module _ (h : g ≡ 0 → ⊥) where
+    pub count-in : g < granules m
+    count-in = on-in m (w .left) g (w .on) h
+
+    so-far : total ≤ 4294967295 * g
+    so-far = ⊎-elim (λ e. absurd (h e)) (λ l. l) (w .fewer)
+
+    pub count-next : (n : ℕ) → n ≡ word m g 0 → n ≤ 4294967295 → Counting m (total + n) (word m g 1)
+    count-next n en l =
+        let r = linked-in m g (w .on .linked) h in
+        record {
+          left = w .left - 1;
+          on = on-next m (w .left) g (w .on) h;
+          same = omega (arith, w .same, en, free-next m (w .left) g (on-some m (w .left) g (w .on) h) (omega arith));
+          small = omega (arith, so-far, count-in);
+          fewer = ⊎-elim (λ z. inl z) (λ (z : g < word m g 1). inr (omega (arith, so-far))) (r .1);
+        }
+
+    pub count-less : over (granules m) (word m g 1) < over (granules m) g
+    count-less = on-less m (w .left) g (w .on) h
