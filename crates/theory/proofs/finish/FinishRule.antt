@@ -93,7 +93,7 @@ module _ (w : ℕ) (ws : List ℕ) (fit : fits w (length ws) ≡ true) (ok : sou
   -- ---- the same of the words that a finish alone leaves
 
   left-fits : Fits (f .image)
-  unfolding finishStep finishWith sections lengths granules
+  unfolding finishStep finishWith sections granules
   left-fits =
       let k : Fits m = parts-fit w ws fit in
       let e : 4 * (64 * m .k) ≡ 256 * m .k = omega arith in
