@@ -92,34 +92,6 @@ unfoldable pub join : List (List ℕ) → List ℕ
 join [] = []
 join (l ∷ ls) = l ++ join ls
 
--- the places of the sections among them
-abbrev pub heapAt : ℕ
-heapAt = 0
-
-abbrev pub startsAt : ℕ
-startsAt = 1
-
-abbrev pub marksAt : ℕ
-marksAt = 2
-
-abbrev pub cardsAt : ℕ
-cardsAt = 3
-
-abbrev pub regsAt : ℕ
-regsAt = 4
-
-abbrev pub packetsAt : ℕ
-packetsAt = 5
-
-abbrev pub tracersAt : ℕ
-tracersAt = 6
-
-abbrev pub playersAt : ℕ
-playersAt = 7
-
-abbrev pub generalAt : ℕ
-generalAt = 8
-
 unfoldable pub sections : Image → List (List ℕ)
 sections m = m .heap ∷ m .starts ∷ m .marks ∷ m .cards ∷ m .regs ∷ m .packets ∷ m .tracers ∷ m .players ∷ m .general ∷ []
 
