@@ -7,7 +7,7 @@ use Prim.Native.Nat.{ℕ, _+_, _*_, _≤_, _<_}
 use native.Mathlib.Decide.{ℕ-discrete, decLt}
 use native.Mathlib.Omega.{arith}
 use lib.ListN.{length}
-use Rattle.model.specs.Image.{Image, granules, word, isStart, size, lengths, sections, fits, image, imageOf, parts, words}
+use Rattle.model.specs.Image.{Image, granules, word, isStart, size, sections, fits, image, imageOf, parts, words}
 use Rattle.model.specs.Undamaged.{sound}
 use Rattle.model.specs.Records.{Step, finish, kindOf}
 use Rattle.model.specs.Finish.{Finish, keptSet, Kept, finishWith, finishStep}
