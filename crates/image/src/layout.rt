@@ -3,6 +3,8 @@ pub type Word = u16;
 
 pub const BITS: usize = 16;
 
+pub const VALUES: usize = 65536;
+
 pub const MOST_CARDS: usize = 512;
 
 pub const STARTS: usize = 256;
