@@ -26,3 +26,5 @@ pub const GENERAL: usize = 1376;
 pub const BEHIND: usize = 1384;
 
 pub const SHORTEST: usize = 1649;
+
+pub const RECORD: usize = 8;
