@@ -1,7 +1,14 @@
 -- Tracers by value, as the image has them.
 use Prim.Native.Nat.{ℕ}
 use Rattle.model.specs.Image.{Image, input, output, hand, nextLink, handCard, nextGranule, setTracer}
-use Rattle.tracers.specs.declared.tracer.Tracer.{Tracer}
+
+pub record Tracer : Type 0 where
+  pub input : ℕ
+  pub output : ℕ
+  pub hand : ℕ
+  pub link : ℕ
+  pub card : ℕ
+  pub granule : ℕ
 
 -- tracer t of an image
 unfoldable pub tracerAt : Image → ℕ → Tracer

@@ -6,18 +6,22 @@ use lib.ListN.{take, drop}
 use Rattle.model.specs.Base.{nth, put}
 use Rattle.model.specs.Image.{Image, count, entry, withPackets}
 use Rattle.model.specs.Collect.{pop}
-use Rattle.tracers.specs.declared.packet.Packet.{Packet}
+
+pub record Packet : Type 0 where
+  pub count : ℕ
+  pub entries : List ℕ
 
 -- packet p of an image
 unfoldable pub packetAt : Image → ℕ → Packet
 packetAt m p = record { count = count m p; entries = take 30 (drop (32 * p + 2) (m .packets)) }
 
--- "appended": one entry more; "the last comes off", and leaves 0
-unfoldable pub pushed : Packet → ℕ → Packet
-pushed q v = record { count = q .count + 1; entries = put (q .entries) (q .count) v }
+-- "appended": one entry more
+unfoldable pub withEntry : Packet → ℕ → Packet
+withEntry q v = record { count = q .count + 1; entries = put (q .entries) (q .count) v }
 
-unfoldable pub popped : Packet → Packet
-popped q = record { count = q .count - 1; entries = put (q .entries) (q .count - 1) 0 }
+-- "the last comes off", and leaves 0
+unfoldable pub withoutLast : Packet → Packet
+withoutLast q = record { count = q .count - 1; entries = put (q .entries) (q .count - 1) 0 }
 
 -- "a count and 30 entries, with one zero word between"
 unfoldable pub wordsOf : Packet → List ℕ
@@ -33,6 +37,6 @@ pub record Tidy (m : Image) (p : ℕ) : Type 0 where
   pub few : count m p ≤ 30
 
 -- g came off packet p as its last entry, and n is left
-pub record Popped (m : Image) (p g : ℕ) (n : Image) : Type 0 where
+pub record LastOff (m : Image) (p g : ℕ) (n : Image) : Type 0 where
   pub is-last : g ≡ entry m p (count m p - 1)
   pub is-left : n ≡ pop m p
