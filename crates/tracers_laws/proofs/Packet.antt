@@ -8,17 +8,17 @@ use lib.ListN.{length, set, take, drop, getD}
 use lib.Seq.{drop-cons, drop-drop, take-take, getD-take, getD-drop}
 use borrow.Rule.Slice.PartMut.{midOf, putMid}
 use Rattle.model.specs.Base.{nth, put}
-use Rattle.model.specs.Image.{Image, lengths, sections, split, imageOf, image, packetsAt, count, entry, withPackets}
+use Rattle.model.specs.Image.{Image, place, lengths, sections, split, imageOf, image, packetsAt, count, entry, withPackets}
 use Rattle.model.specs.Collect.{append, pop}
 use Rattle.image_laws.specs.Sized.{Sized}
-use Rattle.image_laws.proofs.Split.{place, split-part}
+use Rattle.image_laws.proofs.Split.{split-part}
 use Rattle.image_laws.proofs.Sections.{image-fits}
 use Rattle.image_laws.proofs.Clearing.{mid-section}
 use Rattle.tracers_laws.specs.Packet.{Packet, Tidy, LastOff, packetAt, withEntry, withoutLast, wordsOf, withPacket}
 use Rattle.tracers_laws.proofs.Writes.{writes, write}
 
 packets-long : {w k : ℕ} {ws : List ℕ} → Sized w k ws → length (imageOf w k ws .packets) ≡ 1024
-unfolding sections lengths imageOf image
+unfolding sections imageOf image
 packets-long z = ap (λ (l : List ℕ). getD l packetsAt 0) (image-fits z .section-lengths)
 
 -- ---- read and written
@@ -26,7 +26,7 @@ packets-long z = ap (λ (l : List ℕ). getD l packetsAt 0) (image-fits z .secti
 -- packet p has its words from word a on
 module _ (w k : ℕ) (ws : List ℕ) (z : Sized w k ws) (p : ℕ) (h : p < 32) (a : ℕ) (at-place : place (lengths w k) packetsAt + 32 * p ≡ a) where
   pub packet-read : (n : ℕ) (e : List ℕ) → n ≡ nth (imageOf w k ws .packets) (32 * p) → e ≡ take 30 (midOf (a + 2) (a + 2 + 30 - (a + 2)) ws) → _≡_ {A = Packet} (record { count = n; entries = e }) (packetAt (imageOf w k ws) p)
-  unfolding packetAt count imageOf image lengths split
+  unfolding packetAt count imageOf image split
   packet-read n e en ee =
       let q : a + 2 + 30 - (a + 2) ≡ 30 = omega arith in
       let r : place (lengths w k) packetsAt + (32 * p + 2) ≡ a + 2 = omega arith in
@@ -35,7 +35,7 @@ module _ (w k : ℕ) (ws : List ℕ) (z : Sized w k ws) (p : ℕ) (h : p < 32) (
       λ t. record { count = en t; entries = b t }
 
   pub packet-written : (q : Packet) → length (q .entries) ≡ 30 → (v : List ℕ) → v ≡ wordsOf q → imageOf w k (putMid a (a + 32 - a) ws v) ≡ withPacket (imageOf w k ws) p q
-  unfolding withPacket wordsOf imageOf image lengths split withPackets
+  unfolding withPacket wordsOf imageOf image split withPackets
   packet-written q l v e =
       let lv : length v ≡ 32 = ap length e ∙ omega arith in
       mid-section w k ws packetsAt (32 * p) 32 a (a + 32) (omega arith) at-place refl (omega (arith, z .long)) v lv

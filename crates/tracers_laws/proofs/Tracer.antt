@@ -7,7 +7,7 @@ use lib.ListN.{length, getD}
 use lib.Seq.{drop-cons}
 use borrow.Rule.Slice.PartMut.{midOf, putMid}
 use Rattle.model.specs.Base.{nth, put}
-use Rattle.model.specs.Image.{Image, lengths, sections, imageOf, image, tracersAt, input, output, hand, nextLink, handCard, nextGranule, setTracer, withTracers}
+use Rattle.model.specs.Image.{Image, sections, imageOf, image, tracersAt, input, output, hand, nextLink, handCard, nextGranule, setTracer, withTracers}
 use Rattle.image_laws.specs.Sized.{Sized}
 use Rattle.image_laws.proofs.Sections.{image-fits}
 use Rattle.model.specs.Collect.{putHand, putCard}
@@ -15,7 +15,7 @@ use Rattle.tracers_laws.specs.Tracer.{Tracer, tracerAt, withInput, withO
 use Rattle.tracers_laws.proofs.Writes.{Write, write, Below, inStretch, inList, writes}
 
 pub tracers-long : {w k : ℕ} {ws : List ℕ} → Sized w k ws → length (imageOf w k ws .tracers) ≡ 64
-unfolding sections lengths imageOf image
+unfolding sections imageOf image
 tracers-long z = ap (λ (l : List ℕ). getD l tracersAt 0) (image-fits z .section-lengths)
 
 -- the six words from o on

@@ -1,14 +1,12 @@
 use borrow.Author.Needs.{needs}
 use Rattle.tracers_laws.proofs.Packet.{packet-read}
 use native.Mathlib.Omega.{arith}
-use Rattle.model.specs.Image.{lengths}
 use Rattle.image.specs.Layout.{width, perCard, packetsFrom}
 use Prim.Native.Nat.{_+_, _*_}
 use Rattle.tracers.proofs.packet.read_packet.Statement.{statement}
 use Rattle.tracers.proofs.packet.read_packet.Tie as tie
 
 returns : tie.Need-returns
-unfolding lengths
 returns c =
     let A = c .before .before .before .before .args in
     packet-read width (A .k) (A .im .now) (search needs) (A .p) (omega arith) (perCard * A .k + packetsFrom + 32 * A .p) (omega arith) _ _ (c .before .before .packet-word .ensures) (c .thirty .ensures)

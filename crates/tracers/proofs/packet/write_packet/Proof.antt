@@ -2,14 +2,12 @@ use borrow.Author.Needs.{needs}
 use Rattle.tracers_laws.proofs.Packet.{packet-written}
 use native.Mathlib.Omega.{arith}
 use Rattle.tracers.specs.Plain.{packetOf}
-use Rattle.model.specs.Image.{lengths}
 use Rattle.image.specs.Layout.{width, perCard, packetsFrom}
 use Prim.Native.Nat.{_+_, _*_}
 use Rattle.tracers.proofs.packet.write_packet.Statement.{statement}
 use Rattle.tracers.proofs.packet.write_packet.Tie as tie
 
 returns : tie.Need-returns
-unfolding lengths
 returns c =
     let A = c .before .before .before .before .before .args in
     packet-written width (A .k) (A .im .now) (search needs) (A .p) (omega arith) (perCard * A .k + packetsFrom + 32 * A .p) (omega arith) (packetOf (A .q)) (search needs) _ (c .before .before .put-words .ensures)
