@@ -4,8 +4,7 @@ use Prim.Native.Nat.{ℕ, suc}
 use lib.Dec.{ltb}
 use Rattle.model.specs.Image.{Image}
 use Rattle.model.specs.Collect.{putHand}
-use Rattle.tracers.specs.declared.tracer.Tracer.{Tracer}
-use Rattle.tracers.specs.Tracers.{withHand}
+use Rattle.tracers_laws.specs.Tracer.{Tracer, withHand}
 
 -- link i of the n links of object g was reached: the state, and the image with it
 unfoldable pub afterLink : Tracer → ℕ → ℕ → ℕ → Tracer

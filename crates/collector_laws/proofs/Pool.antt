@@ -1,4 +1,4 @@
--- The choice of a packet by a walk is the model's `best`; packets held, as bits.
+-- The choice of a packet by a walk is the model's `best`; the packets that tracers hold, as bits.
 use mathlib.Core.Path.{_≡_, refl, sym, ap, _∙_}
 use mathlib.Core.Bool.{Bool, true, false, not, cond, _&&_, _||_, and-true, or-false, or-true}
 use mathlib.Core.List.{[], _∷_}
@@ -8,18 +8,19 @@ use native.Mathlib.Decide.{ℕ-discrete}
 use lib.Dec.{ltb, eqb, lit<, leb}
 use borrow.Author.Tests.{ltb-true, lt-ltb, eq-eqb, ne-eqb}
 use Rattle.model.specs.Base.{best, every, any, some, testBit, withBit, nth}
-use Rattle.model.specs.Image.{Image, count, input, output}
+use Rattle.model.specs.Image.{Image, count, input, output, entries}
 use Rattle.model.specs.Collect.{held, emptiest, hasEntries, fullest}
 use Rattle.model.proofs.Laws.{best-ok, every-use, false≢}
 use Rattle.model.proofs.Bits.{withBit-same, withBit-other}
-use Rattle.collector.specs.Pool.{choice, chosenBy, heldWith, heldSet, lacksSpace}
-use Rattle.collector.specs.declared.pool.Choice.{Choice}
+use Rattle.collector_laws.specs.Pool.{choice, chosenBy, heldWith, heldSet, lacksSpace}
+use Rattle.collector_laws.specs.declared.Choice.{Choice}
 use native.Mathlib.Numerals.{add-one}
 use native.Mathlib.Nat.{zero-div, one-mul}
-use Rattle.image.proofs.Masks.{or-pow}
+use Rattle.image_laws.proofs.Masks.{or-pow}
 use lib.Bits.{bitOr}
 use lib.Pow.{shl-exact}
 use Rattle.theory.specs.Lines.{HeldOk}
+use Rattle.theory.specs.Fields.{bound}
 
 -- ---- the choice, for any order
 
@@ -161,21 +162,21 @@ in-pool m s p b e f = f ∙ rw e (ap not (held-set m 8 p))
 
 -- ---- the two choices
 
--- a packet's word of the pool
-abbrev pub free : Image → ℕ → Bool
-free m p = not (held m p)
+-- a packet of the pool: held by no tracer
+abbrev pub unheld : Image → ℕ → Bool
+unheld m p = not (held m p)
 
-abbrev pub more : ℕ → ℕ → Bool
-more a b = ltb b a
+abbrev pub greater : ℕ → ℕ → Bool
+greater a b = ltb b a
 
-pub emptiest-choice : (m : Image) (n : ℕ) (c : Choice) → c ≡ choice ltb (count m) (free m) 30 n → 32 ≤ n → n ≤ 32 → c .packet ≡ emptiest m
+pub emptiest-choice : (m : Image) (n : ℕ) (c : Choice) → c ≡ choice ltb (count m) (unheld m) 30 n → 32 ≤ n → n ≤ 32 → c .packet ≡ emptiest m
 unfolding emptiest
 emptiest-choice m n c e l h =
     let q : n ≡ 32 = omega arith in
-    rw (e, q, choice-best ltb (count m) (free m) 30 (λ a b x y. lt-ltb a 30 (omega (arith, ltb-true a b x, ltb-true b 30 y))) 32) (packet-best ltb (count m) (free m) 30 _)
+    rw (e, q, choice-best ltb (count m) (unheld m) 30 (λ a b x y. lt-ltb a 30 (omega (arith, ltb-true a b x, ltb-true b 30 y))) 32) (packet-best ltb (count m) (unheld m) 30 _)
 
-pub fullest-choice : (m : Image) (n : ℕ) (c : Choice) → c ≡ choice more (count m) (free m) 0 n → 32 ≤ n → n ≤ 32 → c .packet ≡ fullest m
+pub fullest-choice : (m : Image) (n : ℕ) (c : Choice) → c ≡ choice greater (count m) (unheld m) 0 n → 32 ≤ n → n ≤ 32 → c .packet ≡ fullest m
 unfolding fullest
 fullest-choice m n c e l h =
     let q : n ≡ 32 = omega arith in
-    rw (e, q, choice-best more (count m) (free m) 0 (λ a b x y. lt-ltb 0 a (omega (arith, ltb-true b a x, ltb-true 0 b y))) 32) (packet-best more (count m) (free m) 0 _)
+    rw (e, q, choice-best greater (count m) (unheld m) 0 (λ a b x y. lt-ltb 0 a (omega (arith, ltb-true b a x, ltb-true 0 b y))) 32) (packet-best greater (count m) (unheld m) 0 _)

@@ -5,8 +5,9 @@ use mathlib.Core.List.{[], _∷_}
 use Prim.Native.Nat.{ℕ, zero, suc, _-_, _<_}
 use lib.Dec.{leb, eqb}
 use Rattle.model.specs.Base.{withBit, some}
-use Rattle.model.specs.Image.{Image, count, input, output}
-use Rattle.collector.specs.declared.pool.Choice.{Choice}
+use Rattle.model.specs.Image.{Image, count, input, output, entries}
+use Rattle.collector_laws.specs.declared.Choice.{Choice}
+use Rattle.theory.specs.Fields.{bound}
 
 -- packets as bits, with the bit of a packet given by its number + 1; 0 is no packet
 unfoldable pub heldWith : ℕ → ℕ → ℕ

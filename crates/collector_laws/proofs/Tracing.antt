@@ -12,15 +12,13 @@ use Rattle.model.specs.Image.{Image, imageOf, image, state, dirty, count, entry
 use Rattle.model.specs.Collect.{fullest, pop, takeObject, traceHand, traceInput, tracePool, traceOutput, hasEntries, traceLine, traceStep}
 use Rattle.model.proofs.Laws.{best-ok, every-use}
 use Rattle.theory.specs.Lines.{Lines}
-use Rattle.image.specs.Answer.{doneOf, numberOf, valueOf}
-use Rattle.image.specs.Sized.{narrow}
-use Rattle.image.specs.declared.answer.Answer.the-variants.{Done, NothingToDo}
-use Rattle.tracers.specs.declared.tracer.Tracer.{Tracer}
-use Rattle.tracers.specs.Packets.{Tidy, Popped}
-use Rattle.tracers.specs.Tracers.{tracerAt, withInput, withOutput, withTracer}
-use Rattle.tracers.proofs.TracerWords.{input-written, input-output-written}
-use Rattle.collector.specs.Refusals.{doneUnless}
-use Rattle.collector.proofs.Choosing.{input-few, output-few}
+use Rattle.request_laws.specs.Answer.{done}
+use Rattle.tracers_laws.specs.Packet.{Tidy, LastOff}
+use Rattle.tracers_laws.specs.Tracer.{Tracer, tracerAt, withInput, withOutput, withTracer}
+use Rattle.tracers_laws.proofs.Tracer.{input-written, input-output-written}
+use Rattle.collector_laws.specs.Outcome.{doneUnless}
+use Rattle.collector_laws.proofs.Pool.{input-few, output-few}
+use Rattle.model.specs.Rows.{below}
 
 -- ---- the state that was read
 
@@ -69,15 +67,15 @@ pub tidy : (m : Image) (p : ℕ) → Lines m → p < 32 → Tidy m p
 unfolding count
 tidy m p o h = record { gap = o .packets-ok .gap p h; few = o .packets-ok .few p h }
 
-module _ (k : ℕ) (ws : List ℕ) (p g : ℕ) (n : Image) (r : Popped (narrow k ws) p g n) where
-  pub popped-in : Lines (narrow k ws) → p < 32 → 0 < count (narrow k ws) p → g < 64 * k
-  unfolding count entry narrow imageOf image
+module _ (w k : ℕ) (ws : List ℕ) (p g : ℕ) (n : Image) (r : LastOff (imageOf w k ws) p g n) where
+  pub popped-in : Lines (imageOf w k ws) → p < 32 → 0 < count (imageOf w k ws) p → g < 64 * k
+  unfolding count entry imageOf image
   popped-in o h l =
-      let c : ℕ = count (narrow k ws) p - 1 in
+      let c : ℕ = count (imageOf w k ws) p - 1 in
       let s = o .marks-ok .on-starts g (o .packets-ok .full p c g (record { is-packet = h; below = omega arith; is-entry = sym (r .is-last) })) in
       s .0
 
-module _ (m : Image) (t p g : ℕ) (n : Image) (i : input m t ≡ suc p) (r : Popped m p g n) (b : Bool) (e : b ≡ dirty n (g / 64)) where
+module _ (m : Image) (t p g : ℕ) (n : Image) (i : input m t ≡ suc p) (r : LastOff m p g n) (b : Bool) (e : b ≡ dirty n (g / 64)) where
   same-dirty : dirty m (g / 64) ≡ b
   unfolding dirty state pop withPackets
   same-dirty = sym (e ∙ rw (r .is-left))
@@ -99,12 +97,12 @@ module _ (m : Image) (t : ℕ) where
   abbrev lines-of : List Image
   lines-of = m ∷ traceHand m t ∷ traceInput m t ∷ tracePool m t ∷ traceOutput m t ∷ []
 
-  by-line : (l : ℕ) (n : Image) → traceLine m t ≡ suc l → n ≡ getD lines-of (suc l) m → doneOf (Done 0) n ≡ doneUnless (eqb (traceLine m t) 0) m (traceStep m t)
-  unfolding doneOf numberOf valueOf doneUnless traceStep
+  by-line : (l : ℕ) (n : Image) → traceLine m t ≡ suc l → n ≡ getD lines-of (suc l) m → done 0 0 n ≡ doneUnless (eqb (traceLine m t) 0) m (traceStep m t)
+  unfolding doneUnless traceStep
   by-line l n e f = rw (e, ne-eqb (suc l) 0 (λ z. omega arith), f)
 
   module _ (x : Tracer) (e : x ≡ tracerAt m t) where
-    pub trace-hand-line : (x .hand ≡ 0 → ⊥) → (n : Image) → n ≡ traceHand m t → doneOf (Done 0) n ≡ doneUnless (eqb (traceLine m t) 0) m (traceStep m t)
+    pub trace-hand-line : (x .hand ≡ 0 → ⊥) → (n : Image) → n ≡ traceHand m t → done 0 0 n ≡ doneUnless (eqb (traceLine m t) 0) m (traceStep m t)
     unfolding traceLine first
     trace-hand-line z n f = by-line 0 n (rw (ne-eqb (hand m t) 0 (λ q. z (read-hand m t x e ∙ q)))) f
 
@@ -112,7 +110,7 @@ module _ (m : Image) (t : ℕ) where
       empty : eqb (hand m t) 0 ≡ true
       empty = eq-eqb (hand m t) 0 (sym (read-hand m t x e) ∙ z)
 
-      pub trace-input-line : (b : Bool) → b ≡ hasEntries m (x .input) → b ≡ true → (n : Image) → n ≡ traceInput m t → doneOf (Done 0) n ≡ doneUnless (eqb (traceLine m t) 0) m (traceStep m t)
+      pub trace-input-line : (b : Bool) → b ≡ hasEntries m (x .input) → b ≡ true → (n : Image) → n ≡ traceInput m t → done 0 0 n ≡ doneUnless (eqb (traceLine m t) 0) m (traceStep m t)
       unfolding traceLine first
       trace-input-line b g q n f = by-line 1 n (rw (empty, ← read-input m t x e, ← g, q)) f
 
@@ -120,7 +118,7 @@ module _ (m : Image) (t : ℕ) where
         no-input : hasEntries m (input m t) ≡ false
         no-input = rw (← read-input m t x e) i
 
-        pub trace-pool-line : (f ≡ 0 → ⊥) → Lines m → t < 8 → (y : Tracer) (n : Image) → y ≡ withInput x f → n ≡ withTracer m t y → doneOf (Done 0) n ≡ doneUnless (eqb (traceLine m t) 0) m (traceStep m t)
+        pub trace-pool-line : (f ≡ 0 → ⊥) → Lines m → t < 8 → (y : Tracer) (n : Image) → y ≡ withInput x f → n ≡ withTracer m t y → done 0 0 n ≡ doneUnless (eqb (traceLine m t) 0) m (traceStep m t)
         unfolding traceLine first tracePool
         trace-pool-line u o h y n q r = by-line 2 n (rw (empty, no-input, ← g, ne-eqb f 0 u)) (r ∙ rw (q, e, ← g) (input-written m t h (o .tracers-ok .sized) f))
 
@@ -128,10 +126,10 @@ module _ (m : Image) (t : ℕ) where
           swapped : (y y′ : Tracer) → y ≡ withInput x (x .output) → y′ ≡ withOutput y 0 → y′ ≡ withOutput (withInput (tracerAt m t) (output m t)) 0
           swapped y y′ q q′ = q′ ∙ ap (λ (z : Tracer). withOutput z 0) (q ∙ ap₂ withInput e (read-output m t x e))
 
-          pub trace-output-line : b ≡ true → Lines m → t < 8 → (y y′ : Tracer) (n : Image) → y ≡ withInput x (x .output) → y′ ≡ withOutput y 0 → n ≡ withTracer m t y′ → doneOf (Done 0) n ≡ doneUnless (eqb (traceLine m t) 0) m (traceStep m t)
+          pub trace-output-line : b ≡ true → Lines m → t < 8 → (y y′ : Tracer) (n : Image) → y ≡ withInput x (x .output) → y′ ≡ withOutput y 0 → n ≡ withTracer m t y′ → done 0 0 n ≡ doneUnless (eqb (traceLine m t) 0) m (traceStep m t)
           unfolding traceLine first traceOutput
           trace-output-line s o h y y′ n q q′ r = by-line 3 n (rw (empty, no-input, ← g, eq-eqb f 0 u, ← read-output m t x e, ← w, s)) (r ∙ rw (swapped y y′ q q′) (input-output-written m t h (o .tracers-ok .sized) (output m t) 0))
 
-          pub trace-no-line : b ≡ false → doneOf NothingToDo m ≡ doneUnless (eqb (traceLine m t) 0) m (traceStep m t)
-          unfolding doneOf numberOf valueOf doneUnless traceLine first
+          pub trace-no-line : b ≡ false → done 11 0 m ≡ doneUnless (eqb (traceLine m t) 0) m (traceStep m t)
+          unfolding doneUnless traceLine first
           trace-no-line s = rw (empty, no-input, ← g, eq-eqb f 0 u, ← read-output m t x e, ← w, s)

@@ -1,3 +1,3 @@
 pub mod Pool
-pub mod Refusals
 pub mod Hands
+pub mod Outcome

@@ -1,4 +1,4 @@
--- A scan's walk over the registers of a player: where it stands, and each of its turns.
+-- A scan's walk over the registers of a player: where it stands, and each of its turns; the scan as a whole.
 use mathlib.Core.Path.{_≡_, refl, sym, ap, _∙_}
 use mathlib.Core.List.{List}
 use Prim.Native.Nat.{ℕ, suc, _+_, _*_, _-_, _≤_, _<_}
@@ -7,11 +7,16 @@ use native.Mathlib.Omega.{arith}
 use lib.ListN.{length, getD, take, drop}
 use lib.Seq.{drop-cons}
 use Rattle.model.specs.Base.{nth}
-use Rattle.model.specs.Image.{Image, reg}
-use Rattle.model.specs.Collect.{reach, reachAll}
+use Rattle.model.specs.Image.{Image, reg, scanned, setScanned}
+use Rattle.model.specs.Collect.{reach, reachAll, scanPlayer}
 use Rattle.theory.specs.Lines.{NilOr, Start, Lines}
 use Rattle.theory.proofs.heap.Facts.{reg-value}
 use Rattle.theory.proofs.steps.Reaching.{Reached, reach-does}
+use Rattle.collector_laws.specs.Outcome.{doneUnless}
+use Rattle.model.specs.Examples.{at}
+use Rattle.request_laws.specs.Answer.{done}
+use lib.Dec.{eqb}
+use borrow.Author.Tests.{eq-eqb, ne-eqb}
 
 -- n is left of m when the first r registers of player p have been reached by tracer t
 pub record Scanning (m : Image) (t p r : ℕ) (n : Image) : Type 0 where
@@ -47,3 +52,14 @@ module _ (m : Image) (t p r : ℕ) (n : Image) (o : Scanning m t p r n) where
 
       pub scan-more : Scanning m t p (r + 1) n′
       scan-more = record { rest = sym next ∙ o .rest; lines = rw f (reached .lines); regs-same = ap (λ (x : Image). x .regs) f ∙ (reached .regs-same ∙ o .regs-same) }
+
+-- ---- the scan
+
+module _ (m : Image) (t p x : ℕ) (e : x ≡ scanned m p) where
+  pub scanned-already : x ≡ 1 → done 11 0 m ≡ doneUnless (eqb (scanned m p) 1) m (scanPlayer m t p)
+  unfolding doneUnless
+  scanned-already q = rw (eq-eqb (scanned m p) 1 (sym e ∙ q))
+
+  pub scanned-now : (x ≡ 1 → ⊥) → (n₁ n₂ : Image) → n₁ ≡ reachAll m t (take 16 (drop (16 * p) (m .regs))) → n₂ ≡ setScanned n₁ p → done 0 0 n₂ ≡ doneUnless (eqb (scanned m p) 1) m (scanPlayer m t p)
+  unfolding doneUnless scanPlayer
+  scanned-now ne n₁ n₂ f g = rw (ne-eqb (scanned m p) 1 (λ q. ne (e ∙ q)), g, f)

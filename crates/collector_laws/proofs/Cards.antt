@@ -1,6 +1,6 @@
--- The lowest card in state 1, as a walk from card 0 on finds it; states of cards.
+-- The lowest card in state 1, as a walk from card 0 on finds it.
 use mathlib.Core.Path.{_≡_, refl, sym, _∙_}
-use mathlib.Core.Bool.{Bool, true, false, _||_, and-false, or-false}
+use mathlib.Core.Bool.{Bool, true, false, and-false}
 use mathlib.Core.List.{List}
 use Prim.Native.Nat.{ℕ, zero, suc, _+_, _-_, _<_, _≤_}
 use native.Mathlib.Nat.{zero-add, suc-add}
@@ -8,10 +8,11 @@ use native.Mathlib.Numerals.{add-one}
 use native.Mathlib.Omega.{arith}
 use lib.Dec.{eqb}
 use borrow.Author.Tests.{eq-eqb, ne-eqb}
-use Rattle.model.specs.Base.{best, lowest, some}
-use Rattle.model.specs.Image.{Image, imageOf, image, state, isDirty, dirty, dirtyState, setState, dirtyCard}
+use Rattle.model.specs.Base.{best, lowest}
+use Rattle.model.specs.Image.{Image, imageOf, image, state}
 use Rattle.model.specs.Collect.{lowestDirty}
-use Rattle.image.specs.Sized.{narrow}
+use Rattle.model.specs.Cases.{ok}
+use Rattle.model.specs.Examples.{at}
 
 -- ---- the lowest number that passes
 
@@ -42,43 +43,18 @@ pub dirty-first : (m : Image) → NoDirty m 0
 unfolding lowest best
 dirty-first m = record { none = refl }
 
-module _ (k : ℕ) (ws : List ℕ) (c : ℕ) (o : NoDirty (narrow k ws) c) where
-  pub dirty-end : k ≤ c → c ≤ k → 0 ≡ lowestDirty (narrow k ws)
-  unfolding lowestDirty narrow imageOf image
+module _ (w k : ℕ) (ws : List ℕ) (c : ℕ) (o : NoDirty (imageOf w k ws) c) where
+  pub dirty-end : k ≤ c → c ≤ k → 0 ≡ lowestDirty (imageOf w k ws)
+  unfolding lowestDirty imageOf image
   dirty-end h l = let e : k ≡ c = omega arith in sym (rw e (rw e at (o .none)))
 
-  module _ (x : ℕ) (e : x ≡ state (narrow k ws) c) where
-    pub dirty-more : (x ≡ 1 → ⊥) → NoDirty (narrow k ws) (c + 1)
+  module _ (x : ℕ) (e : x ≡ state (imageOf w k ws) c) where
+    pub dirty-more : (x ≡ 1 → ⊥) → NoDirty (imageOf w k ws) (c + 1)
     dirty-more ne = record { none = rw (add-one c) (lowest-more _ c (o .none) (ne-eqb _ 1 (λ q. ne (e ∙ q)))) }
 
-    pub dirty-found : x ≡ 1 → c < k → c + 1 ≡ lowestDirty (narrow k ws)
-    unfolding lowestDirty narrow imageOf image
+    pub dirty-found : x ≡ 1 → c < k → c + 1 ≡ lowestDirty (imageOf w k ws)
+    unfolding lowestDirty imageOf image
     dirty-found q h =
         let d : k - suc c + suc c ≡ k = omega arith in
         let r = lowest-on _ (k - suc c) (suc c) c (lowest-here _ c (o .none) (eq-eqb _ 1 (sym e ∙ q))) in
         add-one c ∙ sym (rw d at r)
-
--- ---- a card's state
-
-module _ (x : ℕ) where
-  pub dirtied-clean : x ≡ 0 → 1 ≡ dirtyState x
-  unfolding dirtyState
-  dirtied-clean e = rw e
-
-  pub dirtied-dirty : x ≡ 1 → 1 ≡ dirtyState x
-  unfolding dirtyState
-  dirtied-dirty e = rw e
-
-pub dirtied-taken : (x : ℕ) → (x ≡ 0 → ⊥) → (x ≡ 1 → ⊥) → 3 ≡ dirtyState x
-unfolding dirtyState
-dirtied-taken zero n o = absurd (n refl)
-dirtied-taken (suc zero) n o = absurd (o refl)
-dirtied-taken (suc (suc x)) n o = refl
-
-pub is-dirty : (m : Image) (c x : ℕ) → x ≡ state m c → (eqb x 1 || eqb x 3) ≡ dirty m c
-unfolding dirty isDirty some
-is-dirty m c x e = rw (e, or-false (eqb (state m c) 3))
-
-pub card-dirtied : (m n : Image) (c x y : ℕ) → x ≡ state m c → y ≡ dirtyState x → n ≡ setState m c y → n ≡ dirtyCard m c
-unfolding dirtyCard
-card-dirtied m n c x y e f h = h ∙ rw (f, e)

@@ -14,9 +14,8 @@ use Rattle.model.proofs.Laws.{best-ok}
 use Rattle.theory.specs.Lines.{HeldOk, NilOr, Start, Lines}
 use Rattle.theory.proofs.lines.Sections.{hold-ok}
 use Rattle.theory.proofs.steps.Reaching.{mark-lines, take-lines, took}
-use Rattle.image.specs.Sized.{narrow}
-use Rattle.tracers.specs.Packets.{Tidy}
-use Rattle.collector.specs.Pool.{lacksSpace, Spare}
+use Rattle.tracers_laws.specs.Packet.{Tidy}
+use Rattle.collector_laws.specs.Pool.{lacksSpace, Spare}
 
 -- ---- the output packet
 
@@ -75,10 +74,10 @@ taken-count : (m : Image) (t p : ℕ) → count m p < 30 → count (takeOutput m
 unfolding takeOutput setTracer withTracers count
 taken-count m t p h = h
 
-pub start-in : (k : ℕ) (ws : List ℕ) (g : ℕ) → NilOr (Start (narrow k ws)) g → (g ≡ 0 → ⊥) → g < 64 * k
-unfolding narrow imageOf image
-start-in k ws g (inl e) z = absurd (z e)
-start-in k ws g (inr s) z = s .0
+pub start-in : (w k : ℕ) (ws : List ℕ) (g : ℕ) → NilOr (Start (imageOf w k ws)) g → (g ≡ 0 → ⊥) → g < 64 * k
+unfolding imageOf image
+start-in w k ws g (inl e) z = absurd (z e)
+start-in w k ws g (inr s) z = s .0
 
 module _ (m : Image) (t g : ℕ) where
   pub reach-nil : g ≡ 0 → m ≡ reach m t g
