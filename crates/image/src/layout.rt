@@ -21,8 +21,6 @@ pub const PLAYERS: usize = 1344;
 
 pub const GENERAL: usize = 1376;
 
-pub const FIRST_RUN: usize = 1377;
-
 pub const BEHIND: usize = 1384;
 
 pub const SHORTEST: usize = 1649;

@@ -1,8 +1,8 @@
 -- Parts of the slice read as a whole: words that are 0, gathered by a loop.
 use Rattle.image_laws.specs.Parts.{isZero}
-use Rattle.image_laws.proofs.Split.{place, split-part}
+use Rattle.image_laws.proofs.Split.{split-part}
 use Rattle.model.specs.Base.{nth, all, zeroes}
-use Rattle.model.specs.Image.{lengths, split, image, imageOf}
+use Rattle.model.specs.Image.{place, lengths, split, image, imageOf}
 use Prim.Native.Nat.{ℕ, zero, suc, _+_, _*_, _-_, _≤_, _<_}
 use mathlib.Core.Path.{_≡_, refl, sym, ap, _∙_}
 use mathlib.Core.Bool.{Bool, true, _&&_, and-true, and-assoc}
@@ -74,7 +74,6 @@ split-is (n ∷ ns) ws zero h = refl
 split-is (n ∷ ns) ws (suc s) h = split-is ns (drop n ws) s (omega arith) ∙ rw (drop-drop (place ns s) n ws)
 
 sections-nine : (w k s : ℕ) → s < 9 → s < length (lengths w k)
-unfolding lengths
 sections-nine w k s l = l
 
 -- words o to e - 1 are section s
@@ -85,7 +84,7 @@ section-zero w k ws r s o e l p q h =
 
 -- the words of a run of s granules at g, behind its two
 pub run-zero : (w k : ℕ) (ws : List ℕ) (g s : ℕ) (r : Bool) → 1 ≤ s → g + s ≤ 64 * k → r ≡ zeroes (take (4 * g + 4 * s - (4 * g + 2)) (drop (4 * g + 2) ws)) → r ≡ zeroes (take (4 * s - 2) (drop (4 * g + 2) (imageOf w k ws .heap)))
-unfolding imageOf image lengths split
+unfolding imageOf image split
 run-zero w k ws g s r h f e =
     let n : 4 * g + 4 * s - (4 * g + 2) ≡ 4 * s - 2 = omega arith in
     let p : place (lengths w k) 0 + (4 * g + 2) ≡ 4 * g + 2 = omega arith in

@@ -5,10 +5,10 @@ use Prim.Native.Nat.{ℕ, _+_, _*_, _<_, _≤_}
 use native.Mathlib.Omega.{arith}
 use lib.ListN.{getD, set, length}
 use Rattle.model.specs.Base.{nth, put}
-use Rattle.model.specs.Image.{mostCards, lengths, split, image, imageOf, sections, words, granules}
+use Rattle.model.specs.Image.{place, total, mostCards, lengths, split, image, imageOf, sections, words, granules}
 use Rattle.image_laws.specs.Sized.{Sized}
-use Rattle.image_laws.proofs.Split.{place, split-get, split-put, split-length}
-use Rattle.model.proofs.Words.{Fits, total, join-split, split-lengths}
+use Rattle.image_laws.proofs.Split.{split-get, split-put, split-length}
+use Rattle.model.proofs.Words.{Fits, join-split, split-lengths}
 
 -- word i of section s, which is word o
 module _ (w k : ℕ) (ws : List ℕ) (s i o : ℕ) (h : i < getD (lengths w k) s 0) (at-place : place (lengths w k) s + i ≡ o) where
@@ -23,16 +23,15 @@ module _ (w k : ℕ) (ws : List ℕ) (s i o : ℕ) (h : i < getD (lengths w k) s
 
 module _ {w k : ℕ} {ws : List ℕ} (z : Sized w k ws) where
   whole : length ws ≡ total (lengths w k)
-  unfolding lengths
   whole = omega (arith, z .long)
 
   pub words-image : words (imageOf w k ws) ≡ ws
-  unfolding imageOf image words sections lengths split
+  unfolding imageOf image words sections split
   words-image = join-split (lengths w k) ws whole
 
   -- the sections have their lengths
   pub image-fits : Fits (imageOf w k ws)
-  unfolding imageOf image sections lengths split
+  unfolding imageOf image sections split
   image-fits = record { some-card = z .low; few-cards = z .high; section-lengths = split-lengths (lengths w k) ws whole }
 
 pub granules-image : (w k : ℕ) (ws : List ℕ) → granules (imageOf w k ws) ≡ 64 * k
