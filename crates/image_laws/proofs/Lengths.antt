@@ -30,13 +30,13 @@ module _ {w k : ℕ} {ws : List ℕ} (z : Sized w k ws) where
   long-section i = ap (λ (l : List ℕ). getD l i 0) (image-fits z .section-lengths)
 
   pub starts-words : length (imageOf w k ws .starts) ≡ 64 * k / w
-  unfolding sections lengths
+  unfolding sections
   starts-words = long-section startsAt
 
   pub marks-words : length (imageOf w k ws .marks) ≡ 64 * k / w
-  unfolding sections lengths
+  unfolding sections
   marks-words = long-section marksAt
 
   pub cards-words : length (imageOf w k ws .cards) ≡ k
-  unfolding sections lengths
+  unfolding sections
   cards-words = long-section cardsAt
