@@ -9,7 +9,7 @@ use lib.Dec.{eqb}
 use lib.ListN.{getD}
 use borrow.Author.Tests.{eq-eqb, ne-eqb}
 use Rattle.model.specs.Base.{first, lowest}
-use Rattle.model.specs.Image.{Image, imageOf, image, marked, hand, handCard, nextGranule, setState}
+use Rattle.model.specs.Image.{Image, imageOf, image, marked, hand, handCard, nextGranule, setState, withCards}
 use Rattle.model.specs.Collect.{traceHand, putCard, takeObject, nextMarked, cleanTo, cleanCard, lowestDirty, takeCard, cleanLine, cleanStep}
 use Rattle.model.proofs.Laws.{best-ok}
 use Rattle.theory.specs.Lines.{CardInHand, Lines}
@@ -53,13 +53,27 @@ module _ (w k : ℕ) (ws : List ℕ) (o : Lines (imageOf w k ws)) (t : ℕ) (h :
   in-hand : CardInHand (imageOf w k ws) (x .card) (x .granule)
   in-hand = rw (read-card (imageOf w k ws) t x e, read-granule (imageOf w k ws) t x e) (card-in-hand (imageOf w k ws) o t h (λ q. omega (arith, read-card (imageOf w k ws) t x e)))
 
-  pub card-range : (x .card ≤ k) × (64 * x .card ≤ x .granule + 64) × (x .granule ≤ 64 * x .card)
+  in-range : (x .card ≤ k) × (64 * x .card ≤ x .granule + 64) × (x .granule ≤ 64 * x .card)
   unfolding imageOf image
-  card-range = (in-hand .0, omega (arith, in-hand .2), in-hand .3)
+  in-range = (in-hand .0, omega (arith, in-hand .2), in-hand .3)
+
+  module _ (c : ℕ) (a : c ≡ x .card) where
+    pub card-in : c ≤ k
+    card-in = rw a (in-range .0)
+
+    module _ (n : ℕ) (b : n ≡ x .granule) where
+      pub card-from : 64 * c ≤ n + 64
+      card-from = rw (a, b) (in-range .1)
+
+      pub card-to : n ≤ 64 * c
+      card-to = rw (a, b) (in-range .2)
 
   module _ (g : ℕ) (f : g ≡ nextMarked (imageOf w k ws) (64 * x .card - x .granule) (x .granule)) where
     pub next-in : g ≤ 64 * k
-    next-in = omega (arith, card-range, next-below (imageOf w k ws) (64 * x .card - x .granule) (x .granule))
+    next-in = omega (arith, in-range, next-below (imageOf w k ws) (64 * x .card - x .granule) (x .granule))
+
+    pub next-object : (g ≡ 0 → ⊥) → g - 1 < 64 * k
+    next-object u = omega (arith, next-in)
 
     cleaned : cleanTo (imageOf w k ws) t g ≡ cleanCard (imageOf w k ws) t
     unfolding cleanCard
@@ -82,9 +96,9 @@ unfolding lowestDirty lowest imageOf image
 dirty-in w k ws zero e z = absurd (z refl)
 dirty-in w k ws (suc c) e z = let r = best-ok _ _ k c (sym e) .0 in omega arith
 
-pub card-taken : (m : Image) (w k : ℕ) (ws : List ℕ) → Sized w k ws → (t c : ℕ) → t < 8 → imageOf w k ws ≡ setState m c 2 → (x y : Tracer) (n : Image) → x ≡ tracerAt (imageOf w k ws) t → y ≡ withCard x (c + 1) (64 * c) → n ≡ withTracer (imageOf w k ws) t y → n ≡ takeCard m t c
-unfolding takeCard
-card-taken m w k ws z t c h f x y n e q r = r ∙ (rw (q, e, add-one c) (card-written (imageOf w k ws) t h (tracers-long z) (suc c) (64 * c)) ∙ ap (λ (i : Image). putCard i t (suc c) (64 * c)) f)
+pub card-taken : (w k : ℕ) (ws : List ℕ) → Sized w k ws → (t c : ℕ) → t < 8 → (n₁ n₂ : Image) (x y : Tracer) → n₁ ≡ setState (imageOf w k ws) c 2 → x ≡ tracerAt n₁ t → y ≡ withCard x (c + 1) (64 * c) → n₂ ≡ withTracer n₁ t y → n₂ ≡ takeCard (imageOf w k ws) t c
+unfolding takeCard setState withCards
+card-taken w k ws z t c h n₁ n₂ x y f e q r = r ∙ rw (q, e, f, add-one c) (card-written (setState (imageOf w k ws) c 2) t h (tracers-long z) (suc c) (64 * c))
 
 -- ---- the lines
 

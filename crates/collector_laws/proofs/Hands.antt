@@ -60,21 +60,30 @@ module _ (w k : ℕ) (ws : List ℕ) (o : Lines (imageOf w k ws)) (g : ℕ) (s :
 -- ---- the object in hand
 
 module _ (w k : ℕ) (ws : List ℕ) (o : Lines (imageOf w k ws)) (t : ℕ) (h : t < 8) (p : 0 < hand (imageOf w k ws) t) (x : Tracer) (e : x ≡ tracerAt (imageOf w k ws) t) where
-  pub hand-start : Start (imageOf w k ws) (x .hand)
+  in-hand : Start (imageOf w k ws) (x .hand)
   unfolding tracerAt marked
-  hand-start = rw e (o .marks-ok .on-starts (hand (imageOf w k ws) t) (in-hand-ok (imageOf w k ws) o t h (λ z. omega arith) .0))
+  in-hand = rw e (o .marks-ok .on-starts (hand (imageOf w k ws) t) (in-hand-ok (imageOf w k ws) o t h (λ z. omega arith) .0))
 
-  pub hand-below : x .hand < 64 * k
-  unfolding imageOf image
-  hand-below = hand-start .0
-
-  pub hand-link : x .link < links (imageOf w k ws) (x .hand)
+  next-in-hand : x .link < links (imageOf w k ws) (x .hand)
   unfolding tracerAt
-  hand-link = rw e (in-hand-ok (imageOf w k ws) o t h (λ z. omega arith) .1)
+  next-in-hand = rw e (in-hand-ok (imageOf w k ws) o t h (λ z. omega arith) .1)
 
-  pub hand-next : (n : ℕ) → n ≡ word (imageOf w k ws) (x .hand) 1 → x .link < n
-  unfolding links
-  hand-next n f = rw f hand-link
+  -- object g in hand at link i, as the code has read them
+  module _ (g : ℕ) (a : g ≡ x .hand) where
+    pub hand-start : Start (imageOf w k ws) g
+    hand-start = rw a in-hand
+
+    pub hand-below : 4 * g + 1 < 256 * k
+    unfolding imageOf image
+    hand-below = omega (arith, hand-start .0)
+
+    module _ (i : ℕ) (b : i ≡ x .link) where
+      pub hand-link : i < links (imageOf w k ws) g
+      hand-link = rw (b, a) next-in-hand
+
+      pub hand-next : (n : ℕ) → n ≡ word (imageOf w k ws) g 1 → i < n
+      unfolding links
+      hand-next n f = rw f hand-link
 
 pub hand-traced : (m n₁ n₂ : Image) (t n : ℕ) (x : Tracer) → x ≡ tracerAt m t → n ≡ word m (x .hand) 1 → n₁ ≡ reach m t (link m (x .hand) (x .link)) → n₂ ≡ advanced n₁ t (x .hand) (x .link) n → n₂ ≡ traceHand m t
 unfolding traceHand advanced tracerAt links

@@ -79,6 +79,13 @@ unfolding imageOf image
 start-in w k ws g (inl e) z = absurd (z e)
 start-in w k ws g (inr s) z = s .0
 
+pub marked-lines : (m n : Image) (g : ℕ) → n ≡ setMark m g → Lines m → NilOr (Start m) g → (g ≡ 0 → ⊥) → Lines n
+marked-lines m n g f o s z = rw f (mark-lines o g (is-start s))
+  where
+    is-start : NilOr (Start m) g → Start m g
+    is-start (inl e) = absurd (z e)
+    is-start (inr s) = s
+
 module _ (m : Image) (t g : ℕ) where
   pub reach-nil : g ≡ 0 → m ≡ reach m t g
   unfolding reach some
@@ -94,17 +101,9 @@ module _ (m : Image) (t g : ℕ) where
       unfolding reach some
       reach-new b e q n₂ n₃ h i = rw (ne-eqb g 0 z, ← e, q, reach, i, h, f)
 
-      module _ (o : Lines m) (s : NilOr (Start m) g) where
-        pub marked-lines : Lines n₁
-        marked-lines = rw f (mark-lines o g (is-start s))
-          where
-            is-start : NilOr (Start m) g → Start m g
-            is-start (inl e) = absurd (z e)
-            is-start (inr s) = s
+      module _ (o : Lines m) (s : NilOr (Start m) g) (h : t < 8) (n₂ : Image) (i : n₂ ≡ takeOutput n₁ t) where
+        pub taken-lines : Lines n₂
+        taken-lines = rw i (take-lines (marked-lines m n₁ g f o s z) t h)
 
-        module _ (h : t < 8) (n₂ : Image) (i : n₂ ≡ takeOutput n₁ t) where
-          pub taken-lines : Lines n₂
-          taken-lines = rw i (take-lines marked-lines t h)
-
-          pub taken-spare : Spare n₂ t
-          taken-spare = rw i (record { space = λ p e. let r = took marked-lines t p h e in (r .0, taken-count n₁ t p (r .1)) })
+        pub taken-spare : Spare n₂ t
+        taken-spare = rw i (record { space = λ p e. let r = took (marked-lines m n₁ g f o s z) t p h e in (r .0, taken-count n₁ t p (r .1)) })

@@ -39,13 +39,13 @@ module _ (m : Image) (t : ℕ) (x : Tracer) (e : x ≡ tracerAt m t) where
   hand-held z = omega (arith, read-hand)
 
   module _ (o : Lines m) (h : t < 8) where
-    pub held-input : x .input ≤ 32
+    pub held-input : (v : ℕ) → v ≡ x .input → v ≤ 32
     unfolding input
-    held-input = input-few m t (o .tracers-ok .places) h (x .input) read-input
+    held-input v q = input-few m t (o .tracers-ok .places) h v (q ∙ read-input)
 
-    pub held-output : x .output ≤ 32
+    pub held-output : (v : ℕ) → v ≡ x .output → v ≤ 32
     unfolding output
-    held-output = output-few m t (o .tracers-ok .places) h (x .output) read-output
+    held-output v q = output-few m t (o .tracers-ok .places) h v (q ∙ read-output)
 
 -- ---- packets
 
@@ -63,6 +63,14 @@ module _ (m : Image) (x : ℕ) (b : Bool) (e : b ≡ hasEntries m x) (q : b ≡ 
   unfolding hasEntries
   entries-count = ltb-true 0 (count m (x - 1)) (every-use _ (sym e ∙ q) 1)
 
+-- the input packet, by its number + 1
+module _ (m : Image) (t : ℕ) (x : Tracer) (e : x ≡ tracerAt m t) (v : ℕ) (f : v ≡ x .input) (b : Bool) (g : b ≡ hasEntries m v) (q : b ≡ true) where
+  pub input-packet : Lines m → t < 8 → v - 1 < 32
+  input-packet o h = omega (arith, held-input m t x e o h v f, entries-packet m v b g q)
+
+  pub input-is : input m t ≡ suc (v - 1)
+  input-is = omega (arith, read-input m t x e, entries-packet m v b g q)
+
 pub tidy : (m : Image) (p : ℕ) → Lines m → p < 32 → Tidy m p
 unfolding count
 tidy m p o h = record { gap = o .packets-ok .gap p h; few = o .packets-ok .few p h }
@@ -74,6 +82,9 @@ module _ (w k : ℕ) (ws : List ℕ) (p g : ℕ) (n : Image) (r : LastOff (image
       let c : ℕ = count (imageOf w k ws) p - 1 in
       let s = o .marks-ok .on-starts g (o .packets-ok .full p c g (record { is-packet = h; below = omega arith; is-entry = sym (r .is-last) })) in
       s .0
+
+  pub popped-card : Lines (imageOf w k ws) → p < 32 → 0 < count (imageOf w k ws) p → g / 64 < k
+  popped-card o h l = omega (arith, popped-in o h l)
 
 module _ (m : Image) (t p g : ℕ) (n : Image) (i : input m t ≡ suc p) (r : LastOff m p g n) (b : Bool) (e : b ≡ dirty n (g / 64)) where
   same-dirty : dirty m (g / 64) ≡ b

@@ -1,3 +1,4 @@
+
 use Rattle.collector_laws.proofs.Steps.{clean-refused, clean-goes}
 use borrow.Author.Needs.{needs}
 use Rattle.collector.proofs.cleaning.clean.Statement.{statement}

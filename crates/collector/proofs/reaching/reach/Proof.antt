@@ -1,3 +1,4 @@
+
 use borrow.Author.Needs.{needs}
 use Rattle.collector_laws.proofs.Reaching.{start-in, reach-nil, reach-marked, reach-new, marked-lines, taken-lines, taken-spare}
 use Rattle.collector.proofs.reaching.reach.Statement.{statement}
@@ -16,7 +17,7 @@ set-mark-requires : tie.Need-set-mark-requires
 set-mark-requires c κs = (search needs, search start-in)
 
 take-output-requires : tie.Need-take-output-requires
-take-output-requires c κs = let B = c .before .before .before .before .before .before .before .before in (search needs, (marked-lines _ (B .before .before .args .t) _ (B .if1 .left) _ (c .before .before .before .set-mark .ensures) (B .before .before .pre .1 .0) (B .before .before .pre .1 .1 .0), search needs))
+take-output-requires c κs = (search needs, (marked-lines _ _ _ (c .before .before .before .set-mark .ensures) (search needs) (search needs) (search needs), search needs))
 
 enter-requires : tie.Need-enter-requires
 enter-requires c κs = (search needs, (search taken-lines, (search taken-spare, (search needs, search start-in))))

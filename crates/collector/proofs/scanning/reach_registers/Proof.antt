@@ -19,13 +19,13 @@ loop-holds : tie.Need-loop-holds Inv-loop μ-loop
 loop-holds c = (omega arith, refl, scan-first _ _ _ (c .before .pre .1 .0))
 
 reach-requires : tie.Need-reach-requires Inv-loop μ-loop
-reach-requires c κs = let L = c .before .before .before .before .loop in (search needs, (L .inv .2 .lines, (scan-reg _ _ _ _ _ (L .inv .2) _ (c .before .reg .ensures), search needs)))
+reach-requires c κs = (search needs, (search needs, (search scan-reg, search needs)))
 
 loop-again : tie.Need-loop-again Inv-loop μ-loop
-loop-again c = let L = c .before .before .before .before .before .before .before .loop in let A = c .before .before .before .before .before .before .before .before .before .pre .1 .1 in (omega arith, search needs, scan-more _ _ _ _ _ (L .inv .2) _ (c .before .before .before .before .reg .ensures) (A .0) (A .1) (omega arith) _ (c .before .before .reach .ensures))
+loop-again c = (omega arith, search needs, search scan-more)
 
 returns : tie.Need-returns Inv-loop μ-loop
-returns c = let L = c .before .loop in scan-end _ _ _ _ _ (L .inv .2) (omega arith) (omega arith)
+returns c = search scan-end
 
 pub reach-registers-spec : {M : Type 1} → statement M
 reach-registers-spec =

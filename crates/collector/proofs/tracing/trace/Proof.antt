@@ -1,3 +1,4 @@
+
 use Rattle.collector_laws.proofs.Steps.{trace-refused, trace-goes}
 use borrow.Author.Needs.{needs}
 use Rattle.collector.proofs.tracing.trace.Statement.{statement}
