@@ -1,0 +1,42 @@
+-- Width, cards and sections of the image that a slice holds, and the lengths of those that are not the same for all stores.
+use mathlib.Core.Path.{_≡_, refl, ap, _∙_}
+use mathlib.Core.Logic.{_⊎_}
+use mathlib.Core.List.{List, map}
+use Prim.Native.Nat.{ℕ, _*_, _/_}
+use lib.ListN.{length, getD}
+use Rattle.model.specs.Image.{image, imageOf, sections, lengths, startsAt, marksAt, cardsAt}
+use Rattle.model.proofs.Words.{width-cases}
+use Rattle.image_laws.specs.Sized.{Sized}
+use Rattle.image_laws.proofs.Sections.{image-fits}
+
+pub width-image : (w k : ℕ) (ws : List ℕ) → imageOf w k ws .width ≡ w
+unfolding imageOf image
+width-image w k ws = refl
+
+pub cards-image : (w k : ℕ) (ws : List ℕ) → imageOf w k ws .k ≡ k
+unfolding imageOf image
+cards-image w k ws = refl
+
+module _ {w k : ℕ} {ws : List ℕ} (z : Sized w k ws) where
+  pub sized-width : (w ≡ 16) ⊎ (w ≡ 32)
+  sized-width = width-cases w k (z .low) (z .high)
+
+  -- a slice of the same length
+  pub sized-as : {vs : List ℕ} → length vs ≡ length ws → Sized w k vs
+  sized-as e = record { low = z .low; high = z .high; long = e ∙ z .long }
+
+  long-section : (i : ℕ) → getD (map length (sections (imageOf w k ws))) i 0 ≡ getD (lengths w k) i 0
+  unfolding imageOf image
+  long-section i = ap (λ (l : List ℕ). getD l i 0) (image-fits z .section-lengths)
+
+  pub starts-words : length (imageOf w k ws .starts) ≡ 64 * k / w
+  unfolding sections
+  starts-words = long-section startsAt
+
+  pub marks-words : length (imageOf w k ws .marks) ≡ 64 * k / w
+  unfolding sections
+  marks-words = long-section marksAt
+
+  pub cards-words : length (imageOf w k ws .cards) ≡ k
+  unfolding sections
+  cards-words = long-section cardsAt
