@@ -21,6 +21,7 @@ use Rattle.image_laws.proofs.Lengths.{cards-image}
 use Rattle.image_laws.proofs.Sections.{image-fits}
 
 pub record Fit (k : ℕ) (m : Image) : Type 0 where
+  pub number : m .k ≡ k
   pub world : World k m
   pub zeroth : markBit m 0 ≡ 0
   pub marks : (g : ℕ) → markBit m g ≡ 1 → (g < 64 * k) × (startBit m g ≡ 1)
@@ -85,6 +86,7 @@ module _ (m : Image) (o : Lines m) where
   unfolding isStart
   lines-fit =
       record {
+        number = refl;
         world = world;
         zeroth = ⊎-elim (λ z. z) (λ z. absurd (omega (arith, mark-start 0 z, digit-off (o .heap-ok .unused)))) (digit-two (marked m 0));
         marks = mark-start;

@@ -16,7 +16,7 @@ use Rattle.finish_marking_laws.proofs.seeds.Bared.{same-section}
 use Rattle.image_laws.specs.Digits.{markBit, startBit}
 use Rattle.image_laws.proofs.Digits.{digit-two, digit-on, digit-off, same-digit, on-digit, off-digit}
 
-module _ (k : ℕ) (m m3 m4 m5 : Image) (h : ℕ) (kk : m .k ≡ k) (f : Fit k m) (d : Bared m m3 (Dues k m)) (o : Opened m3 m4 (Upto (HeldAt (m3 .regs) (markBit m3)) 256)) (t : ListedAll k m4 m5 h) where
+module _ {k : ℕ} {m m3 m4 m5 : Image} {h : ℕ} (f : Fit k m) (d : Bared m m3 (Dues k m)) (o : Opened m3 m4 (Upto (HeldAt (m3 .regs) (markBit m3)) 256)) (t : ListedAll k m4 m5 h) where
   mark3 : (g : ℕ) → markBit m3 g ≡ markBit m g
   mark3 g = ap (λ (w : ℕ → ℕ). w g) (d .marks)
 
@@ -122,7 +122,7 @@ module _ (k : ℕ) (m m3 m4 m5 : Image) (h : ℕ) (kk : m .k ≡ k) (f : Fit k m
   unfolding granules
   reach-found (seed g i q l e n) =
       ⊎-elim
-      (λ p. found-due g i (rw kk (f .marks g (p .0) .0)) (on-digit _ (p .0)) (p .1) (rw (links5 g) at l) (sym (link5 g i) ∙ e) n)
+      (λ p. found-due g i (rw (f .number) (f .marks g (p .0) .0)) (on-digit _ (p .0)) (p .1) (rw (links5 g) at l) (sym (link5 g i) ∙ e) n)
       (λ p. found-link g i (found-held g (p .0)) (off-digit _ (p .1)) (rw (links5 g) at l) (sym (link5 g i) ∙ e) n)
       (pending-from g q)
   reach-found (follow g i r u l e n) = found-link g i (reach-found r) (off-digit _ (unmarked g u (digit-two (marked m g)))) (rw (links5 g) at l) (sym (link5 g i) ∙ e) n
