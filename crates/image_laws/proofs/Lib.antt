@@ -4,8 +4,8 @@ pub mod Clearing
 pub mod Size
 pub mod Masks
 pub mod Trailing
+pub mod Places
 pub mod Bits
 pub mod Fresh
 pub mod Parts
-pub mod Places
 pub mod Cards
