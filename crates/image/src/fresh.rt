@@ -4,8 +4,6 @@ ghost use Rattle.model.specs.Undamaged.{freshStore, freshAt};
 ghost use Rattle.image_laws.specs.Sized.{Sized};
 ghost use Rattle.image_laws.specs.Fresh.{madeOf};
 ghost use Rattle.image.specs.Layout.{width};
-use crate::layout::FIRST_RUN;
-use crate::layout::PER_CARD;
 use crate::layout::Word;
 
 pub fn make_fresh(im: &mut [Word], k: usize)
@@ -13,8 +11,8 @@ pub fn make_fresh(im: &mut [Word], k: usize)
     ensures { λ _. ⌜ now (im .exit) ≡ freshStore width k ⌝ }
 {
     crate::clearing::clear(im);
-    im[4] = (64 * k - 1) as Word;
-    im[PER_CARD * k + FIRST_RUN] = 1;
+    crate::sections::set_word(im, k, 1, 0, (64 * k - 1) as Word);
+    crate::sections::set_first_run(im, k, 1);
 }
 
 // "Making one overwrites a slice of fitting length and gives 0, else gives 1 and writes nothing."

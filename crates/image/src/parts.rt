@@ -8,7 +8,7 @@ ghost use Rattle.image_laws.specs.Sized.{Sized};
 ghost use Rattle.image.specs.Layout.{width};
 use crate::layout::BEHIND;
 use crate::layout::CARDS;
-use crate::layout::FIRST_RUN;
+use crate::layout::GENERAL;
 use crate::layout::MARKS;
 use crate::layout::PACKETS;
 use crate::layout::PER_CARD;
@@ -69,7 +69,7 @@ pub fn zero_spares(im: &[Word], k: usize) -> bool
     requires { ⌜ Sized width k (now im) ⌝ }
     ensures { λ r. ⌜ r ≡ zeroes (take 6 (drop 2 (imageOf width k (now (im .entry)) .general))) ⌝ }
 {
-    let a = PER_CARD * k + FIRST_RUN + 1;
+    let a = PER_CARD * k + GENERAL + 2;
     let e = PER_CARD * k + BEHIND;
     zeros(&im[a..e])
 }

@@ -8,9 +8,9 @@ use Rattle.model.specs.Image.{imageOf, image, isStart, marked, Image, withStart
 use Rattle.image_laws.specs.Bits.{withoutBit, clearBit, clearStart}
 use Rattle.image_laws.specs.Sized.{Sized}
 use Rattle.image_laws.proofs.Places.{place-word, place-bit}
-use Rattle.image_laws.proofs.Sections.{starts-length, marks-length}
 use Rattle.model.proofs.Bits.{bit-past}
 use native.Mathlib.Nat.{zero-div}
+use Rattle.image_laws.proofs.Lengths.{starts-words, marks-words}
 
 module _ (w k : ℕ) (ws : List ℕ) (g x : ℕ) (b : Bool) where
   pub start-read : x ≡ nth (imageOf w k ws .starts) (g / w) → b ≡ testBit x (g % w) → b ≡ isStart (imageOf w k ws) g
@@ -48,8 +48,8 @@ zero-bit x j e = rw (e, zero-div (2 ^ j))
 module _ (w k : ℕ) (ws : List ℕ) (z : Sized w k ws) (g : ℕ) (h : 64 * k ≤ g) where
   pub start-past : isStart (imageOf w k ws) g ≡ false
   unfolding isStart imageOf image
-  start-past = bit-past w (64 * k) (imageOf w k ws .starts) g (starts-length z) h
+  start-past = bit-past w (64 * k) (imageOf w k ws .starts) g (starts-words z) h
 
   pub mark-past : marked (imageOf w k ws) g ≡ false
   unfolding marked imageOf image
-  mark-past = bit-past w (64 * k) (imageOf w k ws .marks) g (marks-length z) h
+  mark-past = bit-past w (64 * k) (imageOf w k ws .marks) g (marks-words z) h

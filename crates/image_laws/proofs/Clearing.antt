@@ -3,9 +3,9 @@ use borrow.Rule.Slice.PartMut.{midOf, putMid, mid-len}
 use mathlib.Core.List.{append-assoc, append-nil, List, [], _++_}
 use Rattle.image_laws.specs.Clearing.{zeroed}
 use Rattle.image_laws.specs.Sized.{Sized}
-use Rattle.image_laws.proofs.Split.{place, split-length, split-sets, split-part}
+use Rattle.image_laws.proofs.Split.{split-length, split-sets, split-part}
 use Rattle.model.specs.Base.{zeros}
-use Rattle.model.specs.Image.{lengths, split, image, imageOf, withHeap, withMarks, withCards, withPackets, withTracers}
+use Rattle.model.specs.Image.{place, lengths, split, image, imageOf, withHeap, withMarks, withCards, withPackets, withTracers}
 use Prim.Native.Nat.{ℕ, _+_, _*_, _-_, _≤_, _<_}
 use mathlib.Core.Path.{_≡_, sym, ap, _∙_}
 use native.Mathlib.Omega.{arith}
@@ -58,7 +58,7 @@ module _ (w k : ℕ) (ws : List ℕ) (s a e : ℕ) (at-place : place (lengths w 
 -- words a to e - 1 of the heap
 module _ (w k : ℕ) (ws v : List ℕ) (z : Sized w k ws) where
   pub zero-heap : (a e : ℕ) → a ≤ e → e ≤ 256 * k → v ≡ replicate (length (midOf a (e - a) ws)) 0 → imageOf w k (putMid a (e - a) ws v) ≡ withHeap (imageOf w k ws) (zeroed a e (imageOf w k ws .heap))
-  unfolding imageOf image lengths split withHeap
+  unfolding imageOf image split withHeap
   zero-heap a e h l q =
       let s : a + (e - a) ≡ e = omega arith in
       rw s at (zero-section w k ws 0 a (e - a) a e (omega arith) (omega arith) (omega arith) (omega (arith, z .long)) v q)

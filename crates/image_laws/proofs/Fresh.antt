@@ -1,30 +1,23 @@
 -- A fresh store, as the words are written.
-use mathlib.Core.Path.{_≡_}
-use mathlib.Core.List.{List, _∷_, _++_}
+use mathlib.Core.Path.{_≡_, sym, _∙_}
+use mathlib.Core.List.{List}
 use Rattle.image_laws.specs.declared.Extent.{Extent}
 use Rattle.image_laws.specs.declared.Extent.the-variants.{Cards, Misfit}
-use Prim.Native.Nat.{ℕ, _+_, _*_, _-_, _/_, _≤_}
+use Prim.Native.Nat.{ℕ, _*_, _-_}
 use Rattle.image_laws.specs.Fresh.{madeOf}
 use Rattle.image_laws.specs.Size.{extentOf}
 use Rattle.image_laws.proofs.Size.{sized-cards, misfit-fits, cards-fits, cards-sized}
-use Rattle.model.specs.Image.{imageLength}
+use Rattle.model.specs.Image.{imageLength, imageOf, setWord, setFirstRun}
 use Rattle.model.specs.Undamaged.{freshStore, made, freshAt}
-use native.Mathlib.Omega.{arith}
-use lib.ListN.{length, set, replicate, length-replicate, replicate-append-replicate}
-use lib.Seq.{set-at}
+use lib.ListN.{length, replicate}
+use Rattle.image_laws.specs.Sized.{Sized}
+use Rattle.image_laws.proofs.Sections.{words-image}
 
--- o is the place of the first free run
-pub fresh-words : (w k n o : ℕ) → 1 ≤ k → n ≡ imageLength w k → n ≡ o + 7 → set (set (replicate n 0) 4 (64 * k - 1)) o 1 ≡ freshStore w k
-unfolding freshStore
-fresh-words w k n o h e f =
-    let m : ℕ = imageLength w k - 13 in
-    let a : ℕ = 64 * k - 1 in
-    let z : ℕ = 0 in
-    let p : List ℕ = z ∷ z ∷ z ∷ z ∷ a ∷ z ∷ replicate m z in
-    let en : 6 + m + 7 ≡ n = omega arith in
-    let r : replicate n z ≡ (z ∷ z ∷ z ∷ z ∷ z ∷ z ∷ replicate m z) ++ (z ∷ replicate 6 z) =
-    rw (← en, ← (replicate-append-replicate (6 + m) 7 z), ← (replicate-append-replicate 6 m z)) in
-    rw r (set-at p z (replicate 6 z) 1 o (omega (arith, length-replicate m z)))
+-- a slice of zeros with the run's length and the first free run written
+module _ (w k : ℕ) (ws zs us vs : List ℕ) where
+  pub fresh-words : Sized w k ws → length vs ≡ length ws → zs ≡ replicate (length ws) 0 → imageOf w k us ≡ setWord (imageOf w k zs) 1 0 (64 * k - 1) → imageOf w k vs ≡ setFirstRun (imageOf w k us) 1 → vs ≡ freshStore w k
+  unfolding freshStore
+  fresh-words y l e f g = sym (words-image (record { low = y .low; high = y .high; long = l ∙ y .long })) ∙ rw (g, f, e, y .long)
 
 module _ (w : ℕ) (ws : List ℕ) (s : Extent) (e : s ≡ extentOf w (length ws)) where
   pub fresh-misfit : s ≡ Misfit → madeOf 1 ws ≡ freshAt w ws

@@ -3,9 +3,13 @@ pub mod Sections
 pub mod Clearing
 pub mod Size
 pub mod Masks
+pub mod Digits
 pub mod Trailing
 pub mod Places
 pub mod Bits
 pub mod Fresh
 pub mod Parts
 pub mod Cards
+pub mod Words
+pub mod Lengths
+pub mod Loops

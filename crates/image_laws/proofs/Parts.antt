@@ -1,8 +1,8 @@
 -- Parts of the slice read as a whole: words that are 0, gathered by a loop.
 use Rattle.image_laws.specs.Parts.{isZero}
-use Rattle.image_laws.proofs.Split.{place, split-part}
+use Rattle.image_laws.proofs.Split.{split-part}
 use Rattle.model.specs.Base.{nth, all, zeroes}
-use Rattle.model.specs.Image.{lengths, split}
+use Rattle.model.specs.Image.{place, lengths, split}
 use Prim.Native.Nat.{ℕ, zero, suc, _+_, _-_, _≤_, _<_}
 use mathlib.Core.Path.{_≡_, refl, sym, ap, _∙_}
 use mathlib.Core.Bool.{Bool, true, _&&_, and-true, and-assoc}
@@ -16,6 +16,7 @@ use lib.Bits.{bitOr, and-le-l, and-le-r, or-add-and}
 use native.Mathlib.Numerals.{add-one}
 use native.Mathlib.Decide.{ℕ-discrete}
 use Rattle.model.proofs.Entries.{nth-drop, nth-take}
+use Rattle.model.specs.Examples.{at}
 
 -- ---- all of the numbers below n
 
@@ -80,7 +81,6 @@ split-is (n ∷ ns) ws zero h = refl
 split-is (n ∷ ns) ws (suc s) h = split-is ns (drop n ws) s (omega arith) ∙ rw (drop-drop (place ns s) n ws)
 
 sections-nine : (w k s : ℕ) → s < 9 → s < length (lengths w k)
-unfolding lengths
 sections-nine w k s l = l
 
 -- words o to e - 1 are section s

@@ -1,15 +1,14 @@
 -- The sections of an image, for words of any width: their places among the words, and their words read and written there.
-use mathlib.Core.Path.{_≡_, sym, ap, refl}
-use mathlib.Core.List.{List, [], map}
-use Prim.Native.Nat.{ℕ, _+_, _*_, _<_, _/_}
+use mathlib.Core.Path.{_≡_, sym, ap, _∙_, refl}
+use mathlib.Core.List.{List, []}
+use Prim.Native.Nat.{ℕ, _+_, _*_, _<_, _≤_}
 use native.Mathlib.Omega.{arith}
 use lib.ListN.{getD, set, length}
 use Rattle.model.specs.Base.{nth, put}
-use Rattle.model.specs.Image.{lengths, split, image, imageOf, sections, words, granules, heapAt, startsAt, marksAt, packetsAt, generalAt}
+use Rattle.model.specs.Image.{place, total, mostCards, lengths, split, image, imageOf, sections, words, granules}
 use Rattle.image_laws.specs.Sized.{Sized}
-use Rattle.image_laws.proofs.Split.{place, split-get, split-put}
-use Rattle.model.proofs.Words.{Fits, total, join-split, split-lengths}
-use lib.Pow.{high, low}
+use Rattle.image_laws.proofs.Split.{split-get, split-put, split-length}
+use Rattle.model.proofs.Words.{Fits, join-split, split-lengths}
 
 -- word i of section s, which is word o
 module _ (w k : ℕ) (ws : List ℕ) (s i o : ℕ) (h : i < getD (lengths w k) s 0) (at-place : place (lengths w k) s + i ≡ o) where
@@ -24,42 +23,16 @@ module _ (w k : ℕ) (ws : List ℕ) (s i o : ℕ) (h : i < getD (lengths w k) s
 
 module _ {w k : ℕ} {ws : List ℕ} (z : Sized w k ws) where
   whole : length ws ≡ total (lengths w k)
-  unfolding lengths
   whole = omega (arith, z .long)
 
   pub words-image : words (imageOf w k ws) ≡ ws
-  unfolding imageOf image words sections lengths split
+  unfolding imageOf image words sections split
   words-image = join-split (lengths w k) ws whole
 
   -- the sections have their lengths
   pub image-fits : Fits (imageOf w k ws)
-  unfolding imageOf image sections lengths split
+  unfolding imageOf image sections split
   image-fits = record { some-card = z .low; few-cards = z .high; section-lengths = split-lengths (lengths w k) ws whole }
-
-module _ {w k : ℕ} {ws : List ℕ} (z : Sized w k ws) where
-  section-long : (s : ℕ) → getD (map length (sections (imageOf w k ws))) s 0 ≡ getD (lengths w k) s 0
-  unfolding imageOf image
-  section-long s = ap (λ l. getD l s 0) (image-fits z .section-lengths)
-
-  pub heap-length : length (imageOf w k ws .heap) ≡ 256 * k
-  unfolding sections lengths
-  heap-length = section-long heapAt
-
-  pub starts-length : length (imageOf w k ws .starts) ≡ 64 * k / w
-  unfolding sections lengths
-  starts-length = section-long startsAt
-
-  pub marks-length : length (imageOf w k ws .marks) ≡ 64 * k / w
-  unfolding sections lengths
-  marks-length = section-long marksAt
-
-  pub packets-length : length (imageOf w k ws .packets) ≡ 1024
-  unfolding sections lengths
-  packets-length = section-long packetsAt
-
-  pub general-length : length (imageOf w k ws .general) ≡ 8
-  unfolding sections lengths
-  general-length = section-long generalAt
 
 pub granules-image : (w k : ℕ) (ws : List ℕ) → granules (imageOf w k ws) ≡ 64 * k
 unfolding granules imageOf image

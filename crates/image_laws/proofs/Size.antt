@@ -17,47 +17,48 @@ use Rattle.image_laws.specs.declared.Extent.the-variants.{Cards, Misfit}
 use Rattle.image_laws.specs.Size.{extentBy, extentOf}
 use Rattle.image_laws.specs.Sized.{Sized}
 
--- ---- the ways out of `cards`, where a card has u words and a store at most `most` cards
+-- ---- the ways out of `cards`, where a card has u words, r words lie behind, and a store has at most `most` cards
 
-module _ (w u most n : ℕ) (per : (k : ℕ) → imageLength w k ≡ u * k + 1384) (lim : mostCards w ≡ most) (pos : 1 ≤ u) where
-  quotient : cardsOf w n ≡ (n - 1384) / u
+module _ (w u r most n : ℕ) (per : (k : ℕ) → imageLength w k ≡ u * k + r) (lim : mostCards w ≡ most) (pos : 1 ≤ u) where
+  quotient : cardsOf w n ≡ (n - r) / u
   unfolding cardsOf
   quotient =
-      let e : imageLength w 1 - 1384 ≡ u = omega (arith, per 1) in
-      rw e
+      let z : imageLength w 0 ≡ r = per 0 ∙ omega arith in
+      let e : imageLength w 1 - imageLength w 0 ≡ u = omega (arith, per 1, per 0) in
+      rw (e, z)
 
-  fits-by : fits w n ≡ every (leb 1 ((n - 1384) / u) ∷ leb ((n - 1384) / u) most ∷ eqb n (u * ((n - 1384) / u) + 1384) ∷ [])
+  fits-by : fits w n ≡ every (leb 1 ((n - r) / u) ∷ leb ((n - r) / u) most ∷ eqb n (u * ((n - r) / u) + r) ∷ [])
   unfolding fits
   fits-by = rw (quotient, lim, per)
 
-  size-by : (b : Bool) → every (leb 1 ((n - 1384) / u) ∷ leb ((n - 1384) / u) most ∷ eqb n (u * ((n - 1384) / u) + 1384) ∷ []) ≡ b → extentBy b ((n - 1384) / u) ≡ extentOf w n
+  size-by : (b : Bool) → every (leb 1 ((n - r) / u) ∷ leb ((n - r) / u) most ∷ eqb n (u * ((n - r) / u) + r) ∷ []) ≡ b → extentBy b ((n - r) / u) ≡ extentOf w n
   unfolding extentOf
   size-by b e = rw (fits-by, e, quotient)
 
-  some-cards : u + 1384 ≤ n → 1 ≤ (n - 1384) / u
+  some-cards : u + r ≤ n → 1 ≤ (n - r) / u
   some-cards h = le-div-iff-mul-le pos .1 (omega arith)
 
-  pub cards-few : n < u + 1384 → Misfit ≡ extentOf w n
+  pub cards-few : n < u + r → Misfit ≡ extentOf w n
   unfolding extentBy every
   cards-few h =
-      let z : (n - 1384) / u ≡ 0 = div-eq-of-lt (omega arith) in
-      size-by false (rw (lt-leb 1 ((n - 1384) / u) (omega arith)))
+      let z : (n - r) / u ≡ 0 = div-eq-of-lt (omega arith) in
+      size-by false (rw (lt-leb 1 ((n - r) / u) (omega arith)))
 
-  pub cards-many : most < (n - 1384) / u → Misfit ≡ extentOf w n
+  pub cards-many : most < (n - r) / u → Misfit ≡ extentOf w n
   unfolding extentBy every
-  cards-many h = size-by false (rw (le-leb 1 ((n - 1384) / u) (omega arith), lt-leb ((n - 1384) / u) most h))
+  cards-many h = size-by false (rw (le-leb 1 ((n - r) / u) (omega arith), lt-leb ((n - r) / u) most h))
 
-  pub cards-odd : u + 1384 ≤ n → (n - 1384) / u ≤ most → (u * ((n - 1384) / u) + 1384 ≡ n → ⊥) → Misfit ≡ extentOf w n
+  pub cards-odd : u + r ≤ n → (n - r) / u ≤ most → (u * ((n - r) / u) + r ≡ n → ⊥) → Misfit ≡ extentOf w n
   unfolding extentBy every
   cards-odd h l q =
-      let k : ℕ = (n - 1384) / u in
-      size-by false (rw (le-leb 1 k (some-cards h), le-leb k most l, ne-eqb n (u * k + 1384) (λ e. q (sym e))))
+      let k : ℕ = (n - r) / u in
+      size-by false (rw (le-leb 1 k (some-cards h), le-leb k most l, ne-eqb n (u * k + r) (λ e. q (sym e))))
 
-  pub cards-fit : u + 1384 ≤ n → (n - 1384) / u ≤ most → u * ((n - 1384) / u) + 1384 ≡ n → Cards ((n - 1384) / u) ≡ extentOf w n
+  pub cards-fit : u + r ≤ n → (n - r) / u ≤ most → u * ((n - r) / u) + r ≡ n → Cards ((n - r) / u) ≡ extentOf w n
   unfolding extentBy every
   cards-fit h l q =
-      let k : ℕ = (n - 1384) / u in
-      size-by true (rw (le-leb 1 k (some-cards h), le-leb k most l, eq-eqb n (u * k + 1384) (sym q)))
+      let k : ℕ = (n - r) / u in
+      size-by true (rw (le-leb 1 k (some-cards h), le-leb k most l, eq-eqb n (u * k + r) (sym q)))
 
 -- ---- what the answer says
 

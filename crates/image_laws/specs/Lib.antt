@@ -4,3 +4,4 @@ pub mod Bits
 pub mod Clearing
 pub mod Fresh
 pub mod Parts
+pub mod Digits

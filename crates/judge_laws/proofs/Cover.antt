@@ -16,7 +16,6 @@ use Rattle.model.specs.Undamaged.{linkToCome, granuleToCome, owedWith, covered,
 use Rattle.model.proofs.Laws.{false≢, all-use, all-make}
 use Rattle.judge_laws.specs.Order.{handComes, cardComes, holds, owesHolding, plain, coming, late, objectCovered, Coverable}
 use Rattle.model.specs.Cases.{ok}
-use Rattle.model.proofs.Words.{width-cases}
 use Rattle.image_laws.specs.Bits.{withoutBit}
 use Rattle.image_laws.specs.Sized.{Sized}
 use Rattle.image_laws.proofs.Bits.{bit-at, zero-bit}
@@ -30,6 +29,8 @@ use Rattle.soundness_laws.proofs.Loops.{all-pick}
 use Rattle.soundness_laws.proofs.Marks.{by-words}
 use mathlib.Core.Logic.{_⊎_, inl, inr}
 use lib.Pow.{high}
+use Rattle.model.specs.Examples.{at}
+use Rattle.image_laws.proofs.Lengths.{sized-width}
 
 -- ---- seven lines in another order
 
@@ -121,14 +122,14 @@ module _ (w k : ℕ) (l : List ℕ) (z : Sized w k l) (i x : ℕ) where
       few (inr e) = omega arith
 
       low : Lowest w x (trailingZeros 64 x)
-      low = word-lowest w x (few (width-cases w k (z .low) (z .high))) (s .small) nz
+      low = word-lowest w x (few (sized-width z)) (s .small) nz
 
       pub taken-low : trailingZeros 64 x < w
       taken-low = low .within
 
       pub taken-place : i < 64 * k / w → (w * i + trailingZeros 64 x < 64 * k) × (marked (imageOf w k l) (w * i + trailingZeros 64 x) ≡ true)
       taken-place h =
-          (rw (words-full w k (width-cases w k (z .low) (z .high))) at (place-in w i (trailingZeros 64 x) (low .within) (64 * k / w) h), s .are-marked _ (low .within) (low .is-set))
+          (rw (words-full w k (sized-width z)) at (place-in w i (trailingZeros 64 x) (low .within) (64 * k / w) h), s .are-marked _ (low .within) (low .is-set))
 
       pub taken-less : withoutBit x (trailingZeros 64 x) < x
       taken-less = withoutBit-less x _ (low .is-set)
@@ -214,4 +215,4 @@ module _ (m : Image) where
 
 -- a granule has its bit in the set
 pub set-place : (w k : ℕ) (l : List ℕ) (g : ℕ) (set : List ℕ) → Sized w k l → EnteredSet w (imageOf w k l) set → g < 64 * k → g / w < length set
-set-place w k l g set z es h = rw (es .long) (word-in w (mostCards w) (width-cases w k (z .low) (z .high)) g (omega (arith, z .high)))
+set-place w k l g set z es h = rw (es .long) (word-in w (mostCards w) (sized-width z) g (omega (arith, z .high)))

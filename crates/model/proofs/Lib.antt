@@ -1,4 +1,5 @@
 pub mod Laws
+pub mod Rows
 pub mod Bits
 pub mod Closure
 pub mod Words

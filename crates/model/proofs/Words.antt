@@ -1,22 +1,21 @@
 -- An image is its words, and words of fitting length are an image: both round trips.
-use mathlib.Core.Path.{_≡_, refl, sym, ap, _∙_}
+use mathlib.Core.Path.{_≡_, refl, sym, ap, subst, _∙_}
 use mathlib.Core.Logic.{_⊎_, inl, inr}
 use mathlib.Core.Bool.{Bool, true, false, cond}
-use mathlib.Core.List.{List, [], _∷_, map}
-use Prim.Native.Nat.{ℕ, _+_, _≤_}
+use mathlib.Core.List.{List, [], _∷_, _++_, map}
+use Prim.Native.Nat.{ℕ, zero, suc, _+_, _*_, _-_, _≤_, _<_}
+use native.Mathlib.Nat.{add-assoc, zero-add, suc-add}
 use native.Mathlib.Omega.{arith}
 use lib.Dec.{eqb}
-use lib.ListN.{length, drop, length-drop, length-append, take-append-drop}
-use lib.Seq.{take-at, drop-at, length-take-le}
+use lib.ListN.{length, getD, drop, replicate, length-replicate, length-drop, length-append, take-append-drop}
+use lib.Seq.{set-append-left, take-at, drop-at, length-take-le}
 use borrow.Author.Tests.{eqb-true, eq-eqb, leb-true, le-leb}
-use Rattle.model.specs.Image.{Image, lengths, imageLength, mostCards, cardsOf, fits, split, join, sections, image, imageOf, parts, words}
-use Rattle.model.proofs.Laws.{every-use, every-cons, every-nil}
+use Rattle.model.specs.Base.{put}
+use Rattle.model.specs.Image.{Image, heapAt, generalAt, lengths, total, place, imageLength, mostCards, cardsOf, fits, split, join, sections, image, imageOf, parts, words, setSection, withHeap, withGeneral, setWord, setFirstRun}
+use Rattle.model.specs.Undamaged.{freshStore}
+use Rattle.model.proofs.Laws.{every-use, every-cons, every-nil, length-put}
 
 -- ---- lists cut and joined
-
-abbrev pub total : List ℕ → ℕ
-total [] = 0
-total (n ∷ ns) = n + total ns
 
 pub split-join : (ls : List (List ℕ)) → split (map length ls) (join ls) ≡ ls
 unfolding split join
@@ -43,7 +42,6 @@ length-join (l ∷ ls) = omega (arith, length-append l (join ls), length-join ls
 
 -- a store has words of 16 or 32 bits
 pub width-cases : (w k : ℕ) → 1 ≤ k → k ≤ mostCards w → (w ≡ 16) ⊎ (w ≡ 32)
-unfolding mostCards
 width-cases w k l h = go (eqb w 16) refl (eqb w 32) refl h
   where
     go : (a : Bool) → eqb w 16 ≡ a → (b : Bool) → eqb w 32 ≡ b → k ≤ cond a 512 (cond b 65536 0) → (w ≡ 16) ⊎ (w ≡ 32)
@@ -53,13 +51,13 @@ width-cases w k l h = go (eqb w 16) refl (eqb w 32) refl h
 
 -- the number of cards comes back from the length
 pub cards-length : (w k : ℕ) → (w ≡ 16) ⊎ (w ≡ 32) → cardsOf w (imageLength w k) ≡ k
-unfolding cardsOf imageLength
+unfolding cardsOf
 cards-length w k (inl e) = rw e (omega arith)
 cards-length w k (inr e) = rw e (omega arith)
 
-pub total-lengths : (w k : ℕ) → total (lengths w k) ≡ imageLength w k
-unfolding lengths imageLength
-total-lengths w k = omega arith
+-- "Its length is 265 × k + 1384 words", with words of 16 bits
+pub length-sixteen : (k : ℕ) → imageLength 16 k ≡ 265 * k + 1384
+length-sixteen k = omega arith
 
 -- ---- the round trips
 
@@ -71,16 +69,16 @@ pub record Fits (m : Image) : Type 0 where
 
 -- words of fitting length are an image that fits
 pub parts-fit : (w : ℕ) (ws : List ℕ) → fits w (length ws) ≡ true → Fits (parts w ws)
-unfolding parts imageOf image sections split lengths fits
+unfolding parts imageOf image sections split fits
 parts-fit w ws e = record {
   some-card = leb-true _ _ (every-use _ e 0);
   few-cards = leb-true _ _ (every-use _ e 1);
-  section-lengths = split-lengths (lengths w (cardsOf w (length ws))) ws (eqb-true _ _ (every-use _ e 2) ∙ sym (total-lengths w (cardsOf w (length ws))));
+  section-lengths = split-lengths (lengths w (cardsOf w (length ws))) ws (eqb-true _ _ (every-use _ e 2));
 }
 
 pub length-words : (m : Image) → Fits m → length (words m) ≡ imageLength (m .width) (m .k)
 unfolding words
-length-words m f = length-join (sections m) ∙ (ap total (f .section-lengths) ∙ total-lengths (m .width) (m .k))
+length-words m f = length-join (sections m) ∙ ap total (f .section-lengths)
 
 pub words-fit : (m : Image) → Fits m → fits (m .width) (length (words m)) ≡ true
 unfolding fits
@@ -94,5 +92,46 @@ parts-words m f =
     rw (length-words m f, cards-length (m .width) (m .k) (width-cases _ _ (f .some-card) (f .few-cards)), ← (f .section-lengths)) (ap (image (m .width) (m .k)) (split-join (sections m)))
 
 pub words-parts : (w : ℕ) (ws : List ℕ) → fits w (length ws) ≡ true → words (parts w ws) ≡ ws
-unfolding parts imageOf words image sections fits split lengths
-words-parts w ws e = join-split (lengths w (cardsOf w (length ws))) ws (eqb-true _ _ (every-use _ e 2) ∙ sym (total-lengths w (cardsOf w (length ws))))
+unfolding parts imageOf words image sections fits split
+words-parts w ws e = join-split (lengths w (cardsOf w (length ws))) ws (eqb-true _ _ (every-use _ e 2))
+
+-- ---- a word written in a section is that word written at its place
+
+put-past : (l r : List ℕ) (i v : ℕ) → put (l ++ r) (length l + i) v ≡ l ++ put r i v
+unfolding put
+put-past [] r i v = rw (zero-add i)
+put-past (x ∷ l) r i v = rw (suc-add (length l) i) (ap (λ y. x ∷ y) (put-past l r i v))
+
+pub join-put : (ls : List (List ℕ)) (s i v : ℕ) → i < length (getD ls s []) → join (setSection ls s (put (getD ls s []) i v)) ≡ put (join ls) (place (map length ls) s + i) v
+unfolding join setSection put
+join-put [] s i v h = absurd (omega arith)
+join-put (l ∷ ls) zero i v h = rw (zero-add i) (sym (set-append-left l (join ls) i v h))
+join-put (l ∷ ls) (suc s) i v h =
+    ap (λ r. l ++ r) (join-put ls s i v h) ∙ rw (add-assoc (length l) (place (map length ls) s) i) (sym (put-past l (join ls) (place (map length ls) s + i) v))
+
+put-lengths : (ls : List (List ℕ)) (s i v : ℕ) → map length (setSection ls s (put (getD ls s []) i v)) ≡ map length ls
+unfolding setSection
+put-lengths [] s i v = refl
+put-lengths (l ∷ ls) zero i v = ap (λ n. n ∷ map length ls) (length-put l i v)
+put-lengths (l ∷ ls) (suc s) i v = ap (λ ns. length l ∷ ns) (put-lengths ls s i v)
+
+-- the words of a fresh store: zeros but for two
+pub fresh-words : (w k : ℕ) → 1 ≤ k → freshStore w k ≡ put (put (replicate (imageLength w k) 0) 4 (64 * k - 1)) (place (lengths w k) generalAt + 1) 1
+unfolding freshStore words sections setFirstRun setWord withGeneral withHeap imageOf image split setSection
+fresh-words w k h =
+    join-put with-run generalAt 1 1 (subst (λ ns. 1 < getD ns generalAt 0) (sym run-lengths) (omega arith))
+    ∙ (ap (λ ns. put (join with-run) (place ns generalAt + 1) 1) run-lengths
+    ∙ ap (λ ws. put ws (place (lengths w k) generalAt + 1) 1)
+    (join-put zeros heapAt 4 (64 * k - 1) (subst (λ ns. 4 < getD ns heapAt 0) (sym zero-lengths) (omega arith)) ∙ ap (λ ws. put ws 4 (64 * k - 1)) (join-split (lengths w k) (replicate (imageLength w k) 0) (length-replicate _ 0))))
+  where
+    zeros : List (List ℕ)
+    zeros = split (lengths w k) (replicate (imageLength w k) 0)
+
+    with-run : List (List ℕ)
+    with-run = setSection zeros heapAt (put (getD zeros heapAt []) 4 (64 * k - 1))
+
+    zero-lengths : map length zeros ≡ lengths w k
+    zero-lengths = split-lengths (lengths w k) (replicate (imageLength w k) 0) (length-replicate _ 0)
+
+    run-lengths : map length with-run ≡ lengths w k
+    run-lengths = put-lengths zeros heapAt 4 (64 * k - 1) ∙ zero-lengths

@@ -1,14 +1,19 @@
 -- Worked images that the starred cases do not reach: a finish on an image without Cover, Cover and its two players, runs joined; and a
 -- history with the plain store beside it.
 use mathlib.Core.List.{List, [], _∷_}
-use Prim.Native.Nat.{ℕ, _*_}
+use Prim.Native.Nat.{ℕ, _+_, _*_}
 use lib.ListN.{length, replicate}
 use Rattle.model.specs.Base.{put}
+use Rattle.model.specs.Image.{heapAt, regsAt, playersAt, lengths, place}
 use Rattle.model.specs.Batch.{Batch, batchOf}
 use Rattle.model.specs.Steps.{Event}
 use Rattle.model.specs.Plain.{made, as-object, as-is, Reply}
 use Rattle.model.specs.Claim.{history}
 use Rattle.model.specs.Cases.{rec, bytes, oneCard}
+
+-- the place of word i of section s, in a store of one card
+unfoldable pub at : ℕ → ℕ → ℕ
+at s i = place (lengths 16 1) s + i
 
 -- the words that some steps leave of a fresh store of one card
 unfoldable pub left : List (List ℕ) → List ℕ
@@ -20,7 +25,7 @@ inHand = left (rec 1 0 0 1 2 ∷ rec 1 1 0 1 0 ∷ rec 9 0 0 0 0 ∷ rec 10 0 0 
 
 -- the same with link 0 of O set to A and no register holding A: undamaged but for Cover
 unfoldable pub linkBehind : List ℕ
-linkBehind = put (put inHand 6 2) 281 0
+linkBehind = put (put inHand (at heapAt 6) 2) (at regsAt 16) 0
 
 -- O = 1 with one link in player 0's r0, A = 2 in player 1's r0; begin, scan player 0, trace three times: O is done
 unfoldable pub traced : List ℕ
@@ -28,11 +33,11 @@ traced = left (rec 1 0 0 1 1 ∷ rec 1 1 0 1 0 ∷ rec 9 0 0 0 0 ∷ rec 10 0 0 
 
 -- O links to A; player 0 owes O's card and player 1 holds A
 unfoldable pub owedByOne : List ℕ
-owedByOne = put (put traced 6 2) 1609 1
+owedByOne = put (put traced (at heapAt 6) 2) (at playersAt 0) 1
 
 -- and player 0 holds A too
 unfoldable pub owedAndHeld : List ℕ
-owedAndHeld = put owedByOne 266 2
+owedAndHeld = put owedByOne (at regsAt 1) 2
 
 -- three objects of one granule, dropped; begin, finish
 unfoldable pub allFreed : List ℕ
@@ -56,5 +61,5 @@ againSaid =
 
 -- opens all of these
 unfoldable pub examples-open : ℕ
-unfolding left inHand linkBehind traced owedByOne owedAndHeld allFreed again againSaid
+unfolding at left inHand linkBehind traced owedByOne owedAndHeld allFreed again againSaid
 examples-open = 0

@@ -21,16 +21,54 @@ pub record Image : Type 0 where
   pub players : List ℕ
   pub general : List ℕ
 
--- ---- lengths
+-- ---- the layout
 
 -- "Heap: 4 × G words", G = 64 × k; "Start bits, then mark bits: G/16 words each"; "Cards, k words"; "Registers: 16 players of 16 words";
 -- "Packets: 32 of 32 words"; "Tracers: 8 of 8 words"; "Players, 16 of 2 words"; "General, 8 words"
-unfoldable pub lengths : ℕ → ℕ → List ℕ
+abbrev pub lengths : ℕ → ℕ → List ℕ
 lengths w k = 256 * k ∷ 64 * k / w ∷ 64 * k / w ∷ k ∷ 256 ∷ 1024 ∷ 64 ∷ 32 ∷ 8 ∷ []
 
--- "Its length is 265 × k + 1384 words", with words of 16 bits
+-- the sections' numbers in this order
+abbrev pub heapAt : ℕ
+heapAt = 0
+
+abbrev pub startsAt : ℕ
+startsAt = suc heapAt
+
+abbrev pub marksAt : ℕ
+marksAt = suc startsAt
+
+abbrev pub cardsAt : ℕ
+cardsAt = suc marksAt
+
+abbrev pub regsAt : ℕ
+regsAt = suc cardsAt
+
+abbrev pub packetsAt : ℕ
+packetsAt = suc regsAt
+
+abbrev pub tracersAt : ℕ
+tracersAt = suc packetsAt
+
+abbrev pub playersAt : ℕ
+playersAt = suc tracersAt
+
+abbrev pub generalAt : ℕ
+generalAt = suc playersAt
+
+-- the sum of some lengths
+abbrev pub total : List ℕ → ℕ
+total [] = 0
+total (n ∷ ns) = n + total ns
+
+-- the place of section s among sections of the given lengths
+abbrev pub place : List ℕ → ℕ → ℕ
+place [] s = 0
+place (n ∷ ns) zero = 0
+place (n ∷ ns) (suc s) = n + place ns s
+
 abbrev pub imageLength : ℕ → ℕ → ℕ
-imageLength w k = 256 * k + 64 * k / w + 64 * k / w + k + 1384
+imageLength w k = total (lengths w k)
 
 -- "A store has k cards, k from 1 to 512", with words of 16 bits; a wide store has words of 32 bits; there is no other
 abbrev pub mostCards : ℕ → ℕ
@@ -38,7 +76,7 @@ mostCards w = cond (eqb w 16) 512 (cond (eqb w 32) 65536 0)
 
 -- the number of cards whose image has n words, where there is one
 unfoldable pub cardsOf : ℕ → ℕ → ℕ
-cardsOf w n = (n - 1384) / (imageLength w 1 - 1384)
+cardsOf w n = (n - imageLength w 0) / (imageLength w 1 - imageLength w 0)
 
 -- n words are the length of an image
 unfoldable pub fits : ℕ → ℕ → Bool
@@ -55,34 +93,6 @@ unfoldable pub join : List (List ℕ) → List ℕ
 join [] = []
 join (l ∷ ls) = l ++ join ls
 
--- the places of the sections among them
-abbrev pub heapAt : ℕ
-heapAt = 0
-
-abbrev pub startsAt : ℕ
-startsAt = 1
-
-abbrev pub marksAt : ℕ
-marksAt = 2
-
-abbrev pub cardsAt : ℕ
-cardsAt = 3
-
-abbrev pub regsAt : ℕ
-regsAt = 4
-
-abbrev pub packetsAt : ℕ
-packetsAt = 5
-
-abbrev pub tracersAt : ℕ
-tracersAt = 6
-
-abbrev pub playersAt : ℕ
-playersAt = 7
-
-abbrev pub generalAt : ℕ
-generalAt = 8
-
 unfoldable pub sections : Image → List (List ℕ)
 sections m = m .heap ∷ m .starts ∷ m .marks ∷ m .cards ∷ m .regs ∷ m .packets ∷ m .tracers ∷ m .players ∷ m .general ∷ []
 
@@ -90,15 +100,15 @@ unfoldable pub image : ℕ → ℕ → List (List ℕ) → Image
 image w k s = record {
   width = w;
   k = k;
-  heap = getD s 0 [];
-  starts = getD s 1 [];
-  marks = getD s 2 [];
-  cards = getD s 3 [];
-  regs = getD s 4 [];
-  packets = getD s 5 [];
-  tracers = getD s 6 [];
-  players = getD s 7 [];
-  general = getD s 8 [];
+  heap = getD s heapAt [];
+  starts = getD s startsAt [];
+  marks = getD s marksAt [];
+  cards = getD s cardsAt [];
+  regs = getD s regsAt [];
+  packets = getD s packetsAt [];
+  tracers = getD s tracersAt [];
+  players = getD s playersAt [];
+  general = getD s generalAt [];
 }
 
 -- the image of k cards that some words are, and the same with k by their length
@@ -212,33 +222,51 @@ module _ (m : Image) where
 
 -- ---- what is written: one section replaced
 
+unfoldable pub setSection : List (List ℕ) → ℕ → List ℕ → List (List ℕ)
+setSection [] i l = []
+setSection (s ∷ ss) zero l = l ∷ ss
+setSection (s ∷ ss) (suc i) l = s ∷ setSection ss i l
+
+unfoldable pub replaced : Image → ℕ → List ℕ → Image
+unfolding image sections setSection
+replaced m i l = image (m .width) (m .k) (setSection (sections m) i l)
+
 module _ (m : Image) where
   unfoldable pub withHeap : List ℕ → Image
-  withHeap l = record { width = m .width; k = m .k; heap = l; starts = m .starts; marks = m .marks; cards = m .cards; regs = m .regs; packets = m .packets; tracers = m .tracers; players = m .players; general = m .general }
+  unfolding replaced
+  withHeap l = replaced m heapAt l
 
   unfoldable pub withStarts : List ℕ → Image
-  withStarts l = record { width = m .width; k = m .k; heap = m .heap; starts = l; marks = m .marks; cards = m .cards; regs = m .regs; packets = m .packets; tracers = m .tracers; players = m .players; general = m .general }
+  unfolding replaced
+  withStarts l = replaced m startsAt l
 
   unfoldable pub withMarks : List ℕ → Image
-  withMarks l = record { width = m .width; k = m .k; heap = m .heap; starts = m .starts; marks = l; cards = m .cards; regs = m .regs; packets = m .packets; tracers = m .tracers; players = m .players; general = m .general }
+  unfolding replaced
+  withMarks l = replaced m marksAt l
 
   unfoldable pub withCards : List ℕ → Image
-  withCards l = record { width = m .width; k = m .k; heap = m .heap; starts = m .starts; marks = m .marks; cards = l; regs = m .regs; packets = m .packets; tracers = m .tracers; players = m .players; general = m .general }
+  unfolding replaced
+  withCards l = replaced m cardsAt l
 
   unfoldable pub withRegs : List ℕ → Image
-  withRegs l = record { width = m .width; k = m .k; heap = m .heap; starts = m .starts; marks = m .marks; cards = m .cards; regs = l; packets = m .packets; tracers = m .tracers; players = m .players; general = m .general }
+  unfolding replaced
+  withRegs l = replaced m regsAt l
 
   unfoldable pub withPackets : List ℕ → Image
-  withPackets l = record { width = m .width; k = m .k; heap = m .heap; starts = m .starts; marks = m .marks; cards = m .cards; regs = m .regs; packets = l; tracers = m .tracers; players = m .players; general = m .general }
+  unfolding replaced
+  withPackets l = replaced m packetsAt l
 
   unfoldable pub withTracers : List ℕ → Image
-  withTracers l = record { width = m .width; k = m .k; heap = m .heap; starts = m .starts; marks = m .marks; cards = m .cards; regs = m .regs; packets = m .packets; tracers = l; players = m .players; general = m .general }
+  unfolding replaced
+  withTracers l = replaced m tracersAt l
 
   unfoldable pub withPlayers : List ℕ → Image
-  withPlayers l = record { width = m .width; k = m .k; heap = m .heap; starts = m .starts; marks = m .marks; cards = m .cards; regs = m .regs; packets = m .packets; tracers = m .tracers; players = l; general = m .general }
+  unfolding replaced
+  withPlayers l = replaced m playersAt l
 
   unfoldable pub withGeneral : List ℕ → Image
-  withGeneral l = record { width = m .width; k = m .k; heap = m .heap; starts = m .starts; marks = m .marks; cards = m .cards; regs = m .regs; packets = m .packets; tracers = m .tracers; players = m .players; general = l }
+  unfolding replaced
+  withGeneral l = replaced m generalAt l
 
 -- ---- what is written: one word or bit
 
@@ -281,10 +309,10 @@ module _ (m : Image) where
 
 -- opens the accessors and the setters
 unfoldable pub fields-open : ℕ
-unfolding granules word isStart marked size links link levels level state isDirty dirty reg count entry entriesOf entries input output hand nextLink handCard nextGranule owed scanned running firstRun withHeap withStarts withMarks withCards withRegs withPackets withTracers withPlayers withGeneral dirtyState setWord setStart setMark setState dirtyCard setReg setTracer setOwed setScanned setFirstRun
+unfolding granules word isStart marked size links link levels level state isDirty dirty reg count entry entriesOf entries input output hand nextLink handCard nextGranule owed scanned running firstRun setSection replaced withHeap withStarts withMarks withCards withRegs withPackets withTracers withPlayers withGeneral dirtyState setWord setStart setMark setState dirtyCard setReg setTracer setOwed setScanned setFirstRun
 fields-open = 0
 
 -- opens all of these
 unfoldable pub image-open : ℕ
-unfolding Base.base-open fields-open lengths imageLength mostCards cardsOf fits split join sections image imageOf parts words
+unfolding Base.base-open fields-open cardsOf fits split join sections image imageOf parts words
 image-open = 0

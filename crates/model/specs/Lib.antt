@@ -2,6 +2,7 @@ pub mod Base
 pub mod Image
 pub mod Undamaged
 pub mod Records
+pub mod Rows
 pub mod Mutate
 pub mod Collect
 pub mod Closure

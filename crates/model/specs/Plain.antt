@@ -1,12 +1,13 @@
 -- The plain store, which never frees: its state, its step, and how the real answers are read against its own.
 use mathlib.Core.Path.{_≡_}
-use mathlib.Core.Bool.{Bool, true, false, not, cond, _||_}
+use mathlib.Core.Bool.{Bool, true, false, not, cond, _&&_, _||_}
 use mathlib.Core.List.{List, [], _∷_}
 use Prim.Native.Nat.{ℕ, zero, suc, _*_, _-_}
 use lib.Dec.{leb, eqb}
-use Rattle.model.specs.Base.{first}
+use Rattle.model.specs.Base.{some, first}
 use Rattle.model.specs.Image.{Image, size, links, link, level, reg, owed}
-use Rattle.model.specs.Records.{Step, Kind, new, load, store, barrier, handOver, dropReg, read, write, begin, scan, trace, clean, finish, isDue, unknown, kindOf}
+use Rattle.model.specs.Records.{Step, Kind, new, load, store, barrier, handOver, dropReg, read, write, kindOf}
+use Rattle.model.specs.Rows.{rowOf, is, forKind, isPlayer, fields, atPlace}
 use Rattle.model.specs.Steps.{Event, unnamed, offDesk, badSize}
 
 -- ---- the state
@@ -90,24 +91,6 @@ pub record PlainDone : Type 0 where
 
 -- ---- the step
 
--- one value for each of the kinds 1 to 8, in order; z for the others
-abbrev pub byPlayerKind : {A : Type 0} → (z n1 n2 n3 n4 n5 n6 n7 n8 : A) → Kind → A
-byPlayerKind z a b c d e f g h new = a
-byPlayerKind z a b c d e f g h load = b
-byPlayerKind z a b c d e f g h store = c
-byPlayerKind z a b c d e f g h barrier = d
-byPlayerKind z a b c d e f g h handOver = e
-byPlayerKind z a b c d e f g h dropReg = f
-byPlayerKind z a b c d e f g h read = g
-byPlayerKind z a b c d e f g h write = h
-byPlayerKind z a b c d e f g h begin = z
-byPlayerKind z a b c d e f g h scan = z
-byPlayerKind z a b c d e f g h trace = z
-byPlayerKind z a b c d e f g h clean = z
-byPlayerKind z a b c d e f g h finish = z
-byPlayerKind z a b c d e f g h isDue = z
-byPlayerKind z a b c d e f g h unknown = z
-
 module _ (q : PlainStore) (s : Step) where
   -- what the player's register r holds
   unfoldable pub holding : ℕ → Object
@@ -115,11 +98,13 @@ module _ (q : PlainStore) (s : Step) where
 
   -- 5
   unfoldable pub plainOwing : Kind → Bool
-  plainOwing n = let o : Bool = q .owing (s .who) in byPlayerKind false o o o false (o || q .owing (s .b)) o o o n
+  unfolding rowOf isPlayer fields
+  plainOwing n = (rowOf n) .unowing && some (fields s (λ r x. isPlayer r && q .owing x) (rowOf n))
 
   -- 6
   unfoldable pub plainNoObject : Kind → Bool
-  plainNoObject n = byPlayerKind false false (isNil (holding (s .b))) (isNil (holding (s .a))) false false false (isNil (holding (s .a))) (isNil (holding (s .a))) n
+  unfolding rowOf atPlace
+  plainNoObject n = let nil : ℕ → ℕ → Bool = λ r i. isNil (holding r) in atPlace s nil nil ((rowOf n) .place)
 
   -- the number of level words of an object
   unfoldable pub plainLevels : Object → ℕ
@@ -127,17 +112,17 @@ module _ (q : PlainStore) (s : Step) where
 
   -- 7
   unfoldable pub plainPastEnd : Kind → Bool
-  plainPastEnd n =
-      byPlayerKind false false (leb (q .linkCount (holding (s .b))) (s .c)) (leb (q .linkCount (holding (s .a))) (s .b)) false false false
-      (leb (plainLevels (holding (s .a))) (s .b)) (leb (plainLevels (holding (s .a))) (s .b)) n
+  unfolding rowOf atPlace
+  plainPastEnd n = atPlace s (λ r i. leb (q .linkCount (holding r)) i) (λ r i. leb (plainLevels (holding r)) i) ((rowOf n) .place)
 
   -- 11
   unfoldable pub plainNothing : Kind → Bool
-  plainNothing n = byPlayerKind false false false false (not (q .owing (s .who))) false false false false n
+  unfolding is
+  plainNothing n = is n barrier && not (q .owing (s .who))
 
   -- "A step that numbers 3 to 8 or 11 refuse, read on this state, gets the lowest"
   unfoldable pub plainRefusal : Kind → ℕ
-  plainRefusal n = first 3 (unnamed s n ∷ offDesk s n ∷ plainOwing n ∷ plainNoObject n ∷ plainPastEnd n ∷ badSize s n ∷ false ∷ false ∷ plainNothing n ∷ [])
+  plainRefusal n = first 3 (unnamed s n ∷ offDesk s 0 n ∷ plainOwing n ∷ plainNoObject n ∷ plainPastEnd n ∷ badSize s n ∷ false ∷ false ∷ plainNothing n ∷ [])
 
   unfoldable pub plainAccept : PlainStore → Value → PlainDone
   plainAccept p v = record { plain = p; reply = record { number = 0; value = v } }
@@ -145,21 +130,19 @@ module _ (q : PlainStore) (s : Step) where
   -- "New puts one more object of b granules and c links, all nil and zero, in register a; that object is its value. Kinds 2, 3 and 5 to 8 act
   -- and answer as under Steps, on objects; store makes a barrier owed and barrier ends that." i is the record's place in the list.
   unfoldable pub plainAct : ℕ → Kind → PlainDone
-  plainAct i new = plainAccept (putReg (putObject q (made i) (s .b) (s .c)) (s .who) (s .a) (made i)) (as-object (made i))
-  plainAct i load = let o : Object = q .linkOf (holding (s .b)) (s .c) in plainAccept (putReg q (s .who) (s .a) o) (as-object o)
-  plainAct i store = plainAccept (putOwing (putLink q (holding (s .a)) (s .b) (holding (s .c))) (s .who) true) (as-is 0)
-  plainAct i barrier = plainAccept (putOwing q (s .who) false) (as-is 0)
-  plainAct i handOver = plainAccept (putReg q (s .b) (s .c) (holding (s .a))) (as-is 0)
-  plainAct i dropReg = plainAccept (putReg q (s .who) (s .a) (old 0)) (as-is 0)
-  plainAct i read = plainAccept q (as-is (q .levelOf (holding (s .a)) (s .b)))
-  plainAct i write = plainAccept (putLevel q (holding (s .a)) (s .b) (s .c)) (as-is 0)
-  plainAct i begin = plainAccept q (as-is 0)
-  plainAct i scan = plainAccept q (as-is 0)
-  plainAct i trace = plainAccept q (as-is 0)
-  plainAct i clean = plainAccept q (as-is 0)
-  plainAct i finish = plainAccept q (as-is 0)
-  plainAct i isDue = plainAccept q (as-is 0)
-  plainAct i unknown = plainAccept q (as-is 0)
+  unfolding forKind
+  plainAct i n =
+      let o : Object = q .linkOf (holding (s .b)) (s .c) in
+      forKind (plainAccept q (as-is 0)) n
+      ((new, plainAccept (putReg (putObject q (made i) (s .b) (s .c)) (s .who) (s .a) (made i)) (as-object (made i)))
+      ∷ (load, plainAccept (putReg q (s .who) (s .a) o) (as-object o))
+      ∷ (store, plainAccept (putOwing (putLink q (holding (s .a)) (s .b) (holding (s .c))) (s .who) true) (as-is 0))
+      ∷ (barrier, plainAccept (putOwing q (s .who) false) (as-is 0))
+      ∷ (handOver, plainAccept (putReg q (s .b) (s .c) (holding (s .a))) (as-is 0))
+      ∷ (dropReg, plainAccept (putReg q (s .who) (s .a) (old 0)) (as-is 0))
+      ∷ (read, plainAccept q (as-is (q .levelOf (holding (s .a)) (s .b))))
+      ∷ (write, plainAccept (putLevel q (holding (s .a)) (s .b) (s .c)) (as-is 0))
+      ∷ [])
 
   -- "value 0, and changes nothing. Else its number is 0."
   unfoldable pub plainOutcome : ℕ → Kind → ℕ → PlainDone
@@ -178,7 +161,8 @@ pub record Fed : Type 0 where
 
 -- "all steps of kinds 1 to 8 in order, refused ones too, but no new answered 9"
 unfoldable pub feeds : Kind → ℕ → Bool
-feeds n r = byPlayerKind false (not (eqb r 9)) true true true true true true true n
+unfolding rowOf is isPlayer
+feeds n r = isPlayer ((rowOf n) .who) && not (is n new && eqb r 9)
 
 unfoldable pub feedsEvent : Event → Bool
 feedsEvent e = feeds (kindOf (e .request .kind)) (e .done .number)
@@ -197,7 +181,8 @@ plainRun q (f ∷ fs) = let d : PlainDone = plainStep q (f .request) (f .place) 
 -- what a granule number stands for after the event at place i: "the object of the last accepted new with value g, this one included, or,
 -- with none, .. the one starting at g in the first image"
 unfoldable pub named : (ℕ → Object) → ℕ → Event → ℕ → Object
-named name i e = cond (byPlayerKind false (eqb (e .done .number) 0) false false false false false false false (kindOf (e .request .kind))) (upd name (e .done .value) (made i)) name
+unfolding is
+named name i e = cond (is (kindOf (e .request .kind)) new && eqb (e .done .number) 0) (upd name (e .done .value) (made i)) name
 
 -- "0 as nil"
 unfoldable pub objectAt : (ℕ → Object) → ℕ → Object
@@ -206,11 +191,12 @@ objectAt name (suc g) = name (suc g)
 
 -- "the value g of an accepted new or load is compared as the object .. Other values, and all numbers, must be equal as they are."
 unfoldable pub reading : (ℕ → Object) → Event → Reply
+unfolding is
 reading name e =
-    let n : Bool = eqb (e .done .number) 0 in
+    let n : Kind = kindOf (e .request .kind) in
     record {
       number = e .done .number;
-      value = cond (byPlayerKind false n n false false false false false false (kindOf (e .request .kind))) (as-object (objectAt name (e .done .value))) (as-is (e .done .value));
+      value = cond ((is n new || is n load) && eqb (e .done .number) 0) (as-object (objectAt name (e .done .value))) (as-is (e .done .value));
     }
 
 -- the real answers of the records that the plain store is fed, read; `name` is the reading of granule numbers so far

@@ -1,11 +1,12 @@
 -- A step: the numbers that refuse it, as document 01's table has them, what it does, and lists of steps.
-use mathlib.Core.Bool.{Bool, true, false, not, cond, _&&_, _||_}
+use mathlib.Core.Bool.{Bool, false, not, cond, _&&_, _||_}
 use mathlib.Core.List.{List, [], _∷_}
 use Prim.Native.Nat.{ℕ, zero, suc, _+_, _*_, _-_, _/_}
 use lib.Dec.{leb, ltb, eqb}
 use Rattle.model.specs.Base.{some, first}
 use Rattle.model.specs.Image.{Image, links, link, levels, level, reg, owed, scanned, running, setWord, setReg, setOwed, dirtyCard}
 use Rattle.model.specs.Records.{Step, Kind, new, load, store, barrier, handOver, dropReg, read, write, begin, scan, trace, clean, finish, isDue, unknown, kindOf}
+use Rattle.model.specs.Rows.{Phase, anyPhase, noCycle, inCycle, rowOf, is, forKind, isUnused, isPlayer, limit, reaches, fields, atPlace, rows-open}
 use Rattle.model.specs.Mutate.{roomFor, newObject, freeGranules}
 use Rattle.model.specs.Collect.{beginCycle, scanPlayer, traceLine, traceStep, cleanLine, cleanStep}
 use Rattle.model.specs.Finish.{Finish, finishStep}
@@ -23,63 +24,21 @@ unfoldable pub someSet : List ℕ → Bool
 someSet [] = false
 someSet (x ∷ xs) = not (eqb x 0) || someSet xs
 
-unfoldable pub isNew : Kind → Bool
-isNew new = true
-isNew load = false
-isNew store = false
-isNew barrier = false
-isNew handOver = false
-isNew dropReg = false
-isNew read = false
-isNew write = false
-isNew begin = false
-isNew scan = false
-isNew trace = false
-isNew clean = false
-isNew finish = false
-isNew isDue = false
-isNew unknown = false
-
 module _ (s : Step) where
   -- 3 unknown: "kind not 1 to 14, or an unnamed field not 0"
   unfoldable pub unnamed : Kind → Bool
-  unnamed new = false
-  unnamed load = false
-  unnamed store = false
-  unnamed barrier = someSet (s .a ∷ s .b ∷ s .c ∷ [])
-  unnamed handOver = false
-  unnamed dropReg = someSet (s .b ∷ s .c ∷ [])
-  unnamed read = someSet (s .c ∷ [])
-  unnamed write = false
-  unnamed begin = someSet (s .who ∷ s .a ∷ s .b ∷ s .c ∷ [])
-  unnamed scan = someSet (s .b ∷ s .c ∷ [])
-  unnamed trace = someSet (s .a ∷ s .b ∷ s .c ∷ [])
-  unnamed clean = someSet (s .a ∷ s .b ∷ s .c ∷ [])
-  unnamed finish = someSet (s .who ∷ s .a ∷ s .b ∷ s .c ∷ [])
-  unnamed isDue = someSet (s .who ∷ s .b ∷ s .c ∷ [])
-  unnamed unknown = true
+  unfolding rowOf isUnused fields
+  unnamed n = eqb ((rowOf n) .code) 0 || some (fields s (λ r x. isUnused r && not (eqb x 0)) (rowOf n))
 
-  -- 4 off the desk: "player or register above 15, tracer above 7"
-  unfoldable pub offDesk : Kind → Bool
-  offDesk new = some (ltb 15 (s .who) ∷ ltb 15 (s .a) ∷ [])
-  offDesk load = some (ltb 15 (s .who) ∷ ltb 15 (s .a) ∷ ltb 15 (s .b) ∷ [])
-  offDesk store = some (ltb 15 (s .who) ∷ ltb 15 (s .a) ∷ ltb 15 (s .c) ∷ [])
-  offDesk barrier = ltb 15 (s .who)
-  offDesk handOver = some (ltb 15 (s .who) ∷ ltb 15 (s .a) ∷ ltb 15 (s .b) ∷ ltb 15 (s .c) ∷ [])
-  offDesk dropReg = some (ltb 15 (s .who) ∷ ltb 15 (s .a) ∷ [])
-  offDesk read = some (ltb 15 (s .who) ∷ ltb 15 (s .a) ∷ [])
-  offDesk write = some (ltb 15 (s .who) ∷ ltb 15 (s .a) ∷ [])
-  offDesk begin = false
-  offDesk scan = some (ltb 7 (s .who) ∷ ltb 15 (s .a) ∷ [])
-  offDesk trace = ltb 7 (s .who)
-  offDesk clean = ltb 7 (s .who)
-  offDesk finish = false
-  offDesk isDue = false
-  offDesk unknown = false
+  -- 4 off the desk: "player or register above 15, tracer above 7"; k is the number of cards (0 in the plain store, whose kinds name none)
+  unfoldable pub offDesk : ℕ → Kind → Bool
+  unfolding rowOf limit reaches fields
+  offDesk k n = some (fields s (λ r x. reaches (limit k r) x) (rowOf n))
 
   -- 8 bad size: "new with b = 0, b over 1,024, or c over 4 × b − 2"
   unfoldable pub badSize : Kind → Bool
-  badSize n = isNew n && some (eqb (s .b) 0 ∷ ltb 1024 (s .b) ∷ ltb (4 * s .b - 2) (s .c) ∷ [])
+  unfolding is
+  badSize n = is n new && some (eqb (s .b) 0 ∷ ltb 1024 (s .b) ∷ ltb (4 * s .b - 2) (s .c) ∷ [])
 
 -- ---- the numbers that depend on the image
 
@@ -93,104 +52,51 @@ module _ (m : Image) (s : Step) where
 
   -- 5 owing: "a player owing a barrier in kinds 1 to 3 and 5 to 8, or receiving in 5"
   unfoldable pub owing : Kind → Bool
-  owing new = owes (s .who)
-  owing load = owes (s .who)
-  owing store = owes (s .who)
-  owing barrier = false
-  owing handOver = owes (s .who) || owes (s .b)
-  owing dropReg = owes (s .who)
-  owing read = owes (s .who)
-  owing write = owes (s .who)
-  owing begin = false
-  owing scan = false
-  owing trace = false
-  owing clean = false
-  owing finish = false
-  owing isDue = false
-  owing unknown = false
+  unfolding rowOf isPlayer fields
+  owing n = (rowOf n) .unowing && some (fields s (λ r x. isPlayer r && owes x) (rowOf n))
 
   -- 6 no object: "the object register of kinds 2, 3, 7, 8 is nil"
   unfoldable pub noObject : Kind → Bool
-  noObject new = false
-  noObject load = eqb (object (s .b)) 0
-  noObject store = eqb (object (s .a)) 0
-  noObject barrier = false
-  noObject handOver = false
-  noObject dropReg = false
-  noObject read = eqb (object (s .a)) 0
-  noObject write = eqb (object (s .a)) 0
-  noObject begin = false
-  noObject scan = false
-  noObject trace = false
-  noObject clean = false
-  noObject finish = false
-  noObject isDue = false
-  noObject unknown = false
+  unfolding rowOf atPlace
+  noObject n = let nil : ℕ → ℕ → Bool = λ r i. eqb (object r) 0 in atPlace s nil nil ((rowOf n) .place)
 
   -- 7 past the end: "no such link or level word"
   unfoldable pub pastEnd : Kind → Bool
-  pastEnd new = false
-  pastEnd load = leb (links m (object (s .b))) (s .c)
-  pastEnd store = leb (links m (object (s .a))) (s .b)
-  pastEnd barrier = false
-  pastEnd handOver = false
-  pastEnd dropReg = false
-  pastEnd read = leb (levels m (object (s .a))) (s .b)
-  pastEnd write = leb (levels m (object (s .a))) (s .b)
-  pastEnd begin = false
-  pastEnd scan = false
-  pastEnd trace = false
-  pastEnd clean = false
-  pastEnd finish = false
-  pastEnd isDue = false
-  pastEnd unknown = false
+  unfolding rowOf atPlace
+  pastEnd n = atPlace s (λ r i. leb (links m (object r)) i) (λ r i. leb (levels m (object r)) i) ((rowOf n) .place)
 
   -- 9 no room: "no b neighbouring granules free"
   unfoldable pub noRoom : Kind → Bool
-  noRoom n = isNew n && eqb ((roomFor m (s .b)) .run) 0
+  unfolding is
+  noRoom n = is n new && eqb ((roomFor m (s .b)) .run) 0
 
   -- 10 wrong phase: "begin in a cycle; 10 to 13 outside one"
+  unfoldable pub outOf : Phase → Bool
+  outOf anyPhase = false
+  outOf noCycle = eqb (running m) 1
+  outOf inCycle = eqb (running m) 0
+
   unfoldable pub wrongPhase : Kind → Bool
-  wrongPhase new = false
-  wrongPhase load = false
-  wrongPhase store = false
-  wrongPhase barrier = false
-  wrongPhase handOver = false
-  wrongPhase dropReg = false
-  wrongPhase read = false
-  wrongPhase write = false
-  wrongPhase begin = eqb (running m) 1
-  wrongPhase scan = eqb (running m) 0
-  wrongPhase trace = eqb (running m) 0
-  wrongPhase clean = eqb (running m) 0
-  wrongPhase finish = eqb (running m) 0
-  wrongPhase isDue = false
-  wrongPhase unknown = false
+  unfolding rowOf outOf
+  wrongPhase n = outOf ((rowOf n) .phase)
 
   -- 11 nothing to do: "barrier with none owed; player scanned already; trace or clean where no line applies"
   unfoldable pub nothingToDo : Kind → Bool
-  nothingToDo new = false
-  nothingToDo load = false
-  nothingToDo store = false
-  nothingToDo barrier = eqb (owed m (s .who)) 0
-  nothingToDo handOver = false
-  nothingToDo dropReg = false
-  nothingToDo read = false
-  nothingToDo write = false
-  nothingToDo begin = false
-  nothingToDo scan = eqb (scanned m (s .a)) 1
-  nothingToDo trace = eqb (traceLine m (s .who)) 0
-  nothingToDo clean = eqb (cleanLine m (s .who)) 0
-  nothingToDo finish = false
-  nothingToDo isDue = false
-  nothingToDo unknown = false
+  unfolding forKind
+  nothingToDo n =
+      forKind false n
+      ((barrier, eqb (owed m (s .who)) 0)
+      ∷ (scan, eqb (scanned m (s .a)) 1)
+      ∷ (trace, eqb (traceLine m (s .who)) 0)
+      ∷ (clean, eqb (cleanLine m (s .who)) 0)
+      ∷ [])
 
   -- "The lowest that applies is given.": 3 to 11, or 0
   unfoldable pub refusal : Kind → ℕ
   refusal n =
       first 3
       (unnamed s n
-      ∷ offDesk s n
+      ∷ offDesk s (m .k) n
       ∷ owing n
       ∷ noObject n
       ∷ pastEnd n
@@ -242,6 +148,11 @@ module _ (m : Image) (s : Step) where
   unfoldable pub step : Done
   step = let n : Kind = kindOf (s .kind) in outcome n (refusal n)
 
+-- opens the lines of `refusal`
+unfoldable pub numbers-open : ℕ
+unfolding rows-open some someSet unnamed offDesk badSize owes owing noObject pastEnd noRoom outOf wrongPhase nothingToDo refusal
+numbers-open = 0
+
 -- ---- lists of steps
 
 -- a record that was run, with the image that it got and what it left
@@ -266,5 +177,5 @@ answersOf (e ∷ es) = e .done .number ∷ e .done .value ∷ answersOf es
 
 -- opens all of these
 unfoldable pub steps-open : ℕ
-unfolding someSet unnamed offDesk isNew badSize object owes owing noObject pastEnd noRoom wrongPhase nothingToDo refusal accept finishDone act outcome step run after answersOf
+unfolding numbers-open object accept finishDone act outcome step run after answersOf
 steps-open = 0

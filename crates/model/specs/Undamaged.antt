@@ -1,12 +1,12 @@
 -- "Undamaged", one named line for each clause of document 01; a fresh store; judging. Defined without the steps.
 use mathlib.Core.Bool.{Bool, true, false, not, cond}
-use mathlib.Core.List.{List, [], _∷_, _++_}
+use mathlib.Core.List.{List, [], _∷_}
 use Prim.Native.Nat.{ℕ, zero, suc, _+_, _*_, _-_, _/_, _%_}
 use lib.Dec.{leb, ltb, eqb}
 use lib.ListN.{length, drop, replicate}
 use Rattle.model.specs.Base.{nth, all, any, every, some, either, implies, zeroes, elem, distinct, eachPiece, first}
 use Rattle.model.specs.Image
-use Rattle.model.specs.Image.{Image, granules, isStart, marked, links, link, state, dirty, reg, entries, hand, nextLink, handCard, nextGranule, owed, scanned, running, firstRun, fits, imageLength, cardsOf, parts}
+use Rattle.model.specs.Image.{Image, granules, isStart, marked, links, link, state, dirty, reg, entries, hand, nextLink, handCard, nextGranule, owed, scanned, running, firstRun, fits, imageLength, cardsOf, imageOf, parts, words, setWord, setFirstRun}
 
 -- ---- "Objects and runs fill granules 1 to G − 1 without overlap. Start bits are set at every object's first granule and nowhere else."
 
@@ -175,7 +175,7 @@ module _ (m : Image) where
 
 -- "A fresh store is all zero but for one run of G − 1 granules at 1 and the first free run, which is 1."
 unfoldable pub freshStore : ℕ → ℕ → List ℕ
-freshStore w k = replicate 4 0 ++ (64 * k - 1) ∷ 0 ∷ replicate (imageLength w k - 13) 0 ++ 1 ∷ replicate 6 0
+freshStore w k = words (setFirstRun (setWord (imageOf w k (replicate (imageLength w k) 0)) 1 0 (64 * k - 1)) 1)
 
 -- result and words of making a fresh store in a slice with the given words
 pub record Made : Type 0 where

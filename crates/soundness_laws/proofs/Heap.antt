@@ -21,8 +21,9 @@ use Rattle.soundness_laws.proofs.Starts.{notStart, clear, one, count-le
 use Rattle.model.specs.Steps.{run}
 use Rattle.image_laws.specs.Sized.{Sized}
 use Rattle.image_laws.proofs.Parts.{all-first, zero-stretch}
-use Rattle.image_laws.proofs.Sections.{heap-length}
 use lib.Pow.{high, low}
+use Rattle.model.specs.Examples.{at}
+use Rattle.image_laws.proofs.Lengths.{heap-words}
 
 -- ---- one turn of the model's walk
 
@@ -57,7 +58,7 @@ module _ (w k : ℕ) (l : List ℕ) where
 
   module _ (z : Sized w k l) where
     past-end : (n g next : ℕ) (run : Bool) → 64 * k ≤ g → fillFrom (suc n) g next run ≡ eqb next 0
-    past-end n g next run h = rw (drop-of-length-le (imageOf w k l .heap) {i = 4 * g} (omega (arith, heap-length z))) (fill-end (isStart (imageOf w k l)) n g next run)
+    past-end n g next run h = rw (drop-of-length-le (imageOf w k l .heap) {i = 4 * g} (omega (arith, heap-words z))) (fill-end (isStart (imageOf w k l)) n g next run)
 
     module _ (g next : ℕ) (run : Bool) (hg : g < 64 * k) where
       next-is : cond (isStart (imageOf w k l) g) next (nth (drop (suc (4 * g)) (imageOf w k l .heap)) 0) ≡ nextRun (imageOf w k l) g next
@@ -264,4 +265,4 @@ module _ (w k : ℕ) (l : List ℕ) where
 
   pub first-unused : (z : Sized w k l) (r t : Bool) → r ≡ zeroes (take 4 (imageOf w k l .heap)) → t ≡ isStart (imageOf w k l) 0 → (r && not t) ≡ zeroGranule (imageOf w k l)
   unfolding zeroGranule every
-  first-unused z r t er et = rw (er, et, zero-stretch (imageOf w k l .heap) 0 4 (omega (arith, heap-length z, z .low))) (simp (zero-add, and-true))
+  first-unused z r t er et = rw (er, et, zero-stretch (imageOf w k l .heap) 0 4 (omega (arith, heap-words z, z .low))) (simp (zero-add, and-true))

@@ -16,7 +16,7 @@ use Rattle.soundness_laws.proofs.Packets.{entries-more, packet-is, all-
 use Rattle.image_laws.specs.Sized.{Sized}
 use Rattle.image_laws.proofs.Bits.{zero-bit}
 use Rattle.image_laws.proofs.Parts.{zero-stretch}
-use Rattle.image_laws.proofs.Sections.{general-length}
+use Rattle.image_laws.proofs.Lengths.{general-words}
 
 no-entries : (n : ℕ) (ps : List ℕ) → ((i : ℕ) → nth ps i ≡ 0) → entriesOf n ps ≡ []
 unfolding entriesOf
@@ -32,7 +32,7 @@ module _ (w k : ℕ) (l : List ℕ) where
 
   pub general-lines : (v : ℕ) (r : Bool) → Sized w k l → v ≡ running (imageOf w k l) → r ≡ zeroes (take 6 (drop 2 (imageOf w k l .general))) → (leb v 1 && r) ≡ generalOk (imageOf w k l)
   unfolding generalOk every
-  general-lines v r z ev er = rw (ev, er, zero-stretch (imageOf w k l .general) 2 6 (omega (arith, general-length z))) (simp and-true)
+  general-lines v r z ev er = rw (ev, er, zero-stretch (imageOf w k l .general) 2 6 (omega (arith, general-words z))) (simp and-true)
 
   pub no-mark : zeroes (imageOf w k l .marks) ≡ true → (g : ℕ) → marked (imageOf w k l) g ≡ false
   unfolding marked bit

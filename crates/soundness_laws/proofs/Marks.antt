@@ -8,19 +8,19 @@ use native.Mathlib.Decide.{ℕ-discrete}
 use native.Mathlib.Omega.{arith}
 use lib.Dec.{eqb, ltb}
 use lib.Bits.{bitAnd, and-step}
-use lib.Pow.{high}
 use borrow.Author.Tests.{eq-eqb, ne-eqb}
 use Rattle.model.specs.Base.{nth, all, implies, testBit}
 use Rattle.model.specs.Image.{image, imageOf, granules, isStart, marked}
 use Rattle.model.specs.Undamaged.{markOk}
 use Rattle.soundness_laws.specs.Tests.{atWord, wordwise}
 use Rattle.soundness_laws.proofs.Loops.{all-append, clamped}
-use Rattle.model.proofs.Words.{width-cases}
 use Rattle.image_laws.specs.Sized.{Sized}
 use Rattle.image_laws.proofs.Bits.{bit-at, mark-past}
 use Rattle.image_laws.proofs.Parts.{all-first, all-cong}
 use Rattle.image_laws.proofs.Places.{words-full}
-use Rattle.image_laws.proofs.Trailing.{bit-half}
+use Rattle.model.specs.Examples.{at}
+use Rattle.image_laws.proofs.Digits.{test-half}
+use Rattle.image_laws.proofs.Lengths.{sized-width}
 
 -- ---- by words
 
@@ -32,7 +32,7 @@ all-words w (suc n) p = rw (mul-suc w n, all-append (w * n) w p, all-words w n p
 -- all granules, word by word
 pub by-words : (w k : ℕ) (l : List ℕ) (p : ℕ → Bool) (r : Bool) → Sized w k l → r ≡ all (64 * k / w) (wordwise w p) → r ≡ all (granules (imageOf w k l)) p
 unfolding granules imageOf image
-by-words w k l p r z e = e ∙ (rw (words-full w k (width-cases w k (z .low) (z .high))) at (sym (all-words w (64 * k / w) p)))
+by-words w k l p r z e = e ∙ (rw (words-full w k (sized-width z)) at (sym (all-words w (64 * k / w) p)))
 
 -- ---- within a word
 
@@ -61,7 +61,7 @@ first-bit : (n a b : ℕ) → all (suc n) (isIn a b) ≡ (implies (eqb (a % 2) 1
 unfolding isIn
 first-bit n a b =
     all-first n (isIn a b)
-    ∙ rw (bit-zero a, bit-zero b) (ap (λ z. implies (eqb (a % 2) 1) (eqb (b % 2) 1) && z) (all-cong n _ _ (λ i h. rw (bit-half a i, bit-half b i))))
+    ∙ rw (bit-zero a, bit-zero b) (ap (λ z. implies (eqb (a % 2) 1) (eqb (b % 2) 1) && z) (all-cong n _ _ (λ i h. rw (test-half a i, test-half b i))))
 
 no-bits : (a b c : ℕ) → a ≡ 0 → c ≡ 0 → eqb (bitAnd a c) 0 ≡ all 0 (isIn a b)
 unfolding all

@@ -20,13 +20,15 @@ use Rattle.soundness_laws.proofs.Loops.{test-inside}
 use Rattle.soundness_laws.proofs.Sets.{once-none, once-one, once-append}
 use Rattle.model.specs.Cases.{ok}
 use Rattle.model.specs.Steps.{after}
-use Rattle.model.proofs.Words.{width-cases}
 use Rattle.image_laws.specs.Sized.{Sized}
 use Rattle.image_laws.proofs.Bits.{mark-past}
 use Rattle.image_laws.proofs.Parts.{all-cong, all-none, all-first}
 use Rattle.image_laws.proofs.Places.{word-in}
-use Rattle.image_laws.proofs.Sections.{packets-length, granules-image}
-use lib.Pow.{high, low}
+use Rattle.image_laws.proofs.Sections.{granules-image}
+use lib.Pow.{high}
+use Rattle.model.specs.Examples.{at}
+use Rattle.model.specs.Rows.{below}
+use Rattle.image_laws.proofs.Lengths.{sized-width, packets-words}
 
 -- ---- pieces by index
 
@@ -109,7 +111,7 @@ module _ (w k : ℕ) (l : List ℕ) (z : Sized w k l) (packed : Packed (imageOf 
 
   entries-length : length (packetEntries (imageOf w k l) p) ≡ count (imageOf w k l) p
   unfolding packetEntries
-  entries-length = omega (arith, length-take (count (imageOf w k l) p) (drop (32 * p + 2) (imageOf w k l .packets)), length-drop (32 * p + 2) (imageOf w k l .packets), packets-length z, packed .counts p hp)
+  entries-length = omega (arith, length-take (count (imageOf w k l) p) (drop (32 * p + 2) (imageOf w k l .packets)), length-drop (32 * p + 2) (imageOf w k l .packets), packets-words z, packed .counts p hp)
 
   entries-nth : (e : ℕ) → e < count (imageOf w k l) p → getD (packetEntries (imageOf w k l) p) e 0 ≡ nth (imageOf w k l .packets) (32 * p + 2 + e)
   unfolding packetEntries nth
@@ -133,7 +135,7 @@ module _ (w k : ℕ) (l : List ℕ) (z : Sized w k l) (packed : Packed (imageOf 
   unfolding entry
   a-place =
       let b : x < 64 * mostCards w = omega (arith, packed .below p e hp a-count, granules-image w k l, z .high) in
-      rw (a .long) (word-in w (mostCards w) (width-cases w k (z .low) (z .high)) x b)
+      rw (a .long) (word-in w (mostCards w) (sized-width z) x b)
 
   pub a-more : (t : Bool) (seen′ : List ℕ) → t ≡ not (bit w seen x) → seen′ ≡ setBit w seen x → EntriesSearched w (packetEntries (imageOf w k l) p) n before (ok && t) (e + 1) seen′
   a-more t seen′ et es =

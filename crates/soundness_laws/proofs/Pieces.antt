@@ -18,7 +18,8 @@ use Rattle.soundness_laws.proofs.Starts.{notStart, clear}
 use Rattle.model.specs.Steps.{run}
 use Rattle.image_laws.specs.Sized.{Sized}
 use Rattle.image_laws.proofs.Parts.{all-cong, zero-stretch}
-use Rattle.image_laws.proofs.Sections.{heap-length}
+use Rattle.model.specs.Examples.{at}
+use Rattle.image_laws.proofs.Lengths.{heap-words}
 
 -- ---- the head of an object, and of a run
 
@@ -82,11 +83,11 @@ module _ (w k : ℕ) (l : List ℕ) (z : Sized w k l) (g : ℕ) (hg : g < 64 * k
   tail-at i = let e : suc (4 * g) + i ≡ 4 * g + (1 + i) = omega arith in rw (nth-drop (suc (4 * g)) (imageOf w k l .heap) i, e)
 
   pub tail-long : length (drop (suc (4 * g)) (imageOf w k l .heap)) ≡ 256 * k - suc (4 * g)
-  tail-long = rw (length-drop, heap-length z)
+  tail-long = rw (length-drop, heap-words z)
 
   pub head-is : drop (4 * g) (imageOf w k l .heap) ≡ word (imageOf w k l) g 0 ∷ drop (suc (4 * g)) (imageOf w k l .heap)
   unfolding word nth
-  head-is = let e : 4 * g + 0 ≡ 4 * g = omega arith in rw e (drop-cons (imageOf w k l .heap) (4 * g) 0 (omega (arith, heap-length z)))
+  head-is = let e : 4 * g + 0 ≡ 4 * g = omega arith in rw e (drop-cons (imageOf w k l .heap) (4 * g) 0 (omega (arith, heap-words z)))
 
   pub bare-is : (s : ℕ) → bare (isStart (imageOf w k l)) g s ≡ clear (imageOf w k l) (g + 1) (s - 1)
   unfolding bare clear notStart
@@ -125,7 +126,7 @@ module _ (w k : ℕ) (l : List ℕ) (z : Sized w k l) (g : ℕ) (hg : g < 64 * k
       all-cong (4 * s - 2) _ _ (λ i h.
       let e : 4 * g + (1 + suc i) ≡ 4 * g + 2 + i = omega arith in
       rw (tail-at (suc i), e))
-      ∙ sym (zero-stretch (imageOf w k l .heap) (4 * g + 2) (4 * s - 2) (omega (arith, heap-length z)))
+      ∙ sym (zero-stretch (imageOf w k l .heap) (4 * g + 2) (4 * s - 2) (omega (arith, heap-words z)))
 
   module _ (next : ℕ) (run : Bool) (s : ℕ) (es : s ≡ word (imageOf w k l) g 0) where
     run-is : runOk (imageOf w k l) g next run ≡ (runHeadOk k g next run s && zeroes (take (4 * s - 2) (drop (4 * g + 2) (imageOf w k l .heap))))

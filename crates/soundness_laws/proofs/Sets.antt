@@ -16,13 +16,13 @@ use Rattle.model.proofs.Bits.{setBit-same, setBit-other, bit-zeros}
 use Rattle.soundness_laws.specs.Sets.{Targets, setWords, noneIn, AddedOnce, EnteredSet}
 use Rattle.model.specs.Cases.{ok}
 use Rattle.model.specs.Steps.{after}
-use Rattle.model.proofs.Words.{width-cases}
 use Rattle.image_laws.specs.Sized.{Sized}
 use Rattle.image_laws.proofs.Bits.{start-past}
 use Rattle.image_laws.proofs.Places.{words-full}
-use lib.Pow.{high, low}
 use native.Mathlib.Nat.{mul-comm, zero-mod, mul-le-mul-left, zero-div, div-mul-le-self}
 use Rattle.soundness_laws.proofs.Loops.{test-inside}
+use Rattle.model.specs.Examples.{at}
+use Rattle.image_laws.proofs.Lengths.{sized-width}
 
 -- ---- the values that a link may name
 
@@ -73,7 +73,7 @@ module _ (w k : ℕ) (l : List ℕ) (z : Sized w k l) where
   copy-is set i a c h b (no q) =
       let f : w * (64 * k / w) ≤ w * (a / w) = mul-le-mul-left w (omega arith) in
       rw (c .rest (a / w) (omega arith), zero-div (2 ^ (a % w)))
-      (sym (start-past w k l z a (omega (arith, words-full w k (width-cases w k (z .low) (z .high)), div-mul-le-self a w, mul-comm w (a / w)))))
+      (sym (start-past w k l z a (omega (arith, words-full w k (sized-width z), div-mul-le-self a w, mul-comm w (a / w)))))
 
   pub t-end : (set : List ℕ) (i v n : ℕ) → Copied w k l set i → n ≡ min (64 * k / w) 4096 → n ≤ i → v ≡ withBit (nth set 0) 0 → Targets w (imageOf w k l) (put set 0 v)
   unfolding setBit

@@ -7,17 +7,18 @@ use native.Mathlib.Nat.{zero-add, add-zero, add-suc, div-one, mul-zero, mul-suc,
 use native.Mathlib.Decide.{ℕ-discrete}
 use native.Mathlib.Omega.{arith}
 use lib.Dec.{eqb}
-use lib.Pow.{shr-shr, high, low}
+use lib.Pow.{shr-shr}
 use lib.Count.{ones, onesIn, ones-step}
 use borrow.Author.Tests.{eq-eqb, ne-eqb}
 use Rattle.model.specs.Base.{nth, all, testBit}
 use Rattle.model.specs.Image.{Image, image, imageOf, isStart}
 use Rattle.soundness_laws.specs.Tests.{startsIn}
-use Rattle.model.proofs.Words.{width-cases}
 use Rattle.image_laws.specs.Sized.{Sized}
 use Rattle.image_laws.proofs.Bits.{bit-at}
 use Rattle.image_laws.proofs.Places.{words-full}
 use native.Mathlib.Numerals.{add-one}
+use Rattle.model.specs.Examples.{at}
+use Rattle.image_laws.proofs.Lengths.{sized-width}
 
 -- ---- starts counted
 
@@ -148,4 +149,4 @@ module _ (w k : ℕ) (l : List ℕ) where
   pub c-end : (n i : ℕ) → Sized w k l → StartsCounted w k l n i → 64 * k / w ≤ i → n ≡ startsIn (imageOf w k l) 0 (64 * k)
   c-end n i z c h =
       let e : i ≡ 64 * k / w = omega (arith, c .within) in
-      c .so-far ∙ rw (e, words-full w k (width-cases w k (z .low) (z .high)))
+      c .so-far ∙ rw (e, words-full w k (sized-width z))

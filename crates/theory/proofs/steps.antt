@@ -1,5 +1,6 @@
 -- Steps: by their numbers, and what each keeps.
 pub mod Steps
+pub mod Fields
 pub mod Reaching
 pub mod Tracing
 pub mod Cleaning

@@ -9,3 +9,4 @@ pub mod Sweep
 pub mod Finish
 pub mod New
 pub mod Numbers
+pub mod Fields

@@ -41,10 +41,11 @@ event m s d = record { got = m; request = s; done = d }
 
 -- ---- numbers
 
--- the lines of 10, 4, 5, 6, 7 and 11 on an image, and those of 5, 6, 7 and 11 on a plain store: they agree where 4 does not apply, that of 7
+-- the lines of 10, 4, 5, 6, 7 and 11 on an image, and those of 4, 5, 6, 7 and 11 on a plain store: they agree where 4 does not apply, that of 7
 -- where 6 does not apply either
-pub record SameLines (phase off w x y z w′ x′ y′ z′ : Bool) : Type 0 where
+pub record SameLines (phase off w x y z off′ w′ x′ y′ z′ : Bool) : Type 0 where
   pub in-phase : phase ≡ false
+  pub desk-line : off ≡ off′
   pub owing-line : off ≡ false → w ≡ w′
   pub object-line : off ≡ false → x ≡ x′
   pub end-line : off ≡ false → x ≡ false → y ≡ y′
@@ -52,7 +53,7 @@ pub record SameLines (phase off w x y z w′ x′ y′ z′ : Bool) : Type 0 whe
 
 -- an accepted step: none of these lines applies
 pub record Admitted (m : Image) (s : Step) (n : Kind) : Type 0 where
-  pub on-desk : offDesk s n ≡ false
+  pub on-desk : offDesk s (m .k) n ≡ false
   pub has-object : noObject m s n ≡ false
   pub not-past : pastEnd m s n ≡ false
   pub good-size : badSize s n ≡ false

@@ -64,7 +64,7 @@ module _ (m : Image) (s : Step) (f : Facts m) where
       let st = held-start (s .a) (d 0) (d 1) nz in
       let l : s .b < links m g = leb-false _ _ (line m s store e 4) in
       carries-silent m (setWord m g (2 + s .b) (object m s (s .c))) _ _ _ _ _
-      (setWord-carries m (f .laid) g (s .b) (object m s (s .c)) st (omega (arith, l, (f .laid .inside g st) .0)) (λ k. held (s .c) (d 0) (d 2)))
+      (setWord-carries m (f .laid) g (s .b) (object m s (s .c)) st (omega (arith, l, (f .laid .inside g st) .0)) (λ k. held (s .c) (d 0) (d 3)))
 
   write-carries : refusal m s write ≡ 0 → Carries m ((act m s write) .image)
   unfolding act accept offDesk noObject pastEnd levels
@@ -95,11 +95,11 @@ module _ (m : Image) (s : Step) (f : Facts m) where
 
   trace-carries : refusal m s trace ≡ 0 → Carries m ((act m s trace) .image)
   unfolding act accept offDesk
-  trace-carries e = quiet-carries m _ (quiet-trace m (s .who) (next-source m f (s .who) (not-above 7 (s .who) (line m s trace e 1))))
+  trace-carries e = quiet-carries m _ (quiet-trace m (s .who) (next-source m f (s .who) (not-above 7 (s .who) (some-false _ (line m s trace e 1) 0))))
 
   clean-carries : refusal m s clean ≡ 0 → Carries m ((act m s clean) .image)
   unfolding act accept offDesk
-  clean-carries e = quiet-carries m _ (quiet-clean m (s .who) (next-source m f (s .who) (not-above 7 (s .who) (line m s clean e 1))))
+  clean-carries e = quiet-carries m _ (quiet-clean m (s .who) (next-source m f (s .who) (not-above 7 (s .who) (some-false _ (line m s clean e 1) 0))))
 
   act-carries : NewLeaves m s → (n : Kind) → refusal m s n ≡ 0 → (n ≡ finish → ⊥) → Carries m ((act m s n) .image)
   unfolding act accept

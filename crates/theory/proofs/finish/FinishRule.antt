@@ -7,7 +7,7 @@ use Prim.Native.Nat.{ℕ, _+_, _*_, _≤_, _<_}
 use native.Mathlib.Decide.{ℕ-discrete, decLt}
 use native.Mathlib.Omega.{arith}
 use lib.ListN.{length}
-use Rattle.model.specs.Image.{Image, granules, word, isStart, size, lengths, sections, fits, image, imageOf, parts, words}
+use Rattle.model.specs.Image.{Image, granules, word, isStart, size, sections, fits, image, imageOf, parts, words}
 use Rattle.model.specs.Undamaged.{sound}
 use Rattle.model.specs.Records.{Step, finish, kindOf}
 use Rattle.model.specs.Finish.{Finish, keptSet, Kept, finishWith, finishStep}
@@ -93,7 +93,7 @@ module _ (w : ℕ) (ws : List ℕ) (fit : fits w (length ws) ≡ true) (ok : sou
   -- ---- the same of the words that a finish alone leaves
 
   left-fits : Fits (f .image)
-  unfolding finishStep finishWith sections lengths granules
+  unfolding finishStep finishWith sections granules
   left-fits =
       let k : Fits m = parts-fit w ws fit in
       let e : 4 * (64 * m .k) ≡ 256 * m .k = omega arith in

@@ -11,7 +11,7 @@ use Rattle.model.specs.Image.{Image, isStart, reg, running}
 use Rattle.model.specs.Undamaged.{nilOrStart}
 use Rattle.model.specs.Records.{Step, begin, finish, kindOf}
 use Rattle.model.specs.Finish.{keptSet, Kept, finishStep}
-use Rattle.model.specs.Steps.{isNew, unnamed, offDesk, owing, noObject, pastEnd, badSize, noRoom, wrongPhase, nothingToDo, refusal, accept, act, step}
+use Rattle.model.specs.Steps.{wrongPhase, refusal, numbers-open, accept, act, step}
 use Rattle.model.specs.Claim.{anyField, Same, Finishes}
 use Rattle.model.proofs.Laws.{every-cons, every-nil, either-make}
 use Rattle.model.proofs.Sited.{Sited}
@@ -35,11 +35,11 @@ two-lines false true = refl
 two-lines false false = refl
 
 pub begin-number : (m : Image) (s : Step) → kindOf (s .kind) ≡ begin → (step m s) .number ≡ cond (anyField s) 3 (cond (eqb (running m) 1) 10 0)
-unfolding refusal unnamed offDesk owing noObject pastEnd isNew badSize noRoom wrongPhase nothingToDo anyField
+unfolding numbers-open anyField
 begin-number m s k = step-number m s k ∙ two-lines (anyField s) (eqb (running m) 1)
 
 pub finish-number : (m : Image) (s : Step) → kindOf (s .kind) ≡ finish → (step m s) .number ≡ cond (anyField s) 3 (cond (eqb (running m) 0) 10 0)
-unfolding refusal unnamed offDesk owing noObject pastEnd isNew badSize noRoom wrongPhase nothingToDo anyField
+unfolding numbers-open anyField
 finish-number m s k = step-number m s k ∙ two-lines (anyField s) (eqb (running m) 0)
 
 -- ---- begin

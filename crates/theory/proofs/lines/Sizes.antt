@@ -5,7 +5,7 @@ use mathlib.Core.List.{map}
 use Prim.Native.Nat.{ℕ, _≤_, _*_, _<_, _/_}
 use native.Mathlib.Omega.{arith}
 use lib.ListN.{length, getD}
-use Rattle.model.specs.Image.{lengths, mostCards, Image, sections}
+use Rattle.model.specs.Image.{heapAt, startsAt, marksAt, cardsAt, regsAt, packetsAt, tracersAt, playersAt, generalAt, lengths, mostCards, Image, sections}
 use Rattle.model.proofs.Words.{Fits, width-cases}
 use Rattle.model.proofs.Bits.{bit-within}
 use Rattle.theory.specs.Lines.{Sizes, Lines}
@@ -19,20 +19,20 @@ bit-word w k g (inr e) h = rw e (omega arith)
 -- ---- sizes from lengths
 
 pub fits-sizes : (m : Image) → Fits m → Sizes m
-unfolding sections lengths
+unfolding sections
 fits-sizes m f = record {
-  heap-size = here 0 ∙ omega arith;
-  starts-size = here 1;
-  marks-size = here 2;
-  starts-in = λ g e. bit-within (m .width) (64 * m .k) (m .starts) g (here 1) e;
-  marks-in = λ g e. bit-within (m .width) (64 * m .k) (m .marks) g (here 2) e;
-  marks-room = λ g h. rw (here 2) (bit-word (m .width) (m .k) g w h);
-  cards-size = here 3;
-  regs-size = here 4;
-  packets-size = here 5;
-  tracers-size = here 6;
-  players-size = here 7;
-  general-size = here 8;
+  heap-size = here heapAt ∙ omega arith;
+  starts-size = here startsAt;
+  marks-size = here marksAt;
+  starts-in = λ g e. bit-within (m .width) (64 * m .k) (m .starts) g (here startsAt) e;
+  marks-in = λ g e. bit-within (m .width) (64 * m .k) (m .marks) g (here marksAt) e;
+  marks-room = λ g h. rw (here marksAt) (bit-word (m .width) (m .k) g w h);
+  cards-size = here cardsAt;
+  regs-size = here regsAt;
+  packets-size = here packetsAt;
+  tracers-size = here tracersAt;
+  players-size = here playersAt;
+  general-size = here generalAt;
 }
   where
     here : (i : ℕ) → getD (map length (sections m)) i 0 ≡ getD (lengths (m .width) (m .k)) i 0
@@ -43,7 +43,7 @@ fits-sizes m f = record {
 
 -- the lines give the lengths
 pub lines-fits : {m : Image} → Lines m → m .k ≤ mostCards (m .width) → Fits m
-unfolding sections lengths
+unfolding sections
 lines-fits {m} o h = record {
   some-card = some-card o;
   few-cards = h;

@@ -11,7 +11,7 @@ use Rattle.model.specs.Image.{Image, granules, word, isStart, links, link, owed
 use Rattle.model.specs.Undamaged.{filled}
 use Rattle.model.specs.Records.{Step, new}
 use Rattle.model.specs.Mutate.{roomFor, newObject}
-use Rattle.model.specs.Steps.{isNew, noRoom, refusal, offDesk, owes, owing, accept, act}
+use Rattle.model.specs.Steps.{noRoom, refusal, offDesk, owes, owing, accept, act}
 use Rattle.model.proofs.Laws.{some-false}
 use Rattle.theory.specs.Heap.{HeapFilled}
 use Rattle.theory.specs.Lines.{NilOr, GeneralOk, HeapOk, Start, Lines, Undamaged}
@@ -104,7 +104,7 @@ module _ (m : Image) (s : Step) (o : Lines m) (e : refusal m s new ≡ 0) where
 
   -- what an accepted new leaves
   pub new-does : NewMade m (newObject m (s .who) (s .a) (s .b) (s .c)) (s .who) (s .a) (s .b) (s .c) ((roomFor m (s .b)) .run)
-  unfolding noRoom isNew
+  unfolding noRoom
   new-does = go ((roomFor m (s .b)) .run) refl (eqb-false _ _ (line m s new e 6))
     where
       go : (g : ℕ) → (roomFor m (s .b)) .run ≡ g → ((roomFor m (s .b)) .run ≡ 0 → ⊥) → NewMade m (newObject m (s .who) (s .a) (s .b) (s .c)) (s .who) (s .a) (s .b) (s .c) ((roomFor m (s .b)) .run)
@@ -115,4 +115,4 @@ pub new-step : (m : Image) (s : Step) → Undamaged m → refusal m s new ≡ 0 
 unfolding act accept offDesk owing owes
 new-step m s u e =
     let d = some-false _ (line m s new e 1) in
-    new-keeps u (new-does m s (u .sound .lines) e) (omega (arith, good-size s (line m s new e 5) .2)) (not-above 15 (s .who) (d 0)) (not-above 15 (s .a) (d 1)) (eqb-true _ _ (not-false _ (line m s new e 2)))
+    new-keeps u (new-does m s (u .sound .lines) e) (omega (arith, good-size s (line m s new e 5) .2)) (not-above 15 (s .who) (d 0)) (not-above 15 (s .a) (d 1)) (eqb-true _ _ (not-false _ (some-false _ (line m s new e 2) 0)))

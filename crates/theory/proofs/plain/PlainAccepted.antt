@@ -1,6 +1,6 @@
 -- A player's step on an image and on a plain store that agree: they answer alike and agree again.
 use mathlib.Core.Path.{_≡_, refl, sym, ap, subst, _∙_}
-use mathlib.Core.Bool.{true, false, not}
+use mathlib.Core.Bool.{Bool, true, false, not, _&&_, _||_}
 use Prim.Native.Nat.{ℕ, zero, suc, _+_, _-_, _/_, _<_}
 use native.Mathlib.Omega.{arith}
 use lib.Dec.{eqb}
@@ -8,8 +8,9 @@ use lib.ListN.{length}
 use borrow.Author.Tests.{eqb-false, ne-eqb, leb-false}
 use Rattle.model.specs.Image.{Image, word, links, link, reg, owed, withHeap, withCards, setWord, setState, dirtyCard}
 use Rattle.model.specs.Records.{Step, Kind, new, load, store, barrier, handOver, dropReg, read, write, begin, scan, trace, clean, finish, isDue, unknown, kindOf}
+use Rattle.model.specs.Rows.{is}
 use Rattle.model.specs.Steps.{offDesk, object, noObject, pastEnd, refusal, accept, act, outcome}
-use Rattle.model.specs.Plain.{Object, made, PlainStore, putLink, Value, as-is, PlainDone, byPlayerKind, holding, plainRefusal, plainAccept, plainAct, plainOutcome, feeds, objectAt, upd, named, reading}
+use Rattle.model.specs.Plain.{Object, made, PlainStore, putLink, Value, as-is, PlainDone, holding, plainRefusal, plainAccept, plainAct, plainOutcome, feeds, objectAt, upd, named, reading}
 use Rattle.model.specs.Claim.{Chain, chain-link}
 use Rattle.model.proofs.Laws.{false≢, some-false}
 use Rattle.theory.specs.Same.{Names, SameStore, Related, KeptWords, event, Admitted}
@@ -25,28 +26,10 @@ use Rattle.theory.proofs.new.NewMade.{new-not-nil}
 abbrev replied : PlainStore → ℕ → Value → PlainDone
 replied q r v = record { plain = q; reply = record { number = r; value = v } }
 
--- one value for all kinds
-pub by-one : {A : Type 0} (z : A) (n : Kind) → byPlayerKind z z z z z z z z z n ≡ z
-by-one z new = refl
-by-one z load = refl
-by-one z store = refl
-by-one z barrier = refl
-by-one z handOver = refl
-by-one z dropReg = refl
-by-one z read = refl
-by-one z write = refl
-by-one z begin = refl
-by-one z scan = refl
-by-one z trace = refl
-by-one z clean = refl
-by-one z finish = refl
-by-one z isDue = refl
-by-one z unknown = refl
-
 -- an event that names nothing, and whose value is a number
 as-number : (name : ℕ → Object) (i : ℕ) → Names name i → (m m′ : Image) (s : Step) (r v : ℕ) (q : PlainStore) (w : ℕ) → v ≡ w
-    → byPlayerKind false (eqb r 0) false false false false false false false (kindOf (s .kind)) ≡ false
-    → byPlayerKind false (eqb r 0) (eqb r 0) false false false false false false (kindOf (s .kind)) ≡ false
+    → (is (kindOf (s .kind)) new && eqb r 0) ≡ false
+    → ((is (kindOf (s .kind)) new || is (kindOf (s .kind)) load) && eqb r 0) ≡ false
     → SameStore name m′ q → Related name i (event m s (record { image = m′; number = r; value = v })) (replied q r (as-is w))
 unfolding named reading
 as-number name i ns m m′ s r v q w e no-new no-object a = record { names-after = rw no-new (names-more ns); same-after = rw no-new a; same-reply = rw (no-object, e) }
@@ -68,15 +51,16 @@ module _ (m : Image) (f : Facts m) (s : Step) (q : PlainStore) (name : ℕ → O
   in-reg = in-register m s q name i ns S
 
   -- an accepted step of a kind whose value is a number
-  number-reply : (n : Kind) → kindOf (s .kind) ≡ n → byPlayerKind false true false false false false false false false n ≡ false → byPlayerKind false true true false false false false false false n ≡ false
+  number-reply : (n : Kind) → kindOf (s .kind) ≡ n → is n new ≡ false → is n load ≡ false
       → (m′ : Image) (v : ℕ) (q′ : PlainStore) (w : ℕ) → v ≡ w → SameStore name m′ q′ → Related name i (event m s (record { image = m′; number = 0; value = v })) (replied q′ 0 (as-is w))
-  number-reply n k no-new no-object m′ v q′ w e a = as-number name i ns m m′ s 0 v q′ w e (rw k no-new) (rw k no-object) a
+  number-reply n k no-new no-object m′ v q′ w e a = as-number name i ns m m′ s 0 v q′ w e (ap (λ x. is x new && true) k ∙ ap (λ b. b && true) no-new) (ap (λ x. (is x new || is x load) && true) k ∙ (ap (λ b. (b || is n load) && true) no-new ∙ ap (λ b. b && true) no-object)) a
 
   refused-alike : (r : ℕ) → Related name i (event m s (record { image = m; number = suc r; value = 0 })) (replied q (suc r) (as-is 0))
-  refused-alike r = as-number name i ns m m s (suc r) 0 q 0 refl (rw off (by-one false (kindOf (s .kind)))) (rw off (by-one false (kindOf (s .kind)))) S
+  refused-alike r = as-number name i ns m m s (suc r) 0 q 0 refl (none (is (kindOf (s .kind)) new)) (none (is (kindOf (s .kind)) new || is (kindOf (s .kind)) load)) S
     where
-      off : eqb (suc r) 0 ≡ false
-      off = ne-eqb (suc r) 0 (λ e. omega arith)
+      none : (b : Bool) → (b && eqb (suc r) 0) ≡ false
+      none true = ne-eqb (suc r) 0 (λ e. omega arith)
+      none false = refl
 
   new-alike : NewLeaves m s → refusal m s new ≡ 0 → Alike new
   unfolding act accept plainAct plainAccept named reading offDesk
@@ -132,7 +116,7 @@ module _ (m : Image) (f : Facts m) (s : Step) (q : PlainStore) (name : ℕ → O
       ha = not-above 15 (s .a) (some-false _ (a .on-desk) 1)
 
       hc : s .c < 16
-      hc = not-above 15 (s .c) (some-false _ (a .on-desk) 2)
+      hc = not-above 15 (s .c) (some-false _ (a .on-desk) 3)
 
       g : ℕ
       g = object m s (s .a)
@@ -154,7 +138,7 @@ module _ (m : Image) (f : Facts m) (s : Step) (q : PlainStore) (name : ℕ → O
 
   barrier-alike : Alike barrier
   unfolding act accept plainAct plainAccept offDesk
-  barrier-alike k a = number-reply barrier k refl refl _ 0 _ 0 refl (same-setOwed m₁ len (s .who) 0 (not-above 15 (s .who) (a .on-desk)) name q (same-kept m f m₁ kept name q S))
+  barrier-alike k a = number-reply barrier k refl refl _ 0 _ 0 refl (same-setOwed m₁ len (s .who) 0 (not-above 15 (s .who) (some-false _ (a .on-desk) 0)) name q (same-kept m f m₁ kept name q S))
     where
       m₁ : Image
       m₁ = dirtyCard m (owed m (s .who) - 1)

@@ -1,15 +1,17 @@
 -- An image and a plain store that agree give a player's step the same number, but for 9.
 use mathlib.Core.Path.{_≡_, refl, sym, ap, _∙_}
-use mathlib.Core.Bool.{Bool, true, false, not, _&&_, _||_}
+use mathlib.Core.Bool.{Bool, true, false, not, _&&_}
 use mathlib.Core.List.{[], _∷_}
 use Prim.Native.Nat.{ℕ, _<_}
 use lib.Dec.{eqb, leb}
-use borrow.Author.Tests.{eqb-false}
-use Rattle.model.specs.Base.{first}
+use lib.ListN.{getD}
+use borrow.Author.Tests.{eqb-false, leb-false}
+use Rattle.model.specs.Base.{some, first}
 use Rattle.model.specs.Image.{Image, links, levels, owed}
 use Rattle.model.specs.Records.{Step, Kind, new, load, store, barrier, handOver, dropReg, read, write, begin, scan, trace, clean, finish, isDue, unknown}
 use Rattle.model.specs.Mutate.{roomFor}
-use Rattle.model.specs.Steps.{isNew, unnamed, offDesk, badSize, object, owes, owing, noObject, pastEnd, noRoom, wrongPhase, nothingToDo, refusal}
+use Rattle.model.specs.Rows.{Role, unused, player, tracer, register, number, rowOf, is, isPlayer, limit, reaches, fields}
+use Rattle.model.specs.Steps.{unnamed, offDesk, badSize, object, owes, owing, noObject, pastEnd, noRoom, wrongPhase, nothingToDo, refusal}
 use Rattle.model.specs.Plain.{Object, isNil, PlainStore, holding, plainOwing, plainNoObject, plainLevels, plainPastEnd, plainNothing, plainRefusal, feeds}
 use Rattle.model.specs.Claim.{Chain, chain-reg}
 use Rattle.model.proofs.Laws.{false≢, some-false, first-off, first-cons, first-passes}
@@ -19,11 +21,11 @@ use Rattle.theory.proofs.steps.Steps.{not-above, line}
 
 -- ---- tables of lines
 
-lines-number : (u b phase off w x y z w′ x′ y′ z′ : Bool) → SameLines phase off w x y z w′ x′ y′ z′
-    → first 3 (u ∷ off ∷ w ∷ x ∷ y ∷ b ∷ false ∷ phase ∷ z ∷ []) ≡ first 3 (u ∷ off ∷ w′ ∷ x′ ∷ y′ ∷ b ∷ false ∷ false ∷ z′ ∷ [])
-lines-number u b phase off w x y z w′ x′ y′ z′ l =
+lines-number : (u b phase off w x y z off′ w′ x′ y′ z′ : Bool) → SameLines phase off w x y z off′ w′ x′ y′ z′
+    → first 3 (u ∷ off ∷ w ∷ x ∷ y ∷ b ∷ false ∷ phase ∷ z ∷ []) ≡ first 3 (u ∷ off′ ∷ w′ ∷ x′ ∷ y′ ∷ b ∷ false ∷ false ∷ z′ ∷ [])
+lines-number u b phase off w x y z off′ w′ x′ y′ z′ l =
     first-cons 3 u u _ _ refl (λ n.
-    first-cons 4 off off _ _ refl (λ d.
+    first-cons 4 off off′ _ _ (l .desk-line) (λ d.
     first-cons 5 w w′ _ _ (l .owing-line d) (λ n.
     first-cons 6 x x′ _ _ (l .object-line d) (λ o.
     first-cons 7 y y′ _ _ (l .end-line d o) (λ n.
@@ -38,7 +40,7 @@ pub admitted : (m : Image) (s : Step) (n : Kind) → refusal m s n ≡ 0 → Adm
 admitted m s n e = record { on-desk = line m s n e 1; has-object = line m s n e 3; not-past = line m s n e 4; good-size = line m s n e 5 }
 
 -- only a new is answered 9
-pub not-nine : (m : Image) (s : Step) (n : Kind) → isNew n ≡ false → refusal m s n ≡ 9 → ⊥
+pub not-nine : (m : Image) (s : Step) (n : Kind) → is n new ≡ false → refusal m s n ≡ 9 → ⊥
 unfolding refusal noRoom
 not-nine m s n e x = false≢ (sym (ap (λ z. z && eqb ((roomFor m (s .b)) .run) 0) e) ∙ first-passes 2 _ 6 x)
 
@@ -65,52 +67,67 @@ module _ (m : Image) (s : Step) (q : PlainStore) (name : ℕ → Object) (i : �
   unfolding levels plainLevels
   levels-alike r hp hr nz = let k : Chain m (object m s r) = held-chain r hp hr nz in rw (in-register r hp hr, S .same-count (object m s r) k, S .same-size (object m s r) k)
 
-  -- kinds without an object register, and kinds with one
-  bare-lines : (off w w′ : Bool) → (off ≡ false → w ≡ w′) → SameLines false off w false false false w′ false false false
-  bare-lines off w w′ h = record { in-phase = refl; owing-line = h; object-line = λ d. refl; end-line = λ d o. refl; nothing-line = λ d. refl }
+  -- number 5 asks the same players, who are on the desk
+  owing-alike : (n : Kind) → offDesk s (m .k) n ≡ false → owing m s n ≡ plainOwing q s n
+  unfolding offDesk owing plainOwing
+  owing-alike n d =
+      let f : (i : ℕ) → getD (fields s (λ r x. reaches (limit (m .k) r) x) (rowOf n)) i false ≡ false = some-false (fields s (λ r x. reaches (limit (m .k) r) x) (rowOf n)) d in
+      ap (λ l. (rowOf n) .unowing && some l)
+      (λ j. same ((rowOf n) .who) (s .who) (f 0) j ∷ same ((rowOf n) .a) (s .a) (f 1) j ∷ same ((rowOf n) .b) (s .b) (f 2) j ∷ same ((rowOf n) .c) (s .c) (f 3) j ∷ [])
+    where
+      same : (r : Role) (x : ℕ) → reaches (limit (m .k) r) x ≡ false → (isPlayer r && owes m s x) ≡ (isPlayer r && q .owing x)
+      same unused x h = refl
+      same player x h = owes-alike x (leb-false 16 x h)
+      same tracer x h = refl
+      same register x h = refl
+      same number x h = refl
 
-  object-lines : (off : Bool) (r j : ℕ) (count : ℕ → ℕ) (count′ : Object → ℕ) → (off ≡ false → (s .who < 16) × (r < 16))
+  abbrev LinesOf : Kind → Type 0
+  LinesOf n =
+      SameLines (wrongPhase m s n) (offDesk s (m .k) n) (owing m s n) (noObject m s n) (pastEnd m s n) (nothingToDo m s n)
+      (offDesk s 0 n) (plainOwing q s n) (plainNoObject q s n) (plainPastEnd q s n) (plainNothing q s n)
+
+  -- kinds without an object register, and kinds with one
+  bare-lines : (off w w′ : Bool) → (off ≡ false → w ≡ w′) → SameLines false off w false false false off w′ false false false
+  bare-lines off w w′ h = record { in-phase = refl; desk-line = refl; owing-line = h; object-line = λ d. refl; end-line = λ d o. refl; nothing-line = λ d. refl }
+
+  object-lines : (off w w′ : Bool) (r j : ℕ) (count : ℕ → ℕ) (count′ : Object → ℕ) → (off ≡ false → w ≡ w′) → (off ≡ false → (s .who < 16) × (r < 16))
       → (s .who < 16 → r < 16 → (object m s r ≡ 0 → ⊥) → count (object m s r) ≡ count′ (holding q s r))
-      → SameLines false off (owes m s (s .who)) (eqb (object m s r) 0) (leb (count (object m s r)) j) false (q .owing (s .who)) (isNil (holding q s r)) (leb (count′ (holding q s r)) j) false
-  object-lines off r j count count′ desk same = record {
+      → SameLines false off w (eqb (object m s r) 0) (leb (count (object m s r)) j) false off w′ (isNil (holding q s r)) (leb (count′ (holding q s r)) j) false
+  object-lines off w w′ r j count count′ h desk same = record {
     in-phase = refl;
-    owing-line = λ d. owes-alike (s .who) ((desk d) .0);
+    desk-line = refl;
+    owing-line = h;
     object-line = λ d. sym (ap isNil (in-register r ((desk d) .0) ((desk d) .1)) ∙ nil-name ns (object m s r));
     end-line = λ d o. ap (λ x. leb x j) (same ((desk d) .0) ((desk d) .1) (eqb-false _ _ o));
     nothing-line = λ d. refl;
   }
 
-  barrier-lines : (off : Bool) → (off ≡ false → s .who < 16) → SameLines false off false false false (eqb (owed m (s .who)) 0) false false false (not (q .owing (s .who)))
-  unfolding owes
-  barrier-lines off h = record {
+  barrier-lines : LinesOf barrier
+  unfolding wrongPhase offDesk owing noObject pastEnd nothingToDo owes plainOwing plainNoObject plainPastEnd plainNothing
+  barrier-lines = record {
     in-phase = refl;
+    desk-line = refl;
     owing-line = λ d. refl;
     object-line = λ d. refl;
     end-line = λ d o. refl;
-    nothing-line = λ d. twice (eqb (owed m (s .who)) 0) ∙ ap not (owes-alike (s .who) (h d));
+    nothing-line = λ d. twice (eqb (owed m (s .who)) 0) ∙ ap not (owes-alike (s .who) (not-above 15 (s .who) (some-false _ d 0)));
   }
     where
       twice : (a : Bool) → a ≡ not (not a)
       twice true = refl
       twice false = refl
 
-  abbrev LinesOf : Kind → Type 0
-  LinesOf n =
-      SameLines (wrongPhase m s n) (offDesk s n) (owing m s n) (noObject m s n) (pastEnd m s n) (nothingToDo m s n)
-      (plainOwing q s n) (plainNoObject q s n) (plainPastEnd q s n) (plainNothing q s n)
-
   lines-of : (n : Kind) → feeds n 0 ≡ true → LinesOf n
-  unfolding wrongPhase offDesk owing noObject pastEnd nothingToDo plainOwing plainNoObject plainPastEnd plainNothing feeds
-  lines-of new e = bare-lines _ _ _ (λ d. owes-alike (s .who) (not-above 15 (s .who) (some-false _ d 0)))
-  lines-of load e = object-lines _ (s .b) (s .c) (links m) (q .linkCount) (λ d. (not-above 15 (s .who) (some-false _ d 0), not-above 15 (s .b) (some-false _ d 2))) (links-alike (s .b))
-  lines-of store e = object-lines _ (s .a) (s .b) (links m) (q .linkCount) (λ d. (not-above 15 (s .who) (some-false _ d 0), not-above 15 (s .a) (some-false _ d 1))) (links-alike (s .a))
-  lines-of barrier e = barrier-lines _ (not-above 15 (s .who))
-  lines-of handOver e =
-      bare-lines _ _ _
-      (λ d. ap (λ z. z || owes m s (s .b)) (owes-alike (s .who) (not-above 15 (s .who) (some-false _ d 0))) ∙ ap (λ z. q .owing (s .who) || z) (owes-alike (s .b) (not-above 15 (s .b) (some-false _ d 2))))
-  lines-of dropReg e = bare-lines _ _ _ (λ d. owes-alike (s .who) (not-above 15 (s .who) (some-false _ d 0)))
-  lines-of read e = object-lines _ (s .a) (s .b) (levels m) (plainLevels q s) (λ d. (not-above 15 (s .who) (some-false _ d 0), not-above 15 (s .a) (some-false _ d 1))) (levels-alike (s .a))
-  lines-of write e = object-lines _ (s .a) (s .b) (levels m) (plainLevels q s) (λ d. (not-above 15 (s .who) (some-false _ d 0), not-above 15 (s .a) (some-false _ d 1))) (levels-alike (s .a))
+  unfolding wrongPhase offDesk noObject pastEnd nothingToDo plainNoObject plainPastEnd plainNothing feeds
+  lines-of new e = bare-lines _ _ _ (owing-alike new)
+  lines-of load e = object-lines _ _ _ (s .b) (s .c) (links m) (q .linkCount) (owing-alike load) (λ d. (not-above 15 (s .who) (some-false _ d 0), not-above 15 (s .b) (some-false _ d 2))) (links-alike (s .b))
+  lines-of store e = object-lines _ _ _ (s .a) (s .b) (links m) (q .linkCount) (owing-alike store) (λ d. (not-above 15 (s .who) (some-false _ d 0), not-above 15 (s .a) (some-false _ d 1))) (links-alike (s .a))
+  lines-of barrier e = barrier-lines
+  lines-of handOver e = bare-lines _ _ _ (owing-alike handOver)
+  lines-of dropReg e = bare-lines _ _ _ (owing-alike dropReg)
+  lines-of read e = object-lines _ _ _ (s .a) (s .b) (levels m) (plainLevels q s) (owing-alike read) (λ d. (not-above 15 (s .who) (some-false _ d 0), not-above 15 (s .a) (some-false _ d 1))) (levels-alike (s .a))
+  lines-of write e = object-lines _ _ _ (s .a) (s .b) (levels m) (plainLevels q s) (owing-alike write) (λ d. (not-above 15 (s .who) (some-false _ d 0), not-above 15 (s .a) (some-false _ d 1))) (levels-alike (s .a))
   lines-of begin e = false≢ e
   lines-of scan e = false≢ e
   lines-of trace e = false≢ e
@@ -121,4 +138,4 @@ module _ (m : Image) (s : Step) (q : PlainStore) (name : ℕ → Object) (i : �
 
   pub same-number : (n : Kind) → feeds n 0 ≡ true → (refusal m s n ≡ 9 → ⊥) → refusal m s n ≡ plainRefusal q s n
   unfolding refusal plainRefusal
-  same-number n e ne = first-off 3 _ 6 ne ∙ lines-number (unnamed s n) (badSize s n) _ _ _ _ _ _ _ _ _ _ (lines-of n e)
+  same-number n e ne = first-off 3 _ 6 ne ∙ lines-number (unnamed s n) (badSize s n) _ _ _ _ _ _ _ _ _ _ _ (lines-of n e)

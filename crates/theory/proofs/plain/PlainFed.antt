@@ -1,7 +1,7 @@
 -- Which steps the plain store is fed; the others leave registers, owed cards and the words of what a chain reaches.
 use mathlib.Core.Path.{_≡_, refl, sym, ap, _∙_}
 use mathlib.Core.Logic.{_⊎_, inl, inr}
-use mathlib.Core.Bool.{true, false, not, cond}
+use mathlib.Core.Bool.{true, false, not, cond, _&&_}
 use Prim.Native.Nat.{ℕ}
 use native.Mathlib.Omega.{arith}
 use lib.Dec.{eqb}
@@ -9,65 +9,50 @@ use borrow.Author.Tests.{eqb-true, eqb-false, ne-eqb, not-true, not-false}
 use Rattle.model.specs.Image.{Image, reg, owed}
 use Rattle.model.specs.Records.{Step, Kind, new, load, store, barrier, handOver, dropReg, read, write, begin, scan, trace, clean, finish, isDue, unknown, kindOf}
 use Rattle.model.specs.Finish.{finishWith, finishStep}
-use Rattle.model.specs.Steps.{Event, isNew, refusal, accept, finishDone, act, step}
-use Rattle.model.specs.Plain.{Object, made, upd, byPlayerKind, feeds, feedsEvent, named}
+use Rattle.model.specs.Rows.{rowOf, is, isPlayer}
+use Rattle.model.specs.Steps.{Event, refusal, accept, finishDone, act, step}
+use Rattle.model.specs.Plain.{Object, made, upd, feeds, feedsEvent, named}
 use Rattle.model.proofs.Laws.{false≢, bool-cases}
+use Rattle.model.proofs.Rows.{is-same}
 use Rattle.theory.specs.Cycle.{Quiet}
 use Rattle.theory.specs.Same.{WordsStay, KeptWords}
 use Rattle.theory.proofs.steps.Steps.{step-cases}
 use Rattle.theory.proofs.cycle.Quiet.{quiet-refl, quiet-begin, quiet-scan, quiet-trace, quiet-clean}
 use Rattle.theory.proofs.finish.Replaced.{off-owed}
 use Rattle.theory.proofs.plain.PlainAlike.{not-nine}
-use Rattle.theory.proofs.plain.PlainAccepted.{by-one}
 
 -- ---- which steps the plain store is fed
 
--- the value for new, and those for the other kinds
-by-new : {A : Type 0} (z a b c d e f g h : A) (n : Kind) → byPlayerKind z a b c d e f g h n ≡ cond (isNew n) a (byPlayerKind z z b c d e f g h n)
-unfolding isNew
-by-new z a b c d e f g h new = refl
-by-new z a b c d e f g h load = refl
-by-new z a b c d e f g h store = refl
-by-new z a b c d e f g h barrier = refl
-by-new z a b c d e f g h handOver = refl
-by-new z a b c d e f g h dropReg = refl
-by-new z a b c d e f g h read = refl
-by-new z a b c d e f g h write = refl
-by-new z a b c d e f g h begin = refl
-by-new z a b c d e f g h scan = refl
-by-new z a b c d e f g h trace = refl
-by-new z a b c d e f g h clean = refl
-by-new z a b c d e f g h finish = refl
-by-new z a b c d e f g h isDue = refl
-by-new z a b c d e f g h unknown = refl
-
 -- the record of a new is fed unless it is answered 9, and any other whatever it is answered
-fed-new : (n : Kind) (r : ℕ) → isNew n ≡ true → feeds n r ≡ not (eqb r 9)
+fed-new : (n : Kind) (r : ℕ) → is n new ≡ true → feeds n r ≡ not (eqb r 9)
 unfolding feeds
-fed-new n r e = by-new _ _ _ _ _ _ _ _ _ n ∙ rw e refl
+fed-new n r e = ap (λ x. feeds x r) (is-same n new e)
 
-fed-other : (n : Kind) (r t : ℕ) → isNew n ≡ false → feeds n r ≡ feeds n t
+fed-other : (n : Kind) (r t : ℕ) → is n new ≡ false → feeds n r ≡ feeds n t
 unfolding feeds
-fed-other n r t e = by-new _ _ _ _ _ _ _ _ _ n ∙ (rw e refl ∙ sym (by-new _ _ _ _ _ _ _ _ _ n))
+fed-other n r t e = answered r ∙ sym (answered t)
+  where
+    answered : (r : ℕ) → (isPlayer ((rowOf n) .who) && not (is n new && eqb r 9)) ≡ (isPlayer ((rowOf n) .who) && true)
+    answered r = ap (λ b. isPlayer ((rowOf n) .who) && not (b && eqb r 9)) e
 
 pub fed-not-nine : (m : Image) (s : Step) (n : Kind) → feeds n (refusal m s n) ≡ true → refusal m s n ≡ 9 → ⊥
-fed-not-nine m s n e = go (bool-cases (isNew n))
+fed-not-nine m s n e = go (bool-cases (is n new))
   where
-    go : (isNew n ≡ true) ⊎ (isNew n ≡ false) → refusal m s n ≡ 9 → ⊥
+    go : (is n new ≡ true) ⊎ (is n new ≡ false) → refusal m s n ≡ 9 → ⊥
     go (inl x) = eqb-false (refusal m s n) 9 (not-true _ (sym (fed-new n (refusal m s n) x) ∙ e))
     go (inr x) = not-nine m s n x
 
 pub fed-zero : (n : Kind) (r : ℕ) → feeds n r ≡ true → feeds n 0 ≡ true
-fed-zero n r e = go (bool-cases (isNew n))
+fed-zero n r e = go (bool-cases (is n new))
   where
-    go : (isNew n ≡ true) ⊎ (isNew n ≡ false) → feeds n 0 ≡ true
+    go : (is n new ≡ true) ⊎ (is n new ≡ false) → feeds n 0 ≡ true
     go (inl x) = fed-new n 0 x
     go (inr x) = fed-other n 0 r x ∙ e
 
 -- a step that is not fed names nothing
 pub unfed-named : (name : ℕ → Object) (i : ℕ) (e : Event) → feedsEvent e ≡ false → named name i e ≡ name
 unfolding named feedsEvent
-unfed-named name i e u = ap (λ b. cond b (upd name (e .done .value) (made i)) name) (by-new _ _ _ _ _ _ _ _ _ (kindOf (e .request .kind)) ∙ go (bool-cases (isNew (kindOf (e .request .kind)))))
+unfed-named name i e u = ap (λ b. cond b (upd name (e .done .value) (made i)) name) (go (bool-cases (is (kindOf (e .request .kind)) new)))
   where
     n : Kind
     n = kindOf (e .request .kind)
@@ -75,9 +60,9 @@ unfed-named name i e u = ap (λ b. cond b (upd name (e .done .value) (made i)) n
     r : ℕ
     r = e .done .number
 
-    go : (isNew n ≡ true) ⊎ (isNew n ≡ false) → cond (isNew n) (eqb r 0) (byPlayerKind false false false false false false false false false n) ≡ false
-    go (inl x) = let k : r ≡ 9 = eqb-true r 9 (not-false _ (sym (fed-new n r x) ∙ u)) in rw x (ne-eqb r 0 (λ z. omega arith))
-    go (inr x) = rw x (by-one false n)
+    go : (is n new ≡ true) ⊎ (is n new ≡ false) → (is n new && eqb r 0) ≡ false
+    go (inl x) = let k : r ≡ 9 = eqb-true r 9 (not-false _ (sym (fed-new n r x) ∙ u)) in ap (λ b. b && eqb r 0) x ∙ ne-eqb r 0 (λ z. omega arith)
+    go (inr x) = ap (λ b. b && eqb r 0) x
 
 -- ---- what a step that is not fed leaves
 

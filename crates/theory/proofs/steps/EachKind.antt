@@ -13,7 +13,7 @@ use Rattle.model.specs.Mutate.{newObject}
 use Rattle.model.specs.Collect.{scanPlayer, beginCycle, traceStep, cleanStep}
 use Rattle.model.specs.Finish.{finishWith, finishStep}
 use Rattle.model.specs.Steps.{offDesk, object, owes, owing, noObject, pastEnd, wrongPhase, nothingToDo, refusal, accept, finishDone, act}
-use Rattle.model.proofs.Laws.{some-false, or-none}
+use Rattle.model.proofs.Laws.{some-false}
 use Rattle.theory.specs.Lines.{NilOr, Start, Lines, Undamaged}
 use Rattle.theory.proofs.steps.Beginning.{scan-does, begin-does}
 use Rattle.theory.proofs.steps.Cleaning.{clean-does}
@@ -53,11 +53,11 @@ stays-shape r = (ap (λ f. f .0) (r .frame-same), ap (λ f. f .1) (r .frame-same
 module _ (m : Image) (s : Step) (u : Undamaged m) where
   trace-stays : refusal m s trace ≡ 0 → Stays m (traceStep m (s .who))
   unfolding offDesk
-  trace-stays r = trace-does m (u .sound .lines) (u .cover) (s .who) (not-above 7 (s .who) (line m s trace r 1))
+  trace-stays r = trace-does m (u .sound .lines) (u .cover) (s .who) (not-above 7 (s .who) (some-false _ (line m s trace r 1) 0))
 
   clean-stays : refusal m s clean ≡ 0 → Stays m (cleanStep m (s .who))
   unfolding offDesk
-  clean-stays r = clean-does m (u .sound .lines) (u .cover) (s .who) (not-above 7 (s .who) (line m s clean r 1))
+  clean-stays r = clean-does m (u .sound .lines) (u .cover) (s .who) (not-above 7 (s .who) (some-false _ (line m s clean r 1) 0))
 
   scan-stays : refusal m s scan ≡ 0 → Stays m (scanPlayer m (s .who) (s .a))
   unfolding offDesk
@@ -90,21 +90,21 @@ module _ (m : Image) (s : Step) (u : Undamaged m) where
   load-keeps r =
       let d = some-false _ (line m s load r 1) in
       let g = held-start (s .b) (line m s load r 3) in
-      reg-keeps m u (s .who) (s .a) _ (not-above 15 (s .who) (d 0)) (not-above 15 (s .a) (d 1)) (owes-none m s (s .who) (line m s load r 2))
+      reg-keeps m u (s .who) (s .a) _ (not-above 15 (s .who) (d 0)) (not-above 15 (s .a) (d 1)) (owes-none m s (s .who) (some-false _ (line m s load r 2) 0))
       (link-value (u .sound .lines) (object m s (s .b)) (s .c) g (leb-false _ _ (line m s load r 4)))
 
   hand-keeps : refusal m s handOver ≡ 0 → Undamaged ((act m s handOver) .image)
   unfolding act accept object offDesk owing
   hand-keeps r =
       let d = some-false _ (line m s handOver r 1) in
-      let e = or-none (owes m s (s .who)) (owes m s (s .b)) (line m s handOver r 2) in
-      reg-keeps m u (s .b) (s .c) _ (not-above 15 (s .b) (d 2)) (not-above 15 (s .c) (d 3)) (owes-none m s (s .b) (e .1)) (reg-value (u .sound .lines) (s .who) (s .a))
+      let e = some-false _ (line m s handOver r 2) in
+      reg-keeps m u (s .b) (s .c) _ (not-above 15 (s .b) (d 2)) (not-above 15 (s .c) (d 3)) (owes-none m s (s .b) (e 2)) (reg-value (u .sound .lines) (s .who) (s .a))
 
   drop-keeps : refusal m s dropReg ≡ 0 → Undamaged ((act m s dropReg) .image)
   unfolding act accept offDesk owing
   drop-keeps r =
       let d = some-false _ (line m s dropReg r 1) in
-      reg-keeps m u (s .who) (s .a) 0 (not-above 15 (s .who) (d 0)) (not-above 15 (s .a) (d 1)) (owes-none m s (s .who) (line m s dropReg r 2)) (inl refl)
+      reg-keeps m u (s .who) (s .a) 0 (not-above 15 (s .who) (d 0)) (not-above 15 (s .a) (d 1)) (owes-none m s (s .who) (some-false _ (line m s dropReg r 2) 0)) (inl refl)
 
   barrier-step : refusal m s barrier ≡ 0 → Undamaged ((act m s barrier) .image)
   unfolding act accept offDesk nothingToDo
@@ -112,13 +112,13 @@ module _ (m : Image) (s : Step) (u : Undamaged m) where
     where
       go : (o : ℕ) → owed m (s .who) ≡ o → (owed m (s .who) ≡ 0 → ⊥) → Undamaged (setOwed (dirtyCard m (owed m (s .who) - 1)) (s .who) 0)
       go zero e nz = absurd (nz e)
-      go (suc o) e nz = let d : owed m (s .who) - 1 ≡ o = omega arith in rw d (barrier-keeps m u (s .who) o (not-above 15 (s .who) (line m s barrier r 1)) e)
+      go (suc o) e nz = let d : owed m (s .who) - 1 ≡ o = omega arith in rw d (barrier-keeps m u (s .who) o (not-above 15 (s .who) (some-false _ (line m s barrier r 1) 0)) e)
 
   store-step : refusal m s store ≡ 0 → Undamaged ((act m s store) .image)
   unfolding act accept object offDesk owing noObject pastEnd
   store-step r =
       let d = some-false _ (line m s store r 1) in
-      store-keeps m u (s .who) (object m s (s .a)) (s .b) (s .c) (not-above 15 (s .who) (d 0)) (not-above 15 (s .c) (d 2)) (owes-none m s (s .who) (line m s store r 2))
+      store-keeps m u (s .who) (object m s (s .a)) (s .b) (s .c) (not-above 15 (s .who) (d 0)) (not-above 15 (s .c) (d 3)) (owes-none m s (s .who) (some-false _ (line m s store r 2) 0))
       (held-start (s .a) (line m s store r 3)) (leb-false _ _ (line m s store r 4))
 
   write-step : refusal m s write ≡ 0 → Undamaged ((act m s write) .image)

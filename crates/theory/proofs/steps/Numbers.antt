@@ -1,7 +1,7 @@
 -- Numbers 9 and 11 over steps: each is given just where document 01's condition holds, and else the step is accepted.
 use mathlib.Core.Path.{_≡_, refl, sym, ap, _∙_}
 use mathlib.Core.Logic.{_⊎_, inl, inr}
-use mathlib.Core.Bool.{Bool, true, false, not, cond}
+use mathlib.Core.Bool.{Bool, true, false, not, cond, _||_}
 use mathlib.Core.List.{[], _∷_}
 use Prim.Native.Nat.{ℕ, zero, suc, _*_, _-_, _≤_, _<_}
 use native.Mathlib.Decide.{ℕ-discrete}
@@ -13,7 +13,7 @@ use Rattle.model.specs.Image.{Image, state, count, input, output, owed, scanned
 use Rattle.model.specs.Records.{Step, new, barrier, scan, trace, clean, kindOf}
 use Rattle.model.specs.Mutate.{roomFor}
 use Rattle.model.specs.Collect.{held, fullest, hasEntries, traceLine, lowestDirty, cleanLine}
-use Rattle.model.specs.Steps.{someSet, isNew, unnamed, offDesk, badSize, owes, owing, noObject, pastEnd, noRoom, wrongPhase, nothingToDo, refusal, accept, act, step}
+use Rattle.model.specs.Steps.{someSet, noRoom, refusal, accept, act, step, numbers-open}
 use Rattle.model.proofs.Laws.{false≢, some-use, some-nil, some-make, every-use, every-cons, every-nil, any-use, any-make, best-ok, best-none, first-none, not-make}
 use Rattle.theory.specs.Heap.{HeapFilled, HeapSized}
 use Rattle.theory.specs.Lines.{Undamaged}
@@ -56,7 +56,7 @@ at-most b x h = not-true _ (not-make (ltb b x) (λ e. omega (arith, ltb-true b x
 
 module _ (m : Image) (s : Step) (u : Undamaged m) (k : kindOf (s .kind) ≡ new) where
   new-number : GoodNew m s → (step m s) .number ≡ cond (eqb ((roomFor m (s .b)) .run) 0) 9 0
-  unfolding refusal unnamed offDesk isNew badSize owes owing noObject pastEnd noRoom wrongPhase nothingToDo some
+  unfolding numbers-open
   new-number f =
       step-number m s k
       ∙ (rw (
@@ -77,7 +77,7 @@ module _ (m : Image) (s : Step) (u : Undamaged m) (k : kindOf (s .kind) ≡ new)
 
   -- an accepted new gives the lowest stretch
   pub room-value : (step m s) .number ≡ 0 → Stretch m (s .b) ((step m s) .value) × ((v : ℕ) → Stretch m (s .b) v → (step m s) .value ≤ v)
-  unfolding noRoom isNew
+  unfolding noRoom
   room-value e = go ((roomFor m (s .b)) .run) refl (eqb-false _ _ (line m s new r 6))
     where
       r : refusal m s new ≡ 0
@@ -100,14 +100,14 @@ module _ (m : Image) (s : Step) (u : Undamaged m) (k : kindOf (s .kind) ≡ new)
 
 module _ (m : Image) (s : Step) where
   pub barrier-nothing : kindOf (s .kind) ≡ barrier → GoodBarrier s → RefusedWhere m s 11 (owed m (s .who) ≡ 0)
-  unfolding refusal unnamed someSet offDesk isNew badSize owing noObject pastEnd noRoom wrongPhase nothingToDo
+  unfolding numbers-open
   barrier-nothing k f =
       refused-where m s 10 (eqb (owed m (s .who)) 0)
       (step-number m s k ∙ (rw (f .no-fields .0, f .no-fields .1, f .no-fields .2, at-most 15 (s .who) (f .player)) (last-line (eqb (owed m (s .who)) 0))))
       (λ e. eqb-true _ _ e) (λ p. eq-eqb _ _ p)
 
   pub scan-nothing : kindOf (s .kind) ≡ scan → GoodScan m s → RefusedWhere m s 11 (scanned m (s .a) ≡ 1)
-  unfolding refusal unnamed someSet offDesk isNew badSize owing noObject pastEnd noRoom wrongPhase nothingToDo some
+  unfolding numbers-open
   scan-nothing k f =
       refused-where m s 10 (eqb (scanned m (s .a)) 1)
       (step-number m s k ∙ (rw (f .no-fields .0, f .no-fields .1, at-most 7 (s .who) (f .tracer), at-most 15 (s .a) (f .player), f .in-cycle) (last-line (eqb (scanned m (s .a)) 1))))
@@ -206,14 +206,14 @@ module _ (m : Image) where
 
 module _ (m : Image) (s : Step) (f : GoodTracer m s) where
   -- of the lines of trace and clean, only the last can apply
-  tracer-lines : (b : Bool) → first 3 (someSet (s .a ∷ s .b ∷ s .c ∷ []) ∷ ltb 7 (s .who) ∷ false ∷ false ∷ false ∷ false ∷ false ∷ eqb (running m) 0 ∷ b ∷ []) ≡ cond b 11 0
+  tracer-lines : (b : Bool) → first 3 (someSet (s .a ∷ s .b ∷ s .c ∷ []) ∷ (ltb 7 (s .who) || false) ∷ false ∷ false ∷ false ∷ false ∷ false ∷ eqb (running m) 0 ∷ b ∷ []) ≡ cond b 11 0
   unfolding someSet
   tracer-lines b = rw (f .no-fields .0, f .no-fields .1, f .no-fields .2, at-most 7 (s .who) (f .tracer), f .in-cycle) (last-line b)
 
   pub trace-nothing : kindOf (s .kind) ≡ trace → RefusedWhere m s 11 (NoTraceLine m (s .who))
-  unfolding refusal unnamed offDesk isNew badSize owing noObject pastEnd noRoom wrongPhase nothingToDo
+  unfolding numbers-open
   trace-nothing k = refused-where m s 10 _ (step-number m s k ∙ tracer-lines (eqb (traceLine m (s .who)) 0)) (λ e. trace-none m (s .who) (eqb-true _ _ e)) (λ p. eq-eqb _ _ (none-trace m (s .who) p))
 
   pub clean-nothing : kindOf (s .kind) ≡ clean → RefusedWhere m s 11 (NoCleanLine m (s .who))
-  unfolding refusal unnamed offDesk isNew badSize owing noObject pastEnd noRoom wrongPhase nothingToDo
+  unfolding numbers-open
   clean-nothing k = refused-where m s 10 _ (step-number m s k ∙ tracer-lines (eqb (cleanLine m (s .who)) 0)) (λ e. clean-none m (s .who) (eqb-true _ _ e)) (λ p. eq-eqb _ _ (none-clean m (s .who) p))

@@ -9,7 +9,7 @@ use lib.Dec.{ltb}
 use borrow.Author.Tests.{ltb-false, eqb-false}
 use Rattle.model.specs.Image.{Image}
 use Rattle.model.specs.Records.{Step, Kind, new, load, store, barrier, handOver, dropReg, read, write, begin, scan, trace, clean, finish, isDue, unknown, kindOf}
-use Rattle.model.specs.Steps.{Done, unnamed, offDesk, owing, noObject, pastEnd, badSize, noRoom, wrongPhase, nothingToDo, refusal, accept, finishDone, act, outcome, step, isNew, run, after}
+use Rattle.model.specs.Steps.{Done, unnamed, offDesk, owing, noObject, pastEnd, badSize, noRoom, wrongPhase, nothingToDo, refusal, accept, finishDone, act, outcome, step, run, after}
 use Rattle.model.proofs.Laws.{first-none, some-false}
 
 -- a player, register or tracer that is on the desk
@@ -18,7 +18,7 @@ not-above b x e = omega (arith, ltb-false b x e)
 
 -- a new that 8 does not refuse
 pub good-size : (s : Step) → badSize s new ≡ false → (1 ≤ s .b) × (s .b ≤ 1024) × (s .c + 2 ≤ 4 * s .b)
-unfolding badSize isNew
+unfolding badSize
 good-size s e =
     let d = some-false _ e in
     let nz : s .b ≡ 0 → ⊥ = eqb-false (s .b) 0 (d 0) in
@@ -56,7 +56,7 @@ module _ (m : Image) (s : Step) where
 
   -- line i of the numbers of an accepted step does not apply
   pub line : (n : Kind) → refusal m s n ≡ 0 → (i : ℕ)
-      → getD (unnamed s n ∷ offDesk s n ∷ owing m s n ∷ noObject m s n ∷ pastEnd m s n ∷ badSize s n ∷ noRoom m s n ∷ wrongPhase m s n ∷ nothingToDo m s n ∷ []) i false ≡ false
+      → getD (unnamed s n ∷ offDesk s (m .k) n ∷ owing m s n ∷ noObject m s n ∷ pastEnd m s n ∷ badSize s n ∷ noRoom m s n ∷ wrongPhase m s n ∷ nothingToDo m s n ∷ []) i false ≡ false
   unfolding refusal
   line n e i = first-none 2 _ e i
 

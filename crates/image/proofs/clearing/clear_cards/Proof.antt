@@ -8,7 +8,7 @@ use Rattle.image.proofs.clearing.clear_cards.Statement.{statement}
 use Rattle.image.proofs.clearing.clear_cards.Tie as tie
 
 returns : tie.Need-returns
-unfolding imageOf image lengths split withCards
+unfolding imageOf image split withCards
 returns c = let A = c .before .before .before .before .before .args in zero-whole width (A .k) (A .im .now) cardsAt (cardsFrom * A .k) (perCard * A .k) (omega arith) (omega arith) (omega arith) (c .before .before .clear .last .0) (c .before .before .clear .ensures)
 
 pub clear-cards-spec : {M : Type 1} → statement M

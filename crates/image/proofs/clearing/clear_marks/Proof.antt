@@ -8,7 +8,7 @@ use Rattle.image.proofs.clearing.clear_marks.Statement.{statement}
 use Rattle.image.proofs.clearing.clear_marks.Tie as tie
 
 returns : tie.Need-returns
-unfolding imageOf image lengths split withMarks
+unfolding imageOf image split withMarks
 returns c = let A = c .before .before .before .before .before .args in zero-whole width (A .k) (A .im .now) marksAt (marksFrom * A .k) (cardsFrom * A .k) (omega arith) (omega arith) (omega arith) (c .before .before .clear .last .0) (c .before .before .clear .ensures)
 
 pub clear-marks-spec : {M : Type 1} → statement M

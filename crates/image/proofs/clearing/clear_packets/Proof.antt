@@ -8,7 +8,7 @@ use Rattle.image.proofs.clearing.clear_packets.Statement.{statement}
 use Rattle.image.proofs.clearing.clear_packets.Tie as tie
 
 returns : tie.Need-returns
-unfolding imageOf image lengths split withPackets
+unfolding imageOf image split withPackets
 returns c = let A = c .before .before .before .before .before .args in zero-whole width (A .k) (A .im .now) packetsAt (perCard * A .k + packetsFrom) (perCard * A .k + tracersFrom) (omega arith) (omega arith) (omega arith) (c .before .before .clear .last .0) (c .before .before .clear .ensures)
 
 pub clear-packets-spec : {M : Type 1} → statement M

@@ -8,7 +8,7 @@ use Rattle.image.proofs.clearing.clear_tracers.Statement.{statement}
 use Rattle.image.proofs.clearing.clear_tracers.Tie as tie
 
 returns : tie.Need-returns
-unfolding imageOf image lengths split withTracers
+unfolding imageOf image split withTracers
 returns c = let A = c .before .before .before .before .before .args in zero-whole width (A .k) (A .im .now) tracersAt (perCard * A .k + tracersFrom) (perCard * A .k + playersFrom) (omega arith) (omega arith) (omega arith) (c .before .before .clear .last .0) (c .before .before .clear .ensures)
 
 pub clear-tracers-spec : {M : Type 1} → statement M

@@ -8,7 +8,7 @@ use Rattle.image.proofs.parts.zero_tracers.Statement.{statement}
 use Rattle.image.proofs.parts.zero_tracers.Tie as tie
 
 returns : tie.Need-returns
-unfolding imageOf image lengths split
+unfolding imageOf image split
 returns c = let A = c .before .before .before .args in section-zero width (A .k) (A .im .now) _ tracersAt (perCard * A .k + tracersFrom) (perCard * A .k + playersFrom) (omega arith) (omega arith) (omega arith) (c .zeros .ensures)
 
 pub zero-tracers-spec : {M : Type 1} → statement M

@@ -8,7 +8,7 @@ use Rattle.image.proofs.sections.card.Statement.{statement}
 use Rattle.image.proofs.sections.card.Tie as tie
 
 returns : tie.Need-returns
-unfolding state nth imageOf image lengths split
+unfolding state nth imageOf image split
 returns c = let A = c .before .args in get-section width (A .k) (A .im .now) cardsAt _ _ (omega arith) (omega arith)
 
 pub card-spec : {M : Type 1} → statement M

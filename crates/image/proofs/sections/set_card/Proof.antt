@@ -8,7 +8,7 @@ use Rattle.image.proofs.sections.set_card.Statement.{statement}
 use Rattle.image.proofs.sections.set_card.Tie as tie
 
 returns : tie.Need-returns
-unfolding setState put imageOf image lengths split withCards
+unfolding setState put imageOf image split withCards
 returns c = let A = c .args in put-section width (A .k) (A .im .now) cardsAt _ _ (omega arith) (omega arith) (A .v)
 
 pub set-card-spec : {M : Type 1} → statement M

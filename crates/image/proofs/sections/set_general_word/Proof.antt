@@ -8,7 +8,7 @@ use Rattle.image.proofs.sections.set_general_word.Statement.{statement}
 use Rattle.image.proofs.sections.set_general_word.Tie as tie
 
 returns : tie.Need-returns
-unfolding put imageOf image lengths split withGeneral
+unfolding put imageOf image split withGeneral
 returns c = let A = c .args in put-section width (A .k) (A .im .now) generalAt _ _ (omega arith) (omega arith) (A .v)
 
 pub set-general-word-spec : {M : Type 1} → statement M

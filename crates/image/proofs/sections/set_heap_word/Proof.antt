@@ -8,7 +8,7 @@ use Rattle.image.proofs.sections.set_heap_word.Statement.{statement}
 use Rattle.image.proofs.sections.set_heap_word.Tie as tie
 
 returns : tie.Need-returns
-unfolding put imageOf image lengths split withHeap
+unfolding put imageOf image split withHeap
 returns c = let A = c .args in put-section width (A .k) (A .im .now) heapAt _ _ (omega arith) (omega arith) (A .v)
 
 pub set-heap-word-spec : {M : Type 1} → statement M

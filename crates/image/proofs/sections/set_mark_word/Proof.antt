@@ -8,7 +8,7 @@ use Rattle.image.proofs.sections.set_mark_word.Statement.{statement}
 use Rattle.image.proofs.sections.set_mark_word.Tie as tie
 
 returns : tie.Need-returns
-unfolding put imageOf image lengths split withMarks
+unfolding put imageOf image split withMarks
 returns c = let A = c .args in put-section width (A .k) (A .im .now) marksAt _ _ (omega arith) (omega arith) (A .v)
 
 pub set-mark-word-spec : {M : Type 1} → statement M

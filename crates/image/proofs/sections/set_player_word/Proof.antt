@@ -8,7 +8,7 @@ use Rattle.image.proofs.sections.set_player_word.Statement.{statement}
 use Rattle.image.proofs.sections.set_player_word.Tie as tie
 
 returns : tie.Need-returns
-unfolding put imageOf image lengths split withPlayers
+unfolding put imageOf image split withPlayers
 returns c = let A = c .args in put-section width (A .k) (A .im .now) playersAt _ _ (omega arith) (omega arith) (A .v)
 
 pub set-player-word-spec : {M : Type 1} → statement M

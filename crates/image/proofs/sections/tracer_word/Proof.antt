@@ -8,7 +8,7 @@ use Rattle.image.proofs.sections.tracer_word.Statement.{statement}
 use Rattle.image.proofs.sections.tracer_word.Tie as tie
 
 returns : tie.Need-returns
-unfolding nth imageOf image lengths split
+unfolding nth imageOf image split
 returns c = let A = c .before .args in get-section width (A .k) (A .im .now) tracersAt _ _ (omega arith) (omega arith)
 
 pub tracer-word-spec : {M : Type 1} → statement M

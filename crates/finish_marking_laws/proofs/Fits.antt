@@ -1,0 +1,103 @@
+-- What the marking needs of an image: a sound one has it.
+use mathlib.Core.Path.{_≡_, refl, subst}
+use mathlib.Core.Logic.{inl, inr, ⊎-elim}
+use mathlib.Core.Bool.{true}
+use mathlib.Core.List.{List}
+use Prim.Native.Nat.{ℕ, _+_, _*_, _<_, _≤_}
+use native.Mathlib.Omega.{arith}
+use Rattle.model.specs.Base.{nth, bit}
+use Rattle.model.specs.Image.{Image, granules, word, isStart, marked, links, link, imageOf}
+use Rattle.model.specs.Undamaged.{sound}
+use Rattle.theory.specs.Lines.{Pair, none, one, Lines, NilOr, Start, InHand, CardInHand}
+use Rattle.theory.proofs.heap.Walk.{object-at}
+use Rattle.theory.proofs.lines.Judged.{sound-use}
+use Rattle.theory.proofs.lines.Sizes.{fits-sizes}
+use Rattle.theory.proofs.heap.Facts.{heap-filled-of}
+use Rattle.finish_marking_laws.specs.Follow.{objectBit, World}
+use Rattle.image_laws.specs.Digits.{digit, markBit, startBit}
+use Rattle.image_laws.specs.Sized.{Sized}
+use Rattle.image_laws.proofs.Digits.{digit-two, digit-on, digit-off, on-digit}
+use Rattle.image_laws.proofs.Lengths.{cards-image}
+use Rattle.image_laws.proofs.Sections.{image-fits}
+
+pub record Fit (k : ℕ) (m : Image) : Type 0 where
+  pub world : World k m
+  pub zeroth : markBit m 0 ≡ 0
+  pub marks : (g : ℕ) → markBit m g ≡ 1 → (g < 64 * k) × (startBit m g ≡ 1)
+  pub regs : (i : ℕ) → i < 256 → (nth (m .regs) i ≡ 0 → ⊥) → (nth (m .regs) i < 64 * k) × (startBit m (nth (m .regs) i) ≡ 1)
+  pub counts : (p : ℕ) → p < 32 → nth (m .packets) (32 * p) ≤ 30
+  pub entries : (p e : ℕ) → p < 32 → e < nth (m .packets) (32 * p) → (nth (m .packets) (32 * p + 2 + e) < 64 * k) × (markBit m (nth (m .packets) (32 * p + 2 + e)) ≡ 1)
+  pub past : (p e : ℕ) → p < 32 → nth (m .packets) (32 * p) ≤ e → e < 30 → nth (m .packets) (32 * p + 2 + e) ≡ 0
+  pub hands : (t : ℕ) → t < 8 → (nth (m .tracers) (8 * t + 2) ≡ 0 → ⊥) → (nth (m .tracers) (8 * t + 2) < 64 * k) × (markBit m (nth (m .tracers) (8 * t + 2)) ≡ 1)
+  pub handCards : (t : ℕ) → t < 8 → nth (m .tracers) (8 * t + 4) ≤ k
+
+module _ (m : Image) (o : Lines m) where
+  mark-start : (g : ℕ) → markBit m g ≡ 1 → (g < 64 * m .k) × (startBit m g ≡ 1)
+  unfolding marked isStart
+  mark-start g e = let r = o .marks-ok .on-starts g (on-digit _ e) in (r .0, digit-on (r .1))
+
+  object-start : (g : ℕ) → objectBit m g ≡ 1 → isStart m g ≡ true
+  object-start g e = ⊎-elim (λ z. on-digit _ (omega arith)) (λ z. on-digit _ (mark-start g z .1)) (digit-two (marked m g))
+
+  target : (g i : ℕ) → objectBit m g ≡ 1 → i < links m g → (link m g i ≡ 0 → ⊥) → (link m g i < 64 * m .k) × (objectBit m (link m g i) ≡ 1)
+  unfolding links link word isStart
+  target g i e l n = go (o .heap-ok .links-ok g i (o .heap-ok .within g (object-start g e)) (object-start g e) l)
+    where
+      a : ℕ
+      a = nth (m .heap) (4 * g + (2 + i))
+
+      go : NilOr (Start m) (nth (m .heap) (4 * g + (2 + i))) → (nth (m .heap) (4 * g + (2 + i)) < 64 * m .k) × (objectBit m (nth (m .heap) (4 * g + (2 + i))) ≡ 1)
+      go (inl z) = absurd (n z)
+      go (inr r) = (r .0, ⊎-elim (λ z. omega (arith, digit-on (r .1))) (λ z. omega (arith, digit-on (r .1))) (digit-two (marked m (nth (m .heap) (4 * g + (2 + i))))))
+
+  world : World (m .k) m
+  unfolding granules
+  world =
+      record {
+        inside = λ g e. let t = object-at m (heap-filled-of o) g (object-start g e) in omega (arith, t .links-in, t .in-heap);
+        target = target;
+      }
+
+  reg-start : (i : ℕ) → (nth (m .regs) i ≡ 0 → ⊥) → (nth (m .regs) i < 64 * m .k) × (startBit m (nth (m .regs) i) ≡ 1)
+  unfolding isStart
+  reg-start i n = ⊎-elim (λ z. absurd (n z)) (λ r. (r .0, digit-on (r .1))) (o .regs-ok .values i)
+
+  entry-marked : (p e : ℕ) → p < 32 → e < nth (m .packets) (32 * p) → markBit m (nth (m .packets) (32 * p + 2 + e)) ≡ 1
+  unfolding marked
+  entry-marked p e hp he = digit-on (o .packets-ok .full p e _ (record { is-packet = hp; below = he; is-entry = refl }))
+
+  hand-marked : (t : ℕ) → t < 8 → (nth (m .tracers) (8 * t + 2) ≡ 0 → ⊥) → markBit m (nth (m .tracers) (8 * t + 2)) ≡ 1
+  unfolding marked
+  hand-marked t h n = go (o .tracers-ok .hands .pair t h)
+    where
+      go : {y : ℕ} → Pair (InHand m) (nth (m .tracers) (8 * t + 2)) y → digit (bit (m .width) (m .marks) (nth (m .tracers) (8 * t + 2))) ≡ 1
+      go (none z _) = absurd (n z)
+      go (one _ r) = digit-on (r .0)
+
+  hand-card : (t : ℕ) → t < 8 → nth (m .tracers) (8 * t + 4) ≤ m .k
+  hand-card t h = go (o .tracers-ok .handCards .pair t h)
+    where
+      go : {y : ℕ} → Pair (CardInHand m) (nth (m .tracers) (8 * t + 4)) y → nth (m .tracers) (8 * t + 4) ≤ m .k
+      go (none z _) = omega arith
+      go (one _ r) = r .0
+
+  pub lines-fit : Fit (m .k) m
+  unfolding isStart
+  lines-fit =
+      record {
+        world = world;
+        zeroth = ⊎-elim (λ z. z) (λ z. absurd (omega (arith, mark-start 0 z, digit-off (o .heap-ok .unused)))) (digit-two (marked m 0));
+        marks = mark-start;
+        regs = λ i h n. reg-start i n;
+        counts = o .packets-ok .few;
+        entries = λ p e hp he. let z = entry-marked p e hp he in (mark-start _ z .0, z);
+        past = λ p e hp c he. o .packets-ok .past p e hp he c;
+        hands = λ t h n. let z = hand-marked t h n in (mark-start _ z .0, z);
+        handCards = hand-card;
+      }
+
+pub sound-lines : {w k : ℕ} {ws : List ℕ} → Sized w k ws → sound (imageOf w k ws) ≡ true → Lines (imageOf w k ws)
+sound-lines {w} {k} {ws} z e = sound-use (imageOf w k ws) (fits-sizes (imageOf w k ws) (image-fits z)) e .lines
+
+pub sound-fit : {w k : ℕ} {ws : List ℕ} → Sized w k ws → sound (imageOf w k ws) ≡ true → Fit k (imageOf w k ws)
+sound-fit {w} {k} {ws} z e = subst (λ (j : ℕ). Fit j (imageOf w k ws)) (cards-image w k ws) (lines-fit (imageOf w k ws) (sound-lines z e))

@@ -1,0 +1,60 @@
+-- Every card is listed, the last first.
+use mathlib.Core.Path.{_≡_, refl, _∙_, sym, ap}
+use Prim.Native.Nat.{ℕ, _+_, _<_, _*_, _/_, _≤_, min}
+use native.Mathlib.Omega.{arith}
+use native.Mathlib.Decide.{ℕ-discrete, decLt}
+use lib.ListN.{length}
+use Rattle.model.specs.Image.{Image, isStart, marked, withCards, setState}
+use Rattle.model.proofs.Laws.{nth-put-same, nth-put-other, nth-out}
+use Rattle.finish_marking_laws.specs.Follow.{cardWord, untouched, Pending, times, Listed}
+use Rattle.finish_marking_laws.specs.Seeds.{ListedAll}
+use Rattle.image_laws.specs.Digits.{markBit, startBit}
+use Rattle.finish_marking_laws.proofs.follow.Worklist.{cardsDown, cardsDown-out, cardsDown-in, cardsDown-chained}
+
+-- the first i cards are listed, all else is as it was
+pub record ListedTo (m m' : Image) (i : ℕ) : Type 0 where
+  pub heap : m' .heap ≡ m .heap
+  pub starts : _≡_ {A = ℕ → ℕ} (startBit m') (startBit m)
+  pub marks : _≡_ {A = ℕ → ℕ} (markBit m') (markBit m)
+  pub rest : untouched m' ≡ untouched m
+  pub words : (c : ℕ) → c < i → cardWord m' c ≡ c + 1
+
+pub listed-none : (m : Image) → ListedTo m m 0
+listed-none m = record { heap = refl; starts = refl; marks = refl; rest = refl; words = λ c l. absurd (omega arith) }
+
+-- a card's word alone
+card-frame : (m : Image) (c v : ℕ) → ListedTo m (setState m c v) 0
+unfolding setState withCards marked isStart
+card-frame m c v = record { heap = refl; starts = refl; marks = refl; rest = refl; words = λ c l. absurd (omega arith) }
+
+pub listed-more : (m m1 m2 : Image) (i : ℕ) → ListedTo m m1 i → i < length (m1 .cards) → m2 ≡ setState m1 i (i + 1) → ListedTo m m2 (i + 1)
+listed-more m m1 m2 i t l e = rw e (record { heap = f .heap ∙ t .heap; starts = f .starts ∙ t .starts; marks = f .marks ∙ t .marks; rest = f .rest ∙ t .rest; words = λ c h. at c h (ℕ-discrete c i) })
+  where
+    f : ListedTo m1 (setState m1 i (i + 1)) 0
+    f = card-frame m1 i (i + 1)
+
+    at : (c : ℕ) → c < i + 1 → Dec (c ≡ i) → cardWord (setState m1 i (i + 1)) c ≡ c + 1
+    at c h (yes q) = unfold setState withCards in rw q (nth-put-same (m1 .cards) i (i + 1) l)
+    at c h (no q) = unfold setState withCards in nth-put-other (m1 .cards) i c (i + 1) q ∙ t .words c (omega arith)
+
+pub listed-end : {k : ℕ} {m m' : Image} → ListedTo m m' k → length (m' .cards) ≡ k → ListedAll k m m' (k + 1)
+listed-end {k} {m} {m'} t l = record { heap = t .heap; starts = t .starts; marks = t .marks; rest = t .rest; head = refl; words = t .words; past = λ c h. nth-out (m' .cards) c (omega arith) }
+
+-- ---- all cards are a work list
+
+pub all-listed : (k : ℕ) (m m' : Image) (h : ℕ) → ((g : ℕ) → markBit m g ≡ 1 → g < 64 * k) → ListedAll k m m' h → Listed k m' h
+all-listed k m m' h s t = rw (t .head) (record {
+  order = cardsDown k;
+  chained = cardsDown-chained (m' .cards) k (t .words);
+  once = λ c. once c (decLt c k);
+  holds = λ g q. holds g q;
+})
+  where
+    once : (c : ℕ) → Dec (c < k) → times c (cardsDown k) ≡ min 1 (cardWord m' c)
+    once c (yes l) = omega (arith, cardsDown-in k c l, t .words c l)
+    once c (no l) = omega (arith, cardsDown-out k c (omega arith), t .past c (omega arith))
+
+    holds : (g : ℕ) → Pending m' g → 1 ≤ cardWord m' (g / 64)
+    holds g q =
+        let l : g < 64 * k = s g (ap (λ (w : ℕ → ℕ). w g) (sym (t .marks)) ∙ q .is-marked) in
+        omega (arith, t .words (g / 64) (omega arith))

@@ -1,0 +1,1 @@
+// The laws of a finish's marking, for images of any width.
