@@ -1,4 +1,3 @@
-
 use borrow.Author.Needs.{needs}
 use Rattle.finish_marking_laws.proofs.Dues.{entries-in, hands-in, regs-in, all-due}
 use Rattle.finish_marking_laws.proofs.Fits.{sound-fit}

@@ -1,4 +1,6 @@
-use Rattle.finish.proofs.Ends.{Counting, counting-none, counting-more, counting-end}
+use Rattle.image.specs.Layout.{width}
+use Rattle.model.specs.Image.{imageOf}
+use Rattle.finish_laws.proofs.Freed.{FreedCounting, counting-none, counting-more, counting-end}
 use Prim.Native.Nat.{_-_}
 use native.Mathlib.Omega.{arith}
 use borrow.Author.Needs.{needs}
@@ -6,7 +8,7 @@ use Rattle.finish.proofs.freed.count_freed.Statement.{statement}
 use Rattle.finish.proofs.freed.count_freed.Tie as tie
 
 abbrev Inv-loop : tie.InvT-loop
-Inv-loop im k f₀ h₀ h-end f h = Counting k im h-end f h
+Inv-loop im k f₀ h₀ h-end f h = FreedCounting k (imageOf width k im) h-end f h
 
 abbrev μ-loop : tie.MeasureT-loop
 μ-loop im k f₀ h₀ h-end f h = h-end - h

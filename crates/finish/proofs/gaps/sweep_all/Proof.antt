@@ -1,11 +1,12 @@
-use Rattle.finish.proofs.Down.{Sweeping, sweeping-none, sweeping-more, sweeping-end}
+use Rattle.image.specs.Layout.{width}
+use Rattle.finish_laws.proofs.gaps.Code.{Sweeping, sweeping-none, sweeping-more, sweeping-end}
 use native.Mathlib.Omega.{arith}
 use borrow.Author.Needs.{needs}
 use Rattle.finish.proofs.gaps.sweep_all.Statement.{statement}
 use Rattle.finish.proofs.gaps.sweep_all.Tie as tie
 
 abbrev Inv-loop : tie.InvT-loop
-Inv-loop im₀ k e₀ h₀ im e h = Sweeping k im₀ im e h
+Inv-loop im₀ k e₀ h₀ im e h = Sweeping width k im₀ im e h
 
 abbrev μ-loop : tie.MeasureT-loop
 μ-loop im₀ k e₀ h₀ im e h = h
@@ -20,7 +21,7 @@ mul-h : tie.Need-mul-h Inv-loop μ-loop
 mul-h c = search needs
 
 loop-holds : tie.Need-loop-holds Inv-loop μ-loop
-loop-holds c = sweeping-none _ _ (search needs)
+loop-holds c = sweeping-none (search needs)
 
 sub-h : tie.Need-sub-h Inv-loop μ-loop
 sub-h c = search needs
@@ -32,7 +33,7 @@ loop-less : tie.Need-loop-less Inv-loop μ-loop
 loop-less c = search needs
 
 loop-again : tie.Need-loop-again Inv-loop μ-loop
-loop-again c = let L = c .before .before .before .before .before .loop in sweeping-more _ _ _ _ _ (L .inv) (c .before .before .before .before .loop-test .taken) _ _ (search needs) (c .before .before .sweep-one .ensures .1) (c .before .before .sweep-one .ensures .0)
+loop-again c = let L = c .before .before .before .before .before .loop in sweeping-more (L .inv) (c .before .before .before .before .loop-test .taken) _ _ (search needs) (c .before .before .sweep-one .ensures .1) (c .before .before .sweep-one .ensures .0)
 
 close-gap-requires : tie.Need-close-gap-requires Inv-loop μ-loop
 close-gap-requires c κs = let L = c .before .before .loop in (L .inv .sized, L .inv .top)
@@ -41,7 +42,7 @@ same-length : tie.Need-same-length Inv-loop μ-loop
 same-length c = search needs
 
 returns : tie.Need-returns Inv-loop μ-loop
-returns c = let L = c .before .before .before .before .before .loop in sweeping-end _ _ _ _ _ (L .inv) _ (c .before .before .before .before .before .before .before .before .set-first-run .ensures) (c .before .before .before .before .loop-test .left) _ (c .before .before .close-gap .ensures)
+returns c = let L = c .before .before .before .before .before .loop in sweeping-end (L .inv) _ (c .before .before .before .before .before .before .before .before .set-first-run .ensures) (c .before .before .before .before .loop-test .left) _ (c .before .before .close-gap .ensures)
 
 pub sweep-all-spec : {M : Type 1} → statement M
 sweep-all-spec =

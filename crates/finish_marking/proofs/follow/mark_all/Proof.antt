@@ -1,4 +1,3 @@
-
 use Rattle.image.specs.Layout.{width}
 use Rattle.model.specs.Image.{imageOf}
 use Rattle.finish_marking_laws.proofs.follow.Loops.{TurnLoop, turns-none, turns-ready, turns-more, turns-fall, turns-end}

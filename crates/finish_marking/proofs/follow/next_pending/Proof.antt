@@ -1,4 +1,3 @@
-
 use Rattle.model.specs.Image.{imageOf}
 use Rattle.image.specs.Layout.{width}
 use Rattle.image_laws.proofs.Lengths.{sized-width}

@@ -1,4 +1,3 @@
-
 use Rattle.image.specs.Layout.{width}
 use borrow.Author.Needs.{needs}
 use Rattle.image_laws.proofs.Lengths.{width-image}

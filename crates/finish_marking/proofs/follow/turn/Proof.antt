@@ -1,4 +1,3 @@
-
 use borrow.Author.Needs.{needs}
 use Rattle.finish_marking_laws.proofs.follow.Loops.{turn-settle, turn-leave, next-links}
 use native.Mathlib.Omega.{arith}

@@ -1,4 +1,3 @@
-
 use borrow.Author.Needs.{needs}
 use Rattle.finish_marking_laws.proofs.follow.Visits.{visit-nil, visit-marked, visit-on, visit-new}
 use Rattle.finish_marking.proofs.follow.visit.Statement.{statement}

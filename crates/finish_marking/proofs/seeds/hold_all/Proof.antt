@@ -1,4 +1,3 @@
-
 use Rattle.image.specs.Layout.{width}
 use Rattle.image_laws.proofs.Loops.{looped-end}
 use Rattle.finish_marking_laws.proofs.seeds.Bared.{same-section}

@@ -1,4 +1,3 @@
-
 use borrow.Author.Needs.{needs}
 use Rattle.finish_marking_laws.proofs.seeds.Opening.{dirty-some, dirty-none}
 use Rattle.finish_marking.proofs.seeds.open_dirty.Statement.{statement}

@@ -1,4 +1,3 @@
-
 use borrow.Author.Needs.{needs}
 use Rattle.finish_marking_laws.proofs.seeds.Opening.{hand-object, hand-both}
 use Rattle.finish_marking.proofs.seeds.open_hand.Statement.{statement}

@@ -1,4 +1,3 @@
-
 use borrow.Author.Needs.{needs}
 use Rattle.finish_marking_laws.proofs.follow.Bits.{image-shape}
 use Rattle.finish_marking_laws.proofs.seeds.Opening.{one-nil, one-some}

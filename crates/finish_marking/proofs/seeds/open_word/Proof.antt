@@ -1,4 +1,3 @@
-
 use borrow.Author.Needs.{needs}
 use Rattle.finish_marking_laws.proofs.seeds.Opening.{open-word}
 use native.Mathlib.Omega.{arith}

@@ -17,8 +17,8 @@ use Rattle.model.proofs.Entries.{nth-take, nth-drop}
 use Rattle.theory.specs.Heap.{Filled, f-end, f-object, f-run, runWords, Bare}
 use Rattle.theory.proofs.heap.Lists.{nth-left, nth-head, length-run}
 use Rattle.theory.proofs.finish.Sweep.{not-kept, sweep-piece}
-use Rattle.image.specs.Clear.{zeroed}
-use Rattle.finish.specs.Gaps.{Edge, edged, runAt, gap, passed, down, sweptAll}
+use Rattle.finish_laws.specs.Gaps.{Edge, edged, runFrom, gap, passed, sweptFrom, sweptAll}
+use Rattle.image_laws.specs.Clearing.{zeroed}
 
 -- ---- the words of a run
 
@@ -49,12 +49,12 @@ module _ (H R : List ℕ) (a n : ℕ) (hl : 4 * (a + suc n) ≤ length H) where
 -- ---- a gap in an image, of which only the heap and the first run change
 
 -- the image with other heap words and another first run
-unfoldable pub reheaped : Image → List ℕ → ℕ → Image
-reheaped m hs f = setFirstRun (withHeap m hs) f
+unfoldable pub withSweep : Image → List ℕ → ℕ → Image
+withSweep m hs f = setFirstRun (withHeap m hs) f
 
-run-reheaped : (m : Image) (hs : List ℕ) (f a e : ℕ) → 1 < length (m .general) → runAt (reheaped m hs f) a e ≡ reheaped m (put (put (zeroed (4 * a) (4 * e) hs) (4 * a) (e - a)) (4 * a + 1) f) a
-unfolding runAt reheaped setFirstRun withHeap withGeneral firstRun
-run-reheaped m hs f a e h = rw (nth-put-same (m .general) 1 f h, put-put)
+run-with-sweep : (m : Image) (hs : List ℕ) (f a e : ℕ) → 1 < length (m .general) → runFrom (withSweep m hs f) a e ≡ withSweep m (put (put (zeroed (4 * a) (4 * e) hs) (4 * a) (e - a)) (4 * a + 1) f) a
+unfolding runFrom withSweep setFirstRun withHeap withGeneral firstRun
+run-with-sweep m hs f a e h = rw (nth-put-same (m .general) 1 f h, put-put)
   where
     put-put : put (put (m .general) 1 f) 1 a ≡ put (m .general) 1 a
     put-put = unfold put in set-set (m .general) 1 f a
@@ -79,19 +79,19 @@ gap-zero : (m : Image) (a e : ℕ) → e ≤ a → gap m a e ≡ m
 unfolding gap
 gap-zero m a e h = rw (le-ltb a e h)
 
-gap-suc : (m : Image) (a e : ℕ) → a < e → gap m a e ≡ runAt m a e
+gap-suc : (m : Image) (a e : ℕ) → a < e → gap m a e ≡ runFrom m a e
 unfolding gap
 gap-suc m a e h = rw (lt-ltb a e h)
 
 module _ (m : Image) (H : List ℕ) (hg : 1 < length (m .general)) where
   -- the image with the heap from granule g on swept
   abbrev pub from : ℕ → Swept → Image
-  from g r = reheaped m (take (4 * (g + r .free)) H ++ r .rest) (r .next)
+  from g r = withSweep m (take (4 * (g + r .free)) H ++ r .rest) (r .next)
 
-  pub gap-done : (a : ℕ) (r : Swept) → 4 * (a + r .free) ≤ length H → gap (from a r) a (a + r .free) ≡ reheaped m (take (4 * a) H ++ sweptWords r) (firstOf a r)
+  pub gap-done : (a : ℕ) (r : Swept) → 4 * (a + r .free) ≤ length H → gap (from a r) a (a + r .free) ≡ withSweep m (take (4 * a) H ++ sweptWords r) (firstOf a r)
   gap-done a r hl = go (r .free) refl
     where
-      go : (f : ℕ) → r .free ≡ f → gap (from a r) a (a + r .free) ≡ reheaped m (take (4 * a) H ++ sweptWords r) (firstOf a r)
+      go : (f : ℕ) → r .free ≡ f → gap (from a r) a (a + r .free) ≡ withSweep m (take (4 * a) H ++ sweptWords r) (firstOf a r)
       go zero e =
           let q : 4 * (a + r .free) ≡ 4 * a = omega arith in
           gap-zero (from a r) a (a + r .free) (omega arith) ∙ rw (q, swept-zero r e, first-zero a r e)
@@ -99,7 +99,7 @@ module _ (m : Image) (H : List ℕ) (hg : 1 < length (m .general)) where
           let k : 4 * (a + suc n) ≤ length H = rw e at hl in
           let q : a + suc n - a ≡ suc n = omega arith in
           gap-suc (from a r) a (a + r .free) (omega arith)
-          ∙ run-reheaped m (take (4 * (a + r .free)) H ++ r .rest) (r .next) a (a + r .free) hg
+          ∙ run-with-sweep m (take (4 * (a + r .free)) H ++ r .rest) (r .next) a (a + r .free) hg
           ∙ rw (swept-suc r n e, first-suc a r n e, e, q, cleared H (r .rest) a n k, two-words H (r .rest) a n k (r .next))
 
 -- ---- one granule, by what its mark says
@@ -112,17 +112,17 @@ passed-keep : (m : Image) (h e : ℕ) → marked m h ≡ true → passed m h e �
 unfolding passed
 passed-keep m h e u = rw u
 
-down-suc : (G : ℕ) (m : Image) (i : ℕ) → down G m (suc i) ≡ passed (down G m i .image) (G - suc i) (down G m i .edge)
-unfolding down
-down-suc G m i = refl
+swept-suc-granule : (G : ℕ) (m : Image) (i : ℕ) → sweptFrom G m (suc i) ≡ passed (sweptFrom G m i .image) (G - suc i) (sweptFrom G m i .edge)
+unfolding sweptFrom
+swept-suc-granule G m i = refl
 
-marked-reheaped : (m : Image) (hs : List ℕ) (f h : ℕ) → marked (reheaped m hs f) h ≡ marked m h
-unfolding reheaped setFirstRun withHeap withGeneral marked
-marked-reheaped m hs f h = refl
+marked-with-sweep : (m : Image) (hs : List ℕ) (f h : ℕ) → marked (withSweep m hs f) h ≡ marked m h
+unfolding withSweep setFirstRun withHeap withGeneral marked
+marked-with-sweep m hs f h = refl
 
-heap-reheaped : (m : Image) (hs : List ℕ) (f : ℕ) → reheaped m hs f .heap ≡ hs
-unfolding reheaped setFirstRun withHeap withGeneral
-heap-reheaped m hs f = refl
+heap-with-sweep : (m : Image) (hs : List ℕ) (f : ℕ) → withSweep m hs f .heap ≡ hs
+unfolding withSweep setFirstRun withHeap withGeneral
+heap-with-sweep m hs f = refl
 
 -- the words behind a piece
 pub words-behind : (H : List ℕ) (g s : ℕ) (ws rest : List ℕ) → drop (4 * g) H ≡ (s ∷ ws) ++ rest → suc (length ws) ≡ 4 * s → drop (4 * (g + s)) H ≡ rest
@@ -140,30 +140,30 @@ size-first H g s ws rest ew =
 
 module _ (G : ℕ) (m : Image) (H : List ℕ) (lH : length H ≡ 4 * G) (hg : 1 < length (m .general)) (kept : (g : ℕ) → marked m g ≡ true → isStart m g ≡ true) where
   abbrev m₀ : Image
-  m₀ = reheaped m H 0
+  m₀ = withSweep m H 0
 
   -- the state after the granules from g on
   abbrev done : ℕ → Swept → Edge
   done g r = edged (g + r .free) (from m H hg g r)
 
   -- granules behind the first of a piece change nothing
-  skip : (g s : ℕ) (r : Swept) → g + s ≤ G → down G m₀ (G - (g + s)) ≡ done (g + s) r → Bare (isStart m) g s → (j : ℕ) → j < s → down G m₀ (G - (g + s) + j) ≡ done (g + s) r
-  skip g s r hG d ba zero l = ap (down G m₀) (omega arith) ∙ d
+  skip : (g s : ℕ) (r : Swept) → g + s ≤ G → sweptFrom G m₀ (G - (g + s)) ≡ done (g + s) r → Bare (isStart m) g s → (j : ℕ) → j < s → sweptFrom G m₀ (G - (g + s) + j) ≡ done (g + s) r
+  skip g s r hG d ba zero l = ap (sweptFrom G m₀) (omega arith) ∙ d
   skip g s r hG d ba (suc j) l =
       let q : G - (g + s) + suc j ≡ suc (G - (g + s) + j) = omega arith in
-      ap (down G m₀) q
-      ∙ down-suc G m₀ (G - (g + s) + j)
+      ap (sweptFrom G m₀) q
+      ∙ swept-suc-granule G m₀ (G - (g + s) + j)
       ∙ ap (λ (p : Edge). passed (p .image) (G - suc (G - (g + s) + j)) (p .edge)) (skip g s r hG d ba j (omega arith))
       ∙ passed-none (from m H hg (g + s) r) (G - suc (G - (g + s) + j)) (g + s + r .free)
-      (marked-reheaped m _ _ (G - suc (G - (g + s) + j)) ∙ not-kept (isStart m) (marked m) kept _ (ba (G - suc (G - (g + s) + j)) (omega arith) (omega arith)))
+      (marked-with-sweep m _ _ (G - suc (G - (g + s) + j)) ∙ not-kept (isStart m) (marked m) kept _ (ba (G - suc (G - (g + s) + j)) (omega arith) (omega arith)))
 
   -- the first granule of a piece, after those behind it
-  at-first : (g s : ℕ) (r : Swept) → 1 ≤ s → g + s ≤ G → down G m₀ (G - (g + s)) ≡ done (g + s) r → Bare (isStart m) g s → down G m₀ (G - g) ≡ passed (from m H hg (g + s) r) g (g + s + r .free)
+  at-first : (g s : ℕ) (r : Swept) → 1 ≤ s → g + s ≤ G → sweptFrom G m₀ (G - (g + s)) ≡ done (g + s) r → Bare (isStart m) g s → sweptFrom G m₀ (G - g) ≡ passed (from m H hg (g + s) r) g (g + s + r .free)
   at-first g s r h1 hG d ba =
       let q : G - g ≡ suc (G - (g + s) + (s - 1)) = omega arith in
       let k : G - suc (G - (g + s) + (s - 1)) ≡ g = omega arith in
-      ap (down G m₀) q
-      ∙ down-suc G m₀ (G - (g + s) + (s - 1))
+      ap (sweptFrom G m₀) q
+      ∙ swept-suc-granule G m₀ (G - (g + s) + (s - 1))
       ∙ ap (λ (p : Edge). passed (p .image) (G - suc (G - (g + s) + (s - 1))) (p .edge)) (skip g s r hG d ba (s - 1) (omega arith))
       ∙ ap (λ (x : ℕ). passed (from m H hg (g + s) r) x (g + s + r .free)) k
 
@@ -171,8 +171,8 @@ module _ (G : ℕ) (m : Image) (H : List ℕ) (lH : length H ≡ 4 * G) (hg : 1 
   gone : (g s x : ℕ) (r : Swept) → marked m g ≡ false → passed (from m H hg (g + s) r) g (g + s + r .free) ≡ done g (record { free = s + r .free; rest = r .rest; next = r .next; freed = x })
   gone g s x r u =
       let q : g + s + r .free ≡ g + (s + r .free) = omega arith in
-      passed-none (from m H hg (g + s) r) g (g + s + r .free) (marked-reheaped m _ _ g ∙ u)
-      ∙ ap (λ (i : ℕ). edged i (reheaped m (take (4 * i) H ++ r .rest) (r .next))) q
+      passed-none (from m H hg (g + s) r) g (g + s + r .free) (marked-with-sweep m _ _ g ∙ u)
+      ∙ ap (λ (i : ℕ). edged i (withSweep m (take (4 * i) H ++ r .rest) (r .next))) q
 
   -- a piece that is kept
   module _ (g s x : ℕ) (ws rest : List ℕ) (r : Swept) (ew : drop (4 * g) H ≡ (s ∷ ws) ++ rest) (lw : suc (length ws) ≡ 4 * s) (hl : 4 * (g + s + r .free) ≤ length H) where
@@ -184,24 +184,24 @@ module _ (G : ℕ) (m : Image) (H : List ℕ) (lH : length H ≡ 4 * G) (hg : 1 
     size-here : nth (from m H hg (g + s) r .heap) (4 * g) ≡ s
     size-here =
         let k : length (take (4 * (g + s + r .free)) H) ≡ 4 * (g + s + r .free) = length-take-le _ H hl in
-        ap (λ (l : List ℕ). nth l (4 * g)) (heap-reheaped m _ _) ∙ nth-left (take (4 * (g + s + r .free)) H) (r .rest) (4 * g) (omega arith) ∙ nth-take (4 * (g + s + r .free)) H (4 * g) (omega arith) ∙ size-first H g s ws rest ew
+        ap (λ (l : List ℕ). nth l (4 * g)) (heap-with-sweep m _ _) ∙ nth-left (take (4 * (g + s + r .free)) H) (r .rest) (4 * g) (omega arith) ∙ nth-take (4 * (g + s + r .free)) H (4 * g) (omega arith) ∙ size-first H g s ws rest ew
 
     stays : marked m g ≡ true → passed (from m H hg (g + s) r) g (g + s + r .free) ≡ done g (record { free = 0; rest = (s ∷ ws) ++ sweptWords r; next = firstOf (g + s) r; freed = x })
     stays u =
-        passed-keep (from m H hg (g + s) r) g (g + s + r .free) (marked-reheaped m _ _ g ∙ u)
+        passed-keep (from m H hg (g + s) r) g (g + s + r .free) (marked-with-sweep m _ _ g ∙ u)
         ∙ ap (λ (n : ℕ). edged g (gap (from m H hg (g + s) r) (g + n) (g + s + r .free))) size-here
-        ∙ ap (edged g) (gap-done m H hg (g + s) r hl ∙ ap (λ (l : List ℕ). reheaped m l (firstOf (g + s) r)) (ap (λ (l : List ℕ). l ++ sweptWords r) front ∙ append-assoc (take (4 * g) H) (s ∷ ws) (sweptWords r)))
-        ∙ ap (λ (i : ℕ). edged i (reheaped m (take (4 * i) H ++ ((s ∷ ws) ++ sweptWords r)) (firstOf (g + s) r))) (sym (add-zero g))
+        ∙ ap (edged g) (gap-done m H hg (g + s) r hl ∙ ap (λ (l : List ℕ). withSweep m l (firstOf (g + s) r)) (ap (λ (l : List ℕ). l ++ sweptWords r) front ∙ append-assoc (take (4 * g) H) (s ∷ ws) (sweptWords r)))
+        ∙ ap (λ (i : ℕ). edged i (withSweep m (take (4 * i) H ++ ((s ∷ ws) ++ sweptWords r)) (firstOf (g + s) r))) (sym (add-zero g))
 
   unfoldable pub Good : ℕ → Swept → Type 0
-  Good g r = (down G m₀ (G - g) ≡ done g r) × (4 * (g + r .free) ≤ length H)
+  Good g r = (sweptFrom G m₀ (G - g) ≡ done g r) × (4 * (g + r .free) ≤ length H)
 
   good-end : (g : ℕ) → 4 * g + 0 ≡ 4 * G → Good g (record { free = 0; rest = []; next = 0; freed = 0 })
-  unfolding Good down
+  unfolding Good sweptFrom
   good-end g e =
       let q : G - g ≡ 0 = omega arith in
       let w : G ≡ g + 0 = omega arith in
-      (rw q (ap (λ (i : ℕ). edged i m₀) w ∙ ap (λ (l : List ℕ). edged (g + 0) (reheaped m l 0)) (sym (append-nil _ ∙ take-all (4 * (g + 0)) H (omega (arith, lH))))), omega (arith, lH))
+      (rw q (ap (λ (i : ℕ). edged i m₀) w ∙ ap (λ (l : List ℕ). edged (g + 0) (withSweep m l 0)) (sym (append-nil _ ∙ take-all (4 * (g + 0)) H (omega (arith, lH))))), omega (arith, lH))
 
   good-object : (g s : ℕ) (ws rest : List ℕ) (r : Swept) → Bare (isStart m) g s → drop (4 * g) H ≡ (s ∷ ws) ++ rest → suc (length ws) ≡ 4 * s → g + s ≤ G
       → Good (g + s) r → (b : Bool) → marked m g ≡ b → Good g (swept (isStart m) g s (s ∷ ws) b r)
@@ -224,17 +224,17 @@ module _ (G : ℕ) (m : Image) (H : List ℕ) (lH : length H ≡ 4 * G) (hg : 1 
 
 -- ---- the whole sweep
 
-first-reheaped : (m : Image) (f : ℕ) → setFirstRun m f ≡ reheaped m (m .heap) f
-unfolding reheaped setFirstRun withHeap withGeneral
-first-reheaped m f = refl
+first-with-sweep : (m : Image) (f : ℕ) → setFirstRun m f ≡ withSweep m (m .heap) f
+unfolding withSweep setFirstRun withHeap withGeneral
+first-with-sweep m f = refl
 
 module _ (k : ℕ) (m : Image) (hk : 1 ≤ k) (lH : length (m .heap) ≡ 4 * (64 * k)) (hg : 1 < length (m .general)) (kept : (g : ℕ) → marked m g ≡ true → isStart m g ≡ true) where
   pub swept-all : {next : ℕ} {b : Bool} (n : ℕ) → Filled (isStart m) 1 (drop 4 (m .heap)) next b → length (drop 4 (m .heap)) < 4 * n → 4 + length (drop 4 (m .heap)) ≡ 4 * (64 * k)
-      → let r = sweep (isStart m) (marked m) n 1 (drop 4 (m .heap)) in sweptAll k m ≡ reheaped m (take 4 (m .heap) ++ sweptWords r) (firstOf 1 r)
+      → let r = sweep (isStart m) (marked m) n 1 (drop 4 (m .heap)) in sweptAll k m ≡ withSweep m (take 4 (m .heap) ++ sweptWords r) (firstOf 1 r)
   unfolding sweptAll Good
   swept-all n f l e =
       let r = sweep (isStart m) (marked m) n 1 (drop 4 (m .heap)) in
       let q = fold (64 * k) m (m .heap) lH hg kept n f l (omega arith) refl in
-      ap (λ (i : Image). gap (down (64 * k) i (64 * k - 1) .image) 1 (down (64 * k) i (64 * k - 1) .edge)) (first-reheaped m 0)
+      ap (λ (i : Image). gap (sweptFrom (64 * k) i (64 * k - 1) .image) 1 (sweptFrom (64 * k) i (64 * k - 1) .edge)) (first-with-sweep m 0)
       ∙ ap (λ (p : Edge). gap (p .image) 1 (p .edge)) (q .0)
       ∙ gap-done m (m .heap) hg 1 r (q .1)

@@ -7,17 +7,18 @@ use native.Mathlib.Omega.{arith}
 use lib.ListN.{length}
 use borrow.Author.Tests.{lt-ltb, le-ltb}
 use Rattle.model.specs.Base.{nth, put}
-use Rattle.model.specs.Image.{Image, marked, firstRun, withHeap, setFirstRun}
-use Rattle.image.specs.Clear.{zeroed}
-use Rattle.image.specs.Sized.{Sized, narrow}
-use Rattle.finish.specs.Gaps.{edged, runAt, gap, passed, down, sweptAll}
+use Rattle.model.specs.Image.{Image, marked, firstRun, withHeap, setFirstRun, imageOf}
+use Rattle.finish_laws.specs.Gaps.{edged, runFrom, gap, passed, sweptFrom, sweptAll}
+use Rattle.image_laws.specs.Clearing.{zeroed}
+use Rattle.image_laws.specs.Sized.{Sized}
+use Rattle.image_laws.proofs.Lengths.{sized-as}
 
-pub run-done : (m : Image) (a e n : ℕ) → n ≡ nth (m .general) 1 → (m1 m2 m3 m4 : Image) → m1 ≡ withHeap m (zeroed (4 * a) (4 * e) (m .heap)) → m2 ≡ withHeap m1 (put (m1 .heap) (4 * a) (e - a))
-    → m3 ≡ withHeap m2 (put (m2 .heap) (4 * a + 1) n) → m4 ≡ setFirstRun m3 a → m4 ≡ runAt m a e
-unfolding runAt firstRun withHeap
+pub run-done : (m : Image) (a e n : ℕ) → n ≡ firstRun m → (m1 m2 m3 m4 : Image) → m1 ≡ withHeap m (zeroed (4 * a) (4 * e) (m .heap)) → m2 ≡ withHeap m1 (put (m1 .heap) (4 * a) (e - a))
+    → m3 ≡ withHeap m2 (put (m2 .heap) (4 * a + 1) n) → m4 ≡ setFirstRun m3 a → m4 ≡ runFrom m a e
+unfolding runFrom withHeap
 run-done m a e n en m1 m2 m3 m4 e1 e2 e3 e4 = rw (e4, e3, e2, e1, en)
 
-pub gap-some : (m m' : Image) (a e : ℕ) → a < e → m' ≡ runAt m a e → m' ≡ gap m a e
+pub gap-some : (m m' : Image) (a e : ℕ) → a < e → m' ≡ runFrom m a e → m' ≡ gap m a e
 unfolding gap
 gap-some m m' a e l q = q ∙ rw (lt-ltb a e l)
 
@@ -36,17 +37,17 @@ module _ (m : Image) (h e : ℕ) (r : Bool) (er : r ≡ marked m h) where
 
 -- ---- the loop
 
-pub record Sweeping (k : ℕ) (im₀ im : List ℕ) (e h : ℕ) : Type 0 where
+pub record Sweeping (w k : ℕ) (im₀ im : List ℕ) (e h : ℕ) : Type 0 where
   pub low : 1 ≤ h
   pub high : h ≤ 64 * k
-  pub sized : Sized k im
+  pub sized : Sized w k im
   pub same : length im ≡ length im₀
   pub top : e ≤ 64 * k
-  pub state : edged e (narrow k im) ≡ down (64 * k) (narrow k im₀) (64 * k - h)
+  pub state : edged e (imageOf w k im) ≡ sweptFrom (64 * k) (imageOf w k im₀) (64 * k - h)
 
-pub sweeping-none : (k : ℕ) (im : List ℕ) → Sized k im → Sweeping k im im (64 * k) (64 * k)
-unfolding down
-sweeping-none k im z =
+pub sweeping-none : {w k : ℕ} {im : List ℕ} → Sized w k im → Sweeping w k im im (64 * k) (64 * k)
+unfolding sweptFrom
+sweeping-none {w} {k} {im} z =
     record {
       low = omega (arith, z .low);
       high = omega arith;
@@ -56,14 +57,14 @@ sweeping-none k im z =
       state = (let q : 64 * k - 64 * k ≡ 0 = omega arith in rw q);
     }
 
-module _ (k : ℕ) (im₀ im : List ℕ) (e h : ℕ) (t : Sweeping k im₀ im e h) where
-  pub sweeping-more : 1 < h → (e' : ℕ) (im' : List ℕ) → length im' ≡ length im → e' ≤ 64 * k → edged e' (narrow k im') ≡ passed (narrow k im) (h - 1) e → Sweeping k im₀ im' e' (h - 1)
-  unfolding down
+module _ {w k : ℕ} {im₀ im : List ℕ} {e h : ℕ} (t : Sweeping w k im₀ im e h) where
+  pub sweeping-more : 1 < h → (e' : ℕ) (im' : List ℕ) → length im' ≡ length im → e' ≤ 64 * k → edged e' (imageOf w k im') ≡ passed (imageOf w k im) (h - 1) e → Sweeping w k im₀ im' e' (h - 1)
+  unfolding sweptFrom
   sweeping-more l e' im' ll te s =
       record {
         low = omega arith;
         high = omega (arith, t .high);
-        sized = record { low = t .sized .low; high = t .sized .high; long = ll ∙ t .sized .long };
+        sized = sized-as (t .sized) ll;
         same = ll ∙ t .same;
         top = te;
         state =
@@ -72,7 +73,7 @@ module _ (k : ℕ) (im₀ im : List ℕ) (e h : ℕ) (t : Sweeping k im₀ im e 
             s ∙ rw (q, p, ← (t .state)));
       }
 
-  pub sweeping-end : (m : Image) → narrow k im₀ ≡ setFirstRun m 0 → h ≤ 1 → (im' : List ℕ) → narrow k im' ≡ gap (narrow k im) 1 e → narrow k im' ≡ sweptAll k m
+  pub sweeping-end : (m : Image) → imageOf w k im₀ ≡ setFirstRun m 0 → h ≤ 1 → (im' : List ℕ) → imageOf w k im' ≡ gap (imageOf w k im) 1 e → imageOf w k im' ≡ sweptAll k m
   unfolding sweptAll
   sweeping-end m em l im' s =
       let q : 64 * k - 1 ≡ 64 * k - h = omega (arith, t .low) in

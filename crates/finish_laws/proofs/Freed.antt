@@ -2,7 +2,7 @@
 use mathlib.Core.Path.{_≡_, refl, ap, _∙_}
 use mathlib.Core.Bool.{Bool, true, false, cond}
 use mathlib.Core.List.{List, _∷_, _++_}
-use Prim.Native.Nat.{ℕ, zero, suc, _+_, _*_, _<_, _≤_}
+use Prim.Native.Nat.{ℕ, zero, suc, _+_, _*_, _<_, _≤_, zero-le}
 use native.Mathlib.Omega.{arith}
 use lib.ListN.{length, drop, length-append}
 use Rattle.model.specs.Base.{nth}
@@ -11,8 +11,9 @@ use Rattle.model.specs.Finish.{runTail, Swept, swept, sweep}
 use Rattle.theory.specs.Heap.{Filled, f-end, f-object, f-run, runWords, Bare}
 use Rattle.theory.proofs.heap.Lists.{length-run}
 use Rattle.theory.proofs.finish.Sweep.{not-kept, sweep-piece}
-use Rattle.finish.specs.Gaps.{goes, freedBelow}
-use Rattle.finish.proofs.Fold.{words-behind, size-first}
+use native.Mathlib.Numerals.{add-one}
+use Rattle.finish_laws.specs.Freed.{goes, freedBelow}
+use Rattle.finish_laws.proofs.gaps.Pieces.{words-behind, size-first}
 
 module _ (m : Image) where
   goes-none : (h : ℕ) → isStart m h ≡ false → goes m h ≡ 0
@@ -82,3 +83,36 @@ module _ (m : Image) (kept : (g : ℕ) → marked m g ≡ true → isStart m g �
   freed-small {g} (suc n) (f-run j next rest t ba f) l =
       rw (sweep-piece (isStart m) (marked m) kept n g (suc j) (runTail j next) rest (length-run j next))
       (omega (arith, swept-freed g (suc j) (runWords j next) (marked m g) (sweep (isStart m) (marked m) n (g + suc j) rest), at-most (marked m g) (isStart m g) (suc j), freed-small n f (omega (arith, length-append (runTail j next) rest, length-run j next)), length-append (runTail j next) rest, length-run j next))
+
+-- ---- the code: an object's size is no more than the widest word can say
+
+module _ (m : Image) (h : ℕ) (r : Bool) (er : r ≡ isStart m h) where
+  pub count-none : r ≡ false → 0 ≡ goes m h
+  unfolding goes
+  count-none q = rw (← er, q)
+
+  module _ (q : r ≡ true) (s : Bool) (es : s ≡ marked m h) where
+    pub count-kept : s ≡ true → 0 ≡ goes m h
+    unfolding goes
+    count-kept u = rw (← er, q, ← es, u)
+
+    pub count-size : s ≡ false → (n : ℕ) → n ≡ nth (m .heap) (4 * h) → n ≡ goes m h
+    unfolding goes
+    count-size u n en = en ∙ rw (← er, q, ← es, u)
+
+pub record FreedCounting (k : ℕ) (m : Image) (n f h : ℕ) : Type 0 where
+  pub top : n ≡ 64 * k
+  pub low : h ≤ n
+  pub sum : f ≡ freedBelow (m) h
+  pub small : f ≤ 4294967295 * h
+
+pub counting-none : (k : ℕ) (m : Image) → FreedCounting k m (64 * k) 0 0
+unfolding freedBelow
+counting-none k m = record { top = refl; low = zero-le; sum = refl; small = zero-le }
+
+pub counting-more : (k : ℕ) (m : Image) (n f h r : ℕ) → FreedCounting k m n f h → h < n → r ≡ goes (m) h → r ≤ 4294967295 → FreedCounting k m n (f + r) (h + 1)
+unfolding freedBelow
+counting-more k m n f h r t l e b = record { top = t .top; low = omega arith; sum = rw (add-one, t .sum, e); small = omega (arith, t .small) }
+
+pub counting-end : (k : ℕ) (m : Image) (n f h : ℕ) → FreedCounting k m n f h → n ≤ h → f ≡ freedBelow (m) (64 * k)
+counting-end k m n f h t l = let e : 64 * k ≡ h = omega (arith, t .low, t .top) in rw e (t .sum)
