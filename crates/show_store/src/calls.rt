@@ -3,8 +3,8 @@ ghost use mathlib.Core.Path.{_≡_};
 ghost use Rattle.model.specs.Batch.{batchAt};
 ghost use Rattle.image.specs.Layout.{width};
 ghost use Rattle.show_store_laws.specs.Run.{batched};
-use image::layout::Word;
 use image::layout::RECORD;
+use image::layout::Word;
 use image_laws::Extent;
 
 // "1 and 2 refuse the call, are its result (0 otherwise) and leave image and answers alone"

@@ -9,8 +9,8 @@ ghost use Rattle.theory.specs.Lines.{Sound, Undamaged};
 ghost use Rattle.image_laws.specs.Sized.{Sized};
 ghost use Rattle.image.specs.Layout.{width, recordLength};
 ghost use Rattle.show_store_laws.specs.Run.{recordAt, writtenAt};
-use image::layout::Word;
 use image::layout::RECORD;
+use image::layout::Word;
 
 // Record i, and its two answer words.
 pub fn one(im: &mut [Word], k: usize, steps: &[u8], answers: &mut [Word], i: usize)

@@ -1,4 +1,3 @@
-
 use Rattle.collector_laws.proofs.Steps.{clean-refused, clean-goes}
 use borrow.Author.Needs.{needs}
 use Rattle.collector.proofs.cleaning.clean.Statement.{statement}

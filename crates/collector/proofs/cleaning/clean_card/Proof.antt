@@ -1,4 +1,3 @@
-
 use borrow.Author.Needs.{needs}
 use Rattle.collector_laws.proofs.Cleaning.{next-in, card-let-go, card-object, card-in, next-object, card-from, card-to}
 use native.Mathlib.Omega.{arith}

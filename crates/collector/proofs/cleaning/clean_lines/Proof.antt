@@ -1,4 +1,3 @@
-
 use borrow.Author.Needs.{needs}
 use Rattle.collector_laws.proofs.Cleaning.{dirty-in, clean-hand-line, clean-card-line, clean-dirty-line, clean-no-line}
 use Rattle.collector_laws.proofs.Tracing.{hand-held}

@@ -1,4 +1,3 @@
-
 use borrow.Author.Needs.{needs}
 use Rattle.collector.proofs.cleaning.let_go.Statement.{statement}
 use Rattle.collector.proofs.cleaning.let_go.Tie as tie

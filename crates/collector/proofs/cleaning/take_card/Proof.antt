@@ -1,4 +1,3 @@
-
 use borrow.Author.Needs.{needs}
 use Rattle.collector_laws.proofs.Cleaning.{card-taken}
 use Rattle.collector.proofs.cleaning.take_card.Statement.{statement}

@@ -1,4 +1,3 @@
-
 use borrow.Author.Needs.{needs}
 use Rattle.collector_laws.proofs.Hands.{moved-on}
 use Rattle.collector.proofs.hands.advance.Statement.{statement}

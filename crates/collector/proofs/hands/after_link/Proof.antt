@@ -1,4 +1,3 @@
-
 use borrow.Author.Needs.{needs}
 use Rattle.collector_laws.proofs.Hands.{link-next, link-last}
 use Rattle.collector.proofs.hands.after_link.Statement.{statement}

@@ -1,4 +1,3 @@
-
 use borrow.Author.Needs.{needs}
 use Rattle.collector_laws.proofs.Hands.{link-in, link-ok, link-reached}
 use native.Mathlib.Omega.{arith}

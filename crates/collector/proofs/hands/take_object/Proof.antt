@@ -1,4 +1,3 @@
-
 use borrow.Author.Needs.{needs}
 use Rattle.collector_laws.proofs.Hands.{hand-unlinked, hand-taken}
 use Rattle.collector.proofs.hands.take_object.Statement.{statement}

@@ -1,4 +1,3 @@
-
 use borrow.Author.Needs.{needs}
 use Rattle.collector_laws.proofs.Hands.{hand-start, hand-below, hand-link, hand-next, hand-traced}
 use Rattle.collector.proofs.hands.trace_hand.Statement.{statement}

@@ -1,4 +1,3 @@
-
 use borrow.Author.Needs.{needs}
 use Rattle.collector_laws.proofs.Reaching.{enter-dirty, enter-append, enter-packet, enter-space, enter-tidy}
 use Rattle.collector.proofs.reaching.enter.Statement.{statement}

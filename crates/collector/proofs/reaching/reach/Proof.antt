@@ -1,4 +1,3 @@
-
 use borrow.Author.Needs.{needs}
 use Rattle.collector_laws.proofs.Reaching.{start-in, reach-nil, reach-marked, reach-new, marked-lines, taken-lines, taken-spare}
 use Rattle.collector.proofs.reaching.reach.Statement.{statement}

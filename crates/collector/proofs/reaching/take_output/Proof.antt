@@ -1,4 +1,3 @@
-
 use borrow.Author.Needs.{needs}
 use Rattle.collector_laws.proofs.Pool.{output-few}
 use Rattle.collector_laws.proofs.Reaching.{emptiest-few, back-places, take-new, take-same}

@@ -1,4 +1,3 @@
-
 use Rattle.collector_laws.proofs.Steps.{trace-refused, trace-goes}
 use borrow.Author.Needs.{needs}
 use Rattle.collector.proofs.tracing.trace.Statement.{statement}

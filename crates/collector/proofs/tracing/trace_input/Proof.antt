@@ -1,4 +1,3 @@
-
 use borrow.Author.Needs.{needs}
 use Rattle.collector_laws.proofs.Tracing.{tidy, popped-in, popped-dirty, popped-taken, popped-card}
 use Rattle.collector.proofs.tracing.trace_input.Statement.{statement}

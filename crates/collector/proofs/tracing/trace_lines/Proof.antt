@@ -1,4 +1,3 @@
-
 use borrow.Author.Needs.{needs}
 use Rattle.collector_laws.proofs.Tracing.{hand-held, held-input, entries-packet, entries-count, trace-hand-line, trace-input-line, input-packet, input-is}
 use Rattle.model.specs.Examples.{left}

@@ -1,4 +1,3 @@
-
 use borrow.Author.Needs.{needs}
 use Rattle.collector_laws.proofs.Tracing.{held-output, fullest-few, trace-pool-line, trace-output-line, trace-no-line}
 use native.Mathlib.Omega.{arith}
