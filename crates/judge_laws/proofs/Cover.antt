@@ -25,7 +25,7 @@ use Rattle.image_laws.proofs.Places.{place-in, word-in, words-full}
 use Rattle.image_laws.proofs.Trailing.{Lowest, word-lowest}
 use Rattle.soundness_laws.specs.Sets.{EnteredSet}
 use Rattle.soundness_laws.specs.Tests.{atWord, wordwise}
-use Rattle.soundness_laws.proofs.Loops.{all-pick}
+use Rattle.soundness_laws.proofs.Checks.{all-pick}
 use Rattle.soundness_laws.proofs.Marks.{by-words}
 use mathlib.Core.Logic.{_⊎_, inl, inr}
 use lib.Pow.{high}

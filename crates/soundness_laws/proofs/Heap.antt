@@ -15,7 +15,7 @@ use Rattle.model.specs.Image.{image, imageOf, granules, word, isStart, links, f
 use Rattle.model.specs.Undamaged.{piece, fill, filled, linksOk, zeroGranule}
 use Rattle.model.proofs.Laws.{false≢, and-split, all-use, all-make, every-use}
 use Rattle.soundness_laws.specs.Tests.{startsIn, linkOk, objectOk, pieceOk, nextRun, LinksInside}
-use Rattle.soundness_laws.proofs.Loops.{all-append}
+use Rattle.soundness_laws.proofs.Checks.{all-append}
 use Rattle.soundness_laws.proofs.Pieces.{head-use, piece-split, tail-at, tail-long, head-is, bare-is, object-is}
 use Rattle.soundness_laws.proofs.Starts.{notStart, clear, one, count-le, seen-more, seen-few}
 use Rattle.model.specs.Steps.{run}

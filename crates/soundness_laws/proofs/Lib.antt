@@ -1,4 +1,4 @@
-pub mod Loops
+pub mod Checks
 pub mod Starts
 pub mod Sets
 pub mod Marks

@@ -13,7 +13,7 @@ use Rattle.model.specs.Base.{nth, all, implies, testBit}
 use Rattle.model.specs.Image.{image, imageOf, granules, isStart, marked}
 use Rattle.model.specs.Undamaged.{markOk}
 use Rattle.soundness_laws.specs.Tests.{atWord, wordwise}
-use Rattle.soundness_laws.proofs.Loops.{all-append, clamped}
+use Rattle.soundness_laws.proofs.Checks.{all-append, clamped}
 use Rattle.image_laws.specs.Sized.{Sized}
 use Rattle.image_laws.proofs.Bits.{bit-at, mark-past}
 use Rattle.image_laws.proofs.Parts.{all-first, all-cong}

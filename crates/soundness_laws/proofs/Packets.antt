@@ -16,7 +16,7 @@ use native.Mathlib.Numerals.{add-one}
 use native.Mathlib.Omega.{arith}
 use Rattle.soundness_laws.specs.Sets.{setWords, packetEntries, AddedOnce}
 use Rattle.soundness_laws.specs.Tests.{packetOkAt, entryOkAt, Packed}
-use Rattle.soundness_laws.proofs.Loops.{test-inside}
+use Rattle.soundness_laws.proofs.Checks.{test-inside}
 use Rattle.soundness_laws.proofs.Sets.{once-none, once-one, once-append}
 use Rattle.model.specs.Cases.{ok}
 use Rattle.model.specs.Steps.{after}

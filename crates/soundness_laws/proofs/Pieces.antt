@@ -179,9 +179,9 @@ module _ (w k : ℕ) (l : List ℕ) (z : Sized w k l) (g : ℕ) (hg : g < 64 * k
     unfolding pieceOk runOk piece
     piece-run r h e = rw (← et, h) e
 
-    pub next-object : t ≡ true → next ≡ nextRun (imageOf w k l) g next
+    pub next-of-object : t ≡ true → next ≡ nextRun (imageOf w k l) g next
     unfolding nextRun
-    next-object h = rw (← et, h)
+    next-of-object h = rw (← et, h)
 
     pub next-of-run : (r : ℕ) → t ≡ false → r ≡ word (imageOf w k l) g 1 → r ≡ nextRun (imageOf w k l) g next
     unfolding nextRun

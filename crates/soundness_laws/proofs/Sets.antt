@@ -20,7 +20,7 @@ use Rattle.image_laws.specs.Sized.{Sized}
 use Rattle.image_laws.proofs.Bits.{start-past}
 use Rattle.image_laws.proofs.Places.{words-full}
 use native.Mathlib.Nat.{mul-comm, zero-mod, mul-le-mul-left, zero-div, div-mul-le-self}
-use Rattle.soundness_laws.proofs.Loops.{test-inside}
+use Rattle.soundness_laws.proofs.Checks.{test-inside}
 use Rattle.model.specs.Examples.{at}
 use Rattle.image_laws.proofs.Lengths.{sized-width}
 

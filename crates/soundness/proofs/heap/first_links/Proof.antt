@@ -1,5 +1,5 @@
 use borrow.Author.Needs.{needs}
-use Rattle.soundness_laws.proofs.Loops.{first-two}
+use Rattle.soundness_laws.proofs.Checks.{first-two}
 use Rattle.soundness.proofs.heap.first_links.Statement.{statement}
 use Rattle.soundness.proofs.heap.first_links.Tie as tie
 

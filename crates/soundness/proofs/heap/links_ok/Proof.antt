@@ -3,12 +3,12 @@ use borrow.Author.Needs.{needs}
 use Rattle.model.specs.Image.{imageOf}
 use Rattle.image.specs.Layout.{width}
 use Rattle.soundness_laws.specs.Tests.{linkOk}
-use Rattle.soundness_laws.proofs.Loops.{Passed, after-two, passed-more, passed-end}
+use Rattle.soundness_laws.proofs.Checks.{Checked, after-two, checked-more, checked-end}
 use Rattle.soundness.proofs.heap.links_ok.Statement.{statement}
 use Rattle.soundness.proofs.heap.links_ok.Tie as tie
 
 abbrev Inv-loop : tie.InvT-loop
-Inv-loop im k names g n ok₀ i₀ ok i = Passed n (linkOk (imageOf width k im) g) ok i
+Inv-loop im k names g n ok₀ i₀ ok i = Checked n (linkOk (imageOf width k im) g) ok i
 
 abbrev μ-loop : tie.MeasureT-loop
 μ-loop im k names g n ok₀ i₀ ok i = n - i
@@ -20,4 +20,4 @@ pub links-ok-spec : {M : Type 1} → statement M
 links-ok-spec =
     tie.close
     (tie.spec Inv-loop μ-loop (λ c κs. search needs) (λ c κs. search needs) loop-holds (λ c κs. search needs) (λ c. search needs) (λ c. search needs)
-    (λ c. search passed-more) (λ c. search passed-end))
+    (λ c. search checked-more) (λ c. search checked-end))

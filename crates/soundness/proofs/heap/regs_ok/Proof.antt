@@ -3,12 +3,12 @@ use Prim.Native.Nat.{_-_}
 use borrow.Author.Needs.{needs}
 use Rattle.model.specs.Image.{imageOf}
 use Rattle.image.specs.Layout.{width}
-use Rattle.soundness_laws.proofs.Loops.{Passed, passed-none, passed-more, passed-end}
+use Rattle.soundness_laws.proofs.Checks.{Checked, checked-none, checked-more, checked-end}
 use Rattle.soundness.proofs.heap.regs_ok.Statement.{statement}
 use Rattle.soundness.proofs.heap.regs_ok.Tie as tie
 
 abbrev Inv-loop : tie.InvT-loop
-Inv-loop im k names ok₀ i₀ ok i = Passed 256 (regOk (imageOf width k im)) ok i
+Inv-loop im k names ok₀ i₀ ok i = Checked 256 (regOk (imageOf width k im)) ok i
 
 abbrev μ-loop : tie.MeasureT-loop
 μ-loop im k names ok₀ i₀ ok i = 256 - i
@@ -16,5 +16,5 @@ abbrev μ-loop : tie.MeasureT-loop
 pub regs-ok-spec : {M : Type 1} → statement M
 regs-ok-spec =
     tie.close
-    (tie.spec Inv-loop μ-loop (λ c. passed-none) (λ c κs. search needs) (λ c. search needs) (λ c. search needs) (λ c. search passed-more)
-    (λ c. search passed-end))
+    (tie.spec Inv-loop μ-loop (λ c. checked-none) (λ c κs. search needs) (λ c. search needs) (λ c. search needs) (λ c. search checked-more)
+    (λ c. search checked-end))

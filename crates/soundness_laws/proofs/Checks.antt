@@ -16,13 +16,13 @@ use Rattle.model.specs.Examples.{at}
 
 -- ---- `ok` says whether all below i pass
 
-pub record Passed (n : ℕ) (p : ℕ → Bool) (ok : Bool) (i : ℕ) : Type 0 where
+pub record Checked (n : ℕ) (p : ℕ → Bool) (ok : Bool) (i : ℕ) : Type 0 where
   pub within : i ≤ n
   pub so-far : ok ≡ all i p
 
-pub passed-none : {n : ℕ} {p : ℕ → Bool} → Passed n p true 0
+pub checked-none : {n : ℕ} {p : ℕ → Bool} → Checked n p true 0
 unfolding all
-passed-none {n} = record { within = omega arith; so-far = refl }
+checked-none {n} = record { within = omega arith; so-far = refl }
 
 -- the first two at once
 pub first-two : (p : ℕ → Bool) (n : ℕ) (a b : Bool) → a ≡ p 0 → b ≡ p 1 → ((ltb n 1 || a) && (ltb n 2 || b)) ≡ all (min 2 n) p
@@ -36,15 +36,15 @@ first-two p n a b ea eb = rw (ea, eb) (go (decLt n 1) (decLt n 2))
         let e : min 2 n ≡ 2 = omega arith in
         rw (e, le-ltb n 1 (omega arith), le-ltb n 2 (omega arith))
 
-pub after-two : (n : ℕ) (p : ℕ → Bool) (ok : Bool) (i : ℕ) → i ≡ min 2 n → ok ≡ all (min 2 n) p → Passed n p ok i
+pub after-two : (n : ℕ) (p : ℕ → Bool) (ok : Bool) (i : ℕ) → i ≡ min 2 n → ok ≡ all (min 2 n) p → Checked n p ok i
 after-two n p ok i h e = record { within = omega arith; so-far = rw (← h) at e }
 
-pub passed-more : (n : ℕ) (p : ℕ → Bool) (ok : Bool) (i : ℕ) (t : Bool) → Passed n p ok i → i < n → t ≡ p i → Passed n p (ok && t) (i + 1)
+pub checked-more : (n : ℕ) (p : ℕ → Bool) (ok : Bool) (i : ℕ) (t : Bool) → Checked n p ok i → i < n → t ≡ p i → Checked n p (ok && t) (i + 1)
 unfolding all
-passed-more n p ok i t s h e = rw add-one (record { within = omega arith; so-far = rw (s .so-far, e) })
+checked-more n p ok i t s h e = rw add-one (record { within = omega arith; so-far = rw (s .so-far, e) })
 
-pub passed-end : (n : ℕ) (p : ℕ → Bool) (ok : Bool) (i : ℕ) → Passed n p ok i → n ≤ i → ok ≡ all n p
-passed-end n p ok i s h = let e : i ≡ n = omega (arith, s .within) in rw e at (s .so-far)
+pub checked-end : (n : ℕ) (p : ℕ → Bool) (ok : Bool) (i : ℕ) → Checked n p ok i → n ≤ i → ok ≡ all n p
+checked-end n p ok i s h = let e : i ≡ n = omega (arith, s .within) in rw e at (s .so-far)
 
 -- ---- `found` says whether some below i passes
 
