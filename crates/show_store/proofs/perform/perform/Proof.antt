@@ -1,12 +1,12 @@
 use borrow.Author.Needs.{needs}
 use Rattle.request_laws.specs.Request.{requested}
-use Rattle.request_laws.proofs.Fields.{refused-unknown, refused-off, refused-owing, admitted}
+use Rattle.request_laws.proofs.Fields.{refused-unknown, refused-off, refused-owing, admitted-passes}
 use Rattle.show_store.proofs.perform.perform.Statement.{statement}
 use Rattle.show_store.proofs.perform.perform.Tie as tie
 
 dispatch-requires : tie.Need-dispatch-requires
 unfolding requested
-dispatch-requires c κs = let q = c .before .before .before .before .before .before in (q .pre .0, (q .pre .1 .0, (q .pre .1 .1, search admitted)))
+dispatch-requires c κs = let q = c .before .before .before .before .before .before in (q .pre .0, (q .pre .1 .0, (q .pre .1 .1, search admitted-passes)))
 
 returns : tie.Need-returns
 returns c = search refused-unknown
