@@ -1,26 +1,24 @@
 // Kind 9: "cards become 0, the cycle runs".
 ghost use mathlib.Core.Path.{_≡_};
+ghost use Rattle.model.specs.Image.{imageOf};
 ghost use Rattle.model.specs.Steps.{step};
 ghost use Rattle.theory.specs.Lines.{Sound};
-ghost use Rattle.image.specs.Sized.{Sized, narrow};
-ghost use Rattle.image.specs.Answer.{doneOf, asked};
-use image::answer::Answer;
+ghost use Rattle.image_laws.specs.Sized.{Sized};
+ghost use Rattle.image.specs.Layout.{width};
+ghost use Rattle.request_laws.specs.Answer.{asked};
+ghost use Rattle.request.specs.Answer.{doneOf};
+use image::layout::Word;
+use request::answer::Answer;
 
-pub fn begin(im: &mut [u16], k: usize, p: usize, a: usize, b: usize, c: usize) -> Answer
-    requires { ⌜ Sized k (now im) ⌝ }
-    requires { ⌜ Sound (narrow k (now im)) ⌝ }
-    ensures { λ r. ⌜ doneOf r (narrow k (now (im .exit))) ≡ step (narrow k (now (im .entry))) (asked 9 p a b c) ⌝ }
+pub fn begin(im: &mut [Word], k: usize) -> Answer
+    requires { ⌜ Sized width k (now im) ⌝ }
+    requires { ⌜ Sound (imageOf width k (now im)) ⌝ }
+    ensures { λ r. ⌜ doneOf r (imageOf width k (now (im .exit))) ≡ step (imageOf width k (now (im .entry))) (asked 9 0 0 0 0) ⌝ }
 {
-    if p != 0 {
-        return Answer::Unknown;
-    }
-    if image::fields::some_set(a, b, c) {
-        return Answer::Unknown;
-    }
-    if image::running(im, k) == 1 {
+    if image::sections::running(im, k) == 1 {
         return Answer::WrongPhase;
     }
     image::clearing::clear_cards(im, k);
-    image::set_general_word(im, k, 0, 1);
+    image::sections::set_general_word(im, k, 0, 1);
     Answer::Done(0)
 }

@@ -2,23 +2,27 @@
 ghost use mathlib.Core.Path.{_≡_};
 ghost use Prim.Native.Nat.{ℕ, _+_, _*_, _≤_, _<_};
 ghost use lib.Dec.{eqb};
+ghost use Rattle.model.specs.Image.{imageOf};
 ghost use Rattle.model.specs.Collect.{cleanCard, takeCard, cleanLine, cleanStep};
 ghost use Rattle.model.specs.Steps.{step};
 ghost use Rattle.theory.specs.Lines.{Lines, Sound};
-ghost use Rattle.image.specs.Sized.{Sized, narrow};
-ghost use Rattle.image.specs.Answer.{doneOf, asked};
-ghost use Rattle.tracers.specs.Tracers.{tracerAt, withCard, withTracer};
-ghost use Rattle.collector.specs.Refusals.{doneUnless};
-use crate::refusals::Turn;
-use image::answer::Answer;
+ghost use Rattle.image_laws.specs.Sized.{Sized};
+ghost use Rattle.image.specs.Layout.{width};
+ghost use Rattle.request_laws.specs.Answer.{asked};
+ghost use Rattle.request.specs.Answer.{doneOf};
+ghost use Rattle.tracers_laws.specs.Tracer.{tracerAt, withCard, withTracer};
+ghost use Rattle.tracers.specs.Plain.{tracerOf};
+ghost use Rattle.collector_laws.specs.Outcome.{doneUnless};
+use image::layout::Word;
+use request::answer::Answer;
 use tracers::tracer::Tracer;
 
 // "the card is let go", its state as it is
-fn let_go(im: &mut [u16], k: usize, t: usize, x: Tracer)
-    requires { ⌜ Sized k (now im) ⌝ }
+fn let_go(im: &mut [Word], k: usize, t: usize, x: Tracer)
+    requires { ⌜ Sized width k (now im) ⌝ }
     requires { ⌜ t < 8 ⌝ }
     requires { ⌜ (0 < x .card) × (x .card ≤ k) ⌝ }
-    ensures { λ _. ⌜ narrow k (now (im .exit)) ≡ withTracer (narrow k (now (im .entry))) t (withCard x 0 0) ⌝ }
+    ensures { λ _. ⌜ imageOf width k (now (im .exit)) ≡ withTracer (imageOf width k (now (im .entry))) t (withCard (tracerOf x) 0 0) ⌝ }
 {
     let gone = x.with_card(0, 0);
     tracers::tracer::write_tracer(im, k, t, gone);
@@ -26,11 +30,11 @@ fn let_go(im: &mut [u16], k: usize, t: usize, x: Tracer)
 
 // "the next marked object from its next granule goes in hand at link 0 (unless without links) and the next granule is the
 // one after its start; if none is left, the card is let go"
-fn clean_card(im: &mut [u16], k: usize, t: usize, x: Tracer)
-    requires { ⌜ Sized k (now im) ⌝ }
-    requires { ⌜ Lines (narrow k (now im)) ⌝ }
-    requires { ⌜ (t < 8) × (x ≡ tracerAt (narrow k (now im)) t) × (0 < x .card) ⌝ }
-    ensures { λ _. ⌜ narrow k (now (im .exit)) ≡ cleanCard (narrow k (now (im .entry))) t ⌝ }
+fn clean_card(im: &mut [Word], k: usize, t: usize, x: Tracer)
+    requires { ⌜ Sized width k (now im) ⌝ }
+    requires { ⌜ Lines (imageOf width k (now im)) ⌝ }
+    requires { ⌜ (t < 8) × (tracerOf x ≡ tracerAt (imageOf width k (now im)) t) × (0 < x .card) ⌝ }
+    ensures { λ _. ⌜ imageOf width k (now (im .exit)) ≡ cleanCard (imageOf width k (now (im .entry))) t ⌝ }
 {
     let c = x.card;
     let g = tracers::marks::next_marked(im, k, x.granule as usize, c as usize);
@@ -39,28 +43,28 @@ fn clean_card(im: &mut [u16], k: usize, t: usize, x: Tracer)
         return;
     }
     let object = g - 1;
-    let y = x.with_card(c, g as u16);
+    let y = x.with_card(c, g as Word);
     tracers::tracer::write_tracer(im, k, t, y);
-    crate::hands::take_object(im, k, t, object as u16);
+    crate::hands::take_object(im, k, t, object as Word);
 }
 
 // "the lowest card in state 1 becomes 2 and is in hand at its first granule"
-fn take_card(im: &mut [u16], k: usize, t: usize, c: usize)
-    requires { ⌜ Sized k (now im) ⌝ }
+fn take_card(im: &mut [Word], k: usize, t: usize, c: usize)
+    requires { ⌜ Sized width k (now im) ⌝ }
     requires { ⌜ (t < 8) × (c < k) ⌝ }
-    ensures { λ _. ⌜ narrow k (now (im .exit)) ≡ takeCard (narrow k (now (im .entry))) t c ⌝ }
+    ensures { λ _. ⌜ imageOf width k (now (im .exit)) ≡ takeCard (imageOf width k (now (im .entry))) t c ⌝ }
 {
-    image::set_card(im, k, c, 2);
+    image::sections::set_card(im, k, c, 2);
     let x = tracers::tracer::read_tracer(im, k, t);
-    let y = x.with_card((c + 1) as u16, (64 * c) as u16);
+    let y = x.with_card((c + 1) as Word, (64 * c) as Word);
     tracers::tracer::write_tracer(im, k, t, y);
 }
 
-fn clean_lines(im: &mut [u16], k: usize, t: usize) -> Answer
-    requires { ⌜ Sized k (now im) ⌝ }
-    requires { ⌜ Lines (narrow k (now im)) ⌝ }
+fn clean_lines(im: &mut [Word], k: usize, t: usize) -> Answer
+    requires { ⌜ Sized width k (now im) ⌝ }
+    requires { ⌜ Lines (imageOf width k (now im)) ⌝ }
     requires { ⌜ t < 8 ⌝ }
-    ensures { λ r. ⌜ doneOf r (narrow k (now (im .exit))) ≡ doneUnless (eqb (cleanLine (narrow k (now (im .entry))) t) 0) (narrow k (now (im .entry))) (cleanStep (narrow k (now (im .entry))) t) ⌝ }
+    ensures { λ r. ⌜ doneOf r (imageOf width k (now (im .exit))) ≡ doneUnless (eqb (cleanLine (imageOf width k (now (im .entry))) t) 0) (imageOf width k (now (im .entry))) (cleanStep (imageOf width k (now (im .entry))) t) ⌝ }
 {
     let x = tracers::tracer::read_tracer(im, k, t);
     if x.hand != 0 {
@@ -79,15 +83,14 @@ fn clean_lines(im: &mut [u16], k: usize, t: usize) -> Answer
     Answer::NothingToDo
 }
 
-pub fn clean(im: &mut [u16], k: usize, t: usize, a: usize, b: usize, c: usize) -> Answer
-    requires { ⌜ Sized k (now im) ⌝ }
-    requires { ⌜ Sound (narrow k (now im)) ⌝ }
-    ensures { λ r. ⌜ doneOf r (narrow k (now (im .exit))) ≡ step (narrow k (now (im .entry))) (asked 12 t a b c) ⌝ }
+pub fn clean(im: &mut [Word], k: usize, t: usize) -> Answer
+    requires { ⌜ Sized width k (now im) ⌝ }
+    requires { ⌜ Sound (imageOf width k (now im)) ⌝ }
+    requires { ⌜ t < 8 ⌝ }
+    ensures { λ r. ⌜ doneOf r (imageOf width k (now (im .exit))) ≡ step (imageOf width k (now (im .entry))) (asked 12 t 0 0 0) ⌝ }
 {
-    let u = image::fields::some_set(a, b, c);
-    let r = crate::refusals::refuse(im, k, u, 7 < t);
-    match r {
-        Turn::Refused(n) => n,
-        Turn::Goes => clean_lines(im, k, t),
+    if image::sections::running(im, k) == 0 {
+        return Answer::WrongPhase;
     }
+    clean_lines(im, k, t)
 }

@@ -3,51 +3,52 @@ ghost use mathlib.Core.Path.{_≡_};
 ghost use Prim.Native.Nat.{ℕ, _+_, _*_, _≤_, _<_};
 ghost use lib.Dec.{eqb};
 ghost use lib.ListN.{take, drop};
-ghost use Rattle.model.specs.Image.{scanned};
+ghost use Rattle.model.specs.Image.{imageOf, scanned};
 ghost use Rattle.model.specs.Collect.{reachAll, scanPlayer};
 ghost use Rattle.model.specs.Steps.{step};
 ghost use Rattle.theory.specs.Lines.{Lines, Sound};
-ghost use Rattle.image.specs.Sized.{Sized, narrow};
-ghost use Rattle.image.specs.Answer.{doneOf, asked};
-ghost use Rattle.collector.specs.Refusals.{doneUnless};
-use crate::refusals::Turn;
-use image::answer::Answer;
+ghost use Rattle.image_laws.specs.Sized.{Sized};
+ghost use Rattle.image.specs.Layout.{width};
+ghost use Rattle.request_laws.specs.Answer.{asked};
+ghost use Rattle.request.specs.Answer.{doneOf};
+ghost use Rattle.collector_laws.specs.Outcome.{doneUnless};
+use image::layout::Word;
+use request::answer::Answer;
 
-fn reach_registers(im: &mut [u16], k: usize, t: usize, p: usize)
-    requires { ⌜ Sized k (now im) ⌝ }
-    requires { ⌜ Lines (narrow k (now im)) ⌝ }
+fn reach_registers(im: &mut [Word], k: usize, t: usize, p: usize)
+    requires { ⌜ Sized width k (now im) ⌝ }
+    requires { ⌜ Lines (imageOf width k (now im)) ⌝ }
     requires { ⌜ (t < 8) × (p < 16) ⌝ }
-    ensures { λ _. ⌜ narrow k (now (im .exit)) ≡ reachAll (narrow k (now (im .entry))) t (take 16 (drop (16 * p) (narrow k (now (im .entry)) .regs))) ⌝ }
+    ensures { λ _. ⌜ imageOf width k (now (im .exit)) ≡ reachAll (imageOf width k (now (im .entry))) t (take 16 (drop (16 * p) (imageOf width k (now (im .entry)) .regs))) ⌝ }
 {
     for r in 0..16 {
-        let g = image::reg(im, k, p, r);
+        let g = image::sections::reg(im, k, p, r);
         crate::reaching::reach(im, k, t, g);
     }
 }
 
-fn scan_player(im: &mut [u16], k: usize, t: usize, p: usize) -> Answer
-    requires { ⌜ Sized k (now im) ⌝ }
-    requires { ⌜ Lines (narrow k (now im)) ⌝ }
+fn scan_player(im: &mut [Word], k: usize, t: usize, p: usize) -> Answer
+    requires { ⌜ Sized width k (now im) ⌝ }
+    requires { ⌜ Lines (imageOf width k (now im)) ⌝ }
     requires { ⌜ (t < 8) × (p < 16) ⌝ }
-    ensures { λ r. ⌜ doneOf r (narrow k (now (im .exit))) ≡ doneUnless (eqb (scanned (narrow k (now (im .entry))) p) 1) (narrow k (now (im .entry))) (scanPlayer (narrow k (now (im .entry))) t p) ⌝ }
+    ensures { λ r. ⌜ doneOf r (imageOf width k (now (im .exit))) ≡ doneUnless (eqb (scanned (imageOf width k (now (im .entry))) p) 1) (imageOf width k (now (im .entry))) (scanPlayer (imageOf width k (now (im .entry))) t p) ⌝ }
 {
-    if image::scanned(im, k, p) == 1 {
+    if image::sections::scanned(im, k, p) == 1 {
         return Answer::NothingToDo;
     }
     reach_registers(im, k, t, p);
-    image::set_scanned(im, k, p);
+    image::sections::set_scanned(im, k, p);
     Answer::Done(0)
 }
 
-pub fn scan(im: &mut [u16], k: usize, t: usize, a: usize, b: usize, c: usize) -> Answer
-    requires { ⌜ Sized k (now im) ⌝ }
-    requires { ⌜ Sound (narrow k (now im)) ⌝ }
-    ensures { λ r. ⌜ doneOf r (narrow k (now (im .exit))) ≡ step (narrow k (now (im .entry))) (asked 10 t a b c) ⌝ }
+pub fn scan(im: &mut [Word], k: usize, t: usize, p: usize) -> Answer
+    requires { ⌜ Sized width k (now im) ⌝ }
+    requires { ⌜ Sound (imageOf width k (now im)) ⌝ }
+    requires { ⌜ (t < 8) × (p < 16) ⌝ }
+    ensures { λ r. ⌜ doneOf r (imageOf width k (now (im .exit))) ≡ step (imageOf width k (now (im .entry))) (asked 10 t p 0 0) ⌝ }
 {
-    let u = image::fields::some_set(0, b, c);
-    let r = crate::refusals::refuse(im, k, u, (7 < t) | (15 < a));
-    match r {
-        Turn::Refused(n) => n,
-        Turn::Goes => scan_player(im, k, t, a),
+    if image::sections::running(im, k) == 0 {
+        return Answer::WrongPhase;
     }
+    scan_player(im, k, t, p)
 }

@@ -3,27 +3,30 @@ ghost use mathlib.Core.Path.{_≡_};
 ghost use mathlib.Core.Bool.{false};
 ghost use Prim.Native.Nat.{ℕ, suc, _+_, _*_, _≤_, _<_};
 ghost use lib.Dec.{eqb};
-ghost use Rattle.model.specs.Image.{input, count};
+ghost use Rattle.model.specs.Image.{imageOf, input, count};
 ghost use Rattle.model.specs.Collect.{traceInput, traceLine, traceStep, hasEntries};
 ghost use Rattle.model.specs.Steps.{step};
 ghost use Rattle.theory.specs.Lines.{Lines, Sound};
-ghost use Rattle.image.specs.Sized.{Sized, narrow};
-ghost use Rattle.image.specs.Answer.{doneOf, asked};
-ghost use Rattle.tracers.specs.Tracers.{tracerAt};
-ghost use Rattle.collector.specs.Refusals.{doneUnless};
-use crate::refusals::Turn;
-use image::answer::Answer;
+ghost use Rattle.image_laws.specs.Sized.{Sized};
+ghost use Rattle.image.specs.Layout.{width};
+ghost use Rattle.request_laws.specs.Answer.{asked};
+ghost use Rattle.request.specs.Answer.{doneOf};
+ghost use Rattle.tracers_laws.specs.Tracer.{tracerAt};
+ghost use Rattle.tracers.specs.Plain.{tracerOf};
+ghost use Rattle.collector_laws.specs.Outcome.{doneUnless};
+use image::layout::Word;
+use request::answer::Answer;
 use tracers::tracer::Tracer;
 
 // "Input has entries: the last comes off; it goes in hand at link 0, unless its card is dirty or it has no links."
-fn trace_input(im: &mut [u16], k: usize, t: usize, p: usize)
-    requires { ⌜ Sized k (now im) ⌝ }
-    requires { ⌜ Lines (narrow k (now im)) ⌝ }
-    requires { ⌜ (t < 8) × (p < 32) × (input (narrow k (now im)) t ≡ suc p) × (0 < count (narrow k (now im)) p) ⌝ }
-    ensures { λ _. ⌜ narrow k (now (im .exit)) ≡ traceInput (narrow k (now (im .entry))) t ⌝ }
+fn trace_input(im: &mut [Word], k: usize, t: usize, p: usize)
+    requires { ⌜ Sized width k (now im) ⌝ }
+    requires { ⌜ Lines (imageOf width k (now im)) ⌝ }
+    requires { ⌜ (t < 8) × (p < 32) × (input (imageOf width k (now im)) t ≡ suc p) × (0 < count (imageOf width k (now im)) p) ⌝ }
+    ensures { λ _. ⌜ imageOf width k (now (im .exit)) ≡ traceInput (imageOf width k (now (im .entry))) t ⌝ }
 {
     let g = tracers::packet::pop_entry(im, k, p);
-    if crate::cards::is_dirty(im, k, g as usize / 64) {
+    if image::cards::is_dirty(im, k, g as usize / 64) {
         return;
     }
     crate::hands::take_object(im, k, t, g);
@@ -31,16 +34,16 @@ fn trace_input(im: &mut [u16], k: usize, t: usize, p: usize)
 
 // "The pool has entries: the input goes back and the fullest pool packet, lowest number, becomes input. Own output has
 // entries: the input goes back and the output becomes input."
-fn trace_packets(im: &mut [u16], k: usize, t: usize, x: Tracer) -> Answer
-    requires { ⌜ Sized k (now im) ⌝ }
-    requires { ⌜ Lines (narrow k (now im)) ⌝ }
-    requires { ⌜ (t < 8) × (x ≡ tracerAt (narrow k (now im)) t) ⌝ }
-    requires { ⌜ (x .hand ≡ 0) × (hasEntries (narrow k (now im)) (x .input) ≡ false) ⌝ }
-    ensures { λ r. ⌜ doneOf r (narrow k (now (im .exit))) ≡ doneUnless (eqb (traceLine (narrow k (now (im .entry))) t) 0) (narrow k (now (im .entry))) (traceStep (narrow k (now (im .entry))) t) ⌝ }
+fn trace_packets(im: &mut [Word], k: usize, t: usize, x: Tracer) -> Answer
+    requires { ⌜ Sized width k (now im) ⌝ }
+    requires { ⌜ Lines (imageOf width k (now im)) ⌝ }
+    requires { ⌜ (t < 8) × (tracerOf x ≡ tracerAt (imageOf width k (now im)) t) ⌝ }
+    requires { ⌜ (x .hand ≡ 0) × (hasEntries (imageOf width k (now im)) (x .input) ≡ false) ⌝ }
+    ensures { λ r. ⌜ doneOf r (imageOf width k (now (im .exit))) ≡ doneUnless (eqb (traceLine (imageOf width k (now (im .entry))) t) 0) (imageOf width k (now (im .entry))) (traceStep (imageOf width k (now (im .entry))) t) ⌝ }
 {
     let f = crate::pool::fullest(im, k);
     if f != 0 {
-        let y = x.with_input(f as u16);
+        let y = x.with_input(f as Word);
         tracers::tracer::write_tracer(im, k, t, y);
         return Answer::Done(0);
     }
@@ -54,11 +57,11 @@ fn trace_packets(im: &mut [u16], k: usize, t: usize, x: Tracer) -> Answer
     Answer::NothingToDo
 }
 
-fn trace_lines(im: &mut [u16], k: usize, t: usize) -> Answer
-    requires { ⌜ Sized k (now im) ⌝ }
-    requires { ⌜ Lines (narrow k (now im)) ⌝ }
+fn trace_lines(im: &mut [Word], k: usize, t: usize) -> Answer
+    requires { ⌜ Sized width k (now im) ⌝ }
+    requires { ⌜ Lines (imageOf width k (now im)) ⌝ }
     requires { ⌜ t < 8 ⌝ }
-    ensures { λ r. ⌜ doneOf r (narrow k (now (im .exit))) ≡ doneUnless (eqb (traceLine (narrow k (now (im .entry))) t) 0) (narrow k (now (im .entry))) (traceStep (narrow k (now (im .entry))) t) ⌝ }
+    ensures { λ r. ⌜ doneOf r (imageOf width k (now (im .exit))) ≡ doneUnless (eqb (traceLine (imageOf width k (now (im .entry))) t) 0) (imageOf width k (now (im .entry))) (traceStep (imageOf width k (now (im .entry))) t) ⌝ }
 {
     let x = tracers::tracer::read_tracer(im, k, t);
     if x.hand != 0 {
@@ -73,15 +76,14 @@ fn trace_lines(im: &mut [u16], k: usize, t: usize) -> Answer
     trace_packets(im, k, t, x)
 }
 
-pub fn trace(im: &mut [u16], k: usize, t: usize, a: usize, b: usize, c: usize) -> Answer
-    requires { ⌜ Sized k (now im) ⌝ }
-    requires { ⌜ Sound (narrow k (now im)) ⌝ }
-    ensures { λ r. ⌜ doneOf r (narrow k (now (im .exit))) ≡ step (narrow k (now (im .entry))) (asked 11 t a b c) ⌝ }
+pub fn trace(im: &mut [Word], k: usize, t: usize) -> Answer
+    requires { ⌜ Sized width k (now im) ⌝ }
+    requires { ⌜ Sound (imageOf width k (now im)) ⌝ }
+    requires { ⌜ t < 8 ⌝ }
+    ensures { λ r. ⌜ doneOf r (imageOf width k (now (im .exit))) ≡ step (imageOf width k (now (im .entry))) (asked 11 t 0 0 0) ⌝ }
 {
-    let u = image::fields::some_set(a, b, c);
-    let r = crate::refusals::refuse(im, k, u, 7 < t);
-    match r {
-        Turn::Refused(n) => n,
-        Turn::Goes => trace_lines(im, k, t),
+    if image::sections::running(im, k) == 0 {
+        return Answer::WrongPhase;
     }
+    trace_lines(im, k, t)
 }

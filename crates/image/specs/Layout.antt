@@ -30,3 +30,7 @@ playersFrom = 1344
 
 abbrev pub behind : ℕ
 behind = 1384
+
+-- bytes in a step record
+abbrev pub recordLength : ℕ
+recordLength = 8

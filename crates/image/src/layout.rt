@@ -3,6 +3,8 @@ pub type Word = u16;
 
 pub const BITS: usize = 16;
 
+pub const VALUES: usize = 65536;
+
 pub const MOST_CARDS: usize = 512;
 
 pub const STARTS: usize = 256;
@@ -24,3 +26,5 @@ pub const GENERAL: usize = 1376;
 pub const BEHIND: usize = 1384;
 
 pub const SHORTEST: usize = 1649;
+
+pub const RECORD: usize = 8;

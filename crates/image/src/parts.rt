@@ -6,7 +6,9 @@ ghost use Rattle.model.specs.Base.{zeroes};
 ghost use Rattle.model.specs.Image.{imageOf};
 ghost use Rattle.image_laws.specs.Sized.{Sized};
 ghost use Rattle.image.specs.Layout.{width};
+use crate::layout::BEHIND;
 use crate::layout::CARDS;
+use crate::layout::GENERAL;
 use crate::layout::MARKS;
 use crate::layout::PACKETS;
 use crate::layout::PER_CARD;
@@ -53,13 +55,21 @@ pub fn zero_tracers(im: &[Word], k: usize) -> bool
     zeros(&im[a..e])
 }
 
-// the words of a run of s granules at g, behind its two
-pub fn run_zero(im: &[Word], k: usize, g: usize, s: usize) -> bool
+// heap words a to e - 1
+pub fn zero_heap(im: &[Word], k: usize, a: usize, e: usize) -> bool
     requires { ⌜ Sized width k (now im) ⌝ }
-    requires { ⌜ (1 ≤ s) × (g + s ≤ 64 * k) ⌝ }
-    ensures { λ r. ⌜ r ≡ zeroes (take (4 * s - 2) (drop (4 * g + 2) (imageOf width k (now (im .entry)) .heap))) ⌝ }
+    requires { ⌜ (a ≤ e) × (e ≤ 256 * k) ⌝ }
+    ensures { λ r. ⌜ r ≡ zeroes (take (e - a) (drop a (imageOf width k (now (im .entry)) .heap))) ⌝ }
 {
-    let a = 4 * g + 2;
-    let e = 4 * g + 4 * s;
+    zeros(&im[a..e])
+}
+
+// the words of the last section behind its first two
+pub fn zero_spares(im: &[Word], k: usize) -> bool
+    requires { ⌜ Sized width k (now im) ⌝ }
+    ensures { λ r. ⌜ r ≡ zeroes (take 6 (drop 2 (imageOf width k (now (im .entry)) .general))) ⌝ }
+{
+    let a = PER_CARD * k + GENERAL + 2;
+    let e = PER_CARD * k + BEHIND;
     zeros(&im[a..e])
 }

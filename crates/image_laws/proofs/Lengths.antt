@@ -1,13 +1,14 @@
--- Width, cards and sections of the image that a slice holds, and the lengths of those that are not the same for all stores.
+-- Width, cards and sections of the image that a slice holds, and the lengths of sections.
 use mathlib.Core.Path.{_≡_, refl, ap, _∙_}
 use mathlib.Core.Logic.{_⊎_}
 use mathlib.Core.List.{List, map}
 use Prim.Native.Nat.{ℕ, _*_, _/_}
 use lib.ListN.{length, getD}
-use Rattle.model.specs.Image.{image, imageOf, sections, lengths, startsAt, marksAt, cardsAt}
+use Rattle.model.specs.Image.{image, imageOf, sections, lengths, heapAt, startsAt, marksAt, cardsAt, packetsAt, generalAt}
 use Rattle.model.proofs.Words.{width-cases}
 use Rattle.image_laws.specs.Sized.{Sized}
 use Rattle.image_laws.proofs.Sections.{image-fits}
+use lib.Pow.{high, low}
 
 pub width-image : (w k : ℕ) (ws : List ℕ) → imageOf w k ws .width ≡ w
 unfolding imageOf image
@@ -29,6 +30,10 @@ module _ {w k : ℕ} {ws : List ℕ} (z : Sized w k ws) where
   unfolding imageOf image
   long-section i = ap (λ (l : List ℕ). getD l i 0) (image-fits z .section-lengths)
 
+  pub heap-words : length (imageOf w k ws .heap) ≡ 256 * k
+  unfolding sections
+  heap-words = long-section heapAt
+
   pub starts-words : length (imageOf w k ws .starts) ≡ 64 * k / w
   unfolding sections
   starts-words = long-section startsAt
@@ -40,3 +45,11 @@ module _ {w k : ℕ} {ws : List ℕ} (z : Sized w k ws) where
   pub cards-words : length (imageOf w k ws .cards) ≡ k
   unfolding sections
   cards-words = long-section cardsAt
+
+  pub packets-words : length (imageOf w k ws .packets) ≡ 1024
+  unfolding sections
+  packets-words = long-section packetsAt
+
+  pub general-words : length (imageOf w k ws .general) ≡ 8
+  unfolding sections
+  general-words = long-section generalAt

@@ -5,10 +5,10 @@ pub mod Size
 pub mod Masks
 pub mod Digits
 pub mod Trailing
+pub mod Places
 pub mod Bits
 pub mod Fresh
 pub mod Parts
-pub mod Places
 pub mod Cards
 pub mod Words
 pub mod Lengths

@@ -63,7 +63,7 @@ and-not-pow w x j hx hj = go (testBit x j) refl
 
 -- ---- a bit cleared
 
-set-within : (x j : ℕ) → testBit x j ≡ true → 2 ^ j ≤ x
+pub set-within : (x j : ℕ) → testBit x j ≡ true → 2 ^ j ≤ x
 set-within x j e = go (decLt x (2 ^ j))
   where
     go : Dec (x < 2 ^ j) → 2 ^ j ≤ x

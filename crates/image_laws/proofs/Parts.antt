@@ -2,19 +2,21 @@
 use Rattle.image_laws.specs.Parts.{isZero}
 use Rattle.image_laws.proofs.Split.{split-part}
 use Rattle.model.specs.Base.{nth, all, zeroes}
-use Rattle.model.specs.Image.{place, lengths, split, image, imageOf}
-use Prim.Native.Nat.{ℕ, zero, suc, _+_, _*_, _-_, _≤_, _<_}
+use Rattle.model.specs.Image.{place, lengths, split}
+use Prim.Native.Nat.{ℕ, zero, suc, _+_, _-_, _≤_, _<_}
 use mathlib.Core.Path.{_≡_, refl, sym, ap, _∙_}
 use mathlib.Core.Bool.{Bool, true, _&&_, and-true, and-assoc}
 use mathlib.Core.List.{List, [], _∷_}
 use native.Mathlib.Omega.{arith}
 use lib.Dec.{eqb}
-use lib.ListN.{length, getD, take, drop}
-use lib.Seq.{drop-drop}
+use lib.ListN.{length, getD, take, drop, length-drop}
+use lib.Seq.{drop-drop, length-take-le}
 use borrow.Author.Tests.{eq-eqb, ne-eqb}
 use lib.Bits.{bitOr, and-le-l, and-le-r, or-add-and}
 use native.Mathlib.Numerals.{add-one}
 use native.Mathlib.Decide.{ℕ-discrete}
+use Rattle.model.proofs.Entries.{nth-drop, nth-take}
+use Rattle.model.specs.Examples.{at}
 
 -- ---- all of the numbers below n
 
@@ -26,6 +28,11 @@ pub all-first : (n : ℕ) (p : ℕ → Bool) → all (suc n) p ≡ (p 0 && all n
 unfolding all
 all-first zero p = sym (and-true (p 0))
 all-first (suc n) p = rw (all-first n p) (and-assoc (p 0) _ _)
+
+pub all-cong : (n : ℕ) (p q : ℕ → Bool) → ((i : ℕ) → i < n → p i ≡ q i) → all n p ≡ all n q
+unfolding all
+all-cong zero p q f = refl
+all-cong (suc n) p q f = rw (all-cong n p q (λ i h. f i (omega arith)), f n (omega arith))
 
 -- ---- `bad` is 0 as long as all below i passed
 
@@ -82,10 +89,16 @@ section-zero w k ws r s o e l p q h =
     let n : e - o ≡ getD (lengths w k) s 0 = omega arith in
     rw (split-is (lengths w k) ws s (sections-nine w k s l), p) (rw n at h)
 
--- the words of a run of s granules at g, behind its two
-pub run-zero : (w k : ℕ) (ws : List ℕ) (g s : ℕ) (r : Bool) → 1 ≤ s → g + s ≤ 64 * k → r ≡ zeroes (take (4 * g + 4 * s - (4 * g + 2)) (drop (4 * g + 2) ws)) → r ≡ zeroes (take (4 * s - 2) (drop (4 * g + 2) (imageOf w k ws .heap)))
-unfolding imageOf image split
-run-zero w k ws g s r h f e =
-    let n : 4 * g + 4 * s - (4 * g + 2) ≡ 4 * s - 2 = omega arith in
-    let p : place (lengths w k) 0 + (4 * g + 2) ≡ 4 * g + 2 = omega arith in
-    (rw n at e) ∙ ap zeroes (sym (rw p at (split-part (lengths w k) ws 0 (4 * g + 2) (4 * s - 2) (omega arith))))
+-- words o to e - 1 are n words of section s from word i on
+pub part-zero : (w k : ℕ) (ws : List ℕ) (r : Bool) (s i n o e : ℕ) → i + n ≤ getD (lengths w k) s 0 → place (lengths w k) s + i ≡ o → o + n ≡ e → r ≡ zeroes (take (e - o) (drop o ws)) → r ≡ zeroes (take n (drop i (getD (split (lengths w k) ws) s [])))
+part-zero w k ws r s i n o e l p q h =
+    let c : e - o ≡ n = omega arith in
+    rw (split-part (lengths w k) ws s i n l, p) (rw c at h)
+
+-- n words of a list from word a on, one by one
+pub zero-stretch : (ws : List ℕ) (a n : ℕ) → a + n ≤ length ws → zeroes (take n (drop a ws)) ≡ all n (λ i. eqb (nth ws (a + i)) 0)
+unfolding isZero
+zero-stretch ws a n h =
+    let e : length (take n (drop a ws)) ≡ n = length-take-le n (drop a ws) (simp length-drop (omega arith)) in
+    (rw e at (sym (zeroes-all (take n (drop a ws)))))
+    ∙ all-cong n _ _ (λ i q. rw (nth-take n (drop a ws) i q, nth-drop a ws i))

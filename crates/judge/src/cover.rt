@@ -1,30 +1,34 @@
 // Cover: if a marked object links to an unmarked one, something still covers that link.
 ghost use mathlib.Core.Path.{_≡_};
 ghost use mathlib.Core.Bool.{true};
-ghost use Prim.Native.Nat.{_+_, _*_, _≤_, _<_, min};
+ghost use Prim.Native.Nat.{_+_, _*_, _/_, _≤_, _<_, min};
 ghost use Rattle.model.specs.Base.{all, any};
-ghost use Rattle.model.specs.Image.{marked, dirty};
+ghost use Rattle.model.specs.Image.{imageOf, marked};
 ghost use Rattle.model.specs.Undamaged.{cover};
-ghost use Rattle.image.specs.Sized.{Sized, narrow};
-ghost use Rattle.soundness.specs.Tests.{wordwise};
-ghost use Rattle.soundness.specs.Once.{EnteredSet};
-ghost use Rattle.judge.specs.Order.{Ready, handComes, cardComes, holds, owes, plain, coming, late, objectCovered};
+ghost use Rattle.image_laws.specs.Sized.{Sized};
+ghost use Rattle.soundness_laws.specs.Tests.{wordwise};
+ghost use Rattle.soundness_laws.specs.Sets.{EnteredSet};
+ghost use Rattle.judge_laws.specs.Order.{Coverable, handComes, cardComes, holds, owesHolding, plain, coming, late, objectCovered};
+ghost use Rattle.image.specs.Layout.{width};
+use image::layout::BITS;
+use image::layout::Word;
+use soundness::sets::SEEN;
 
 // ---- hands
 
-pub fn hand_comes(im: &[u16], k: usize, g: usize, i: usize, t: usize) -> bool
-    requires { ⌜ Sized k (now im) ⌝ }
+pub fn hand_comes(im: &[Word], k: usize, g: usize, i: usize, t: usize) -> bool
+    requires { ⌜ Sized width k (now im) ⌝ }
     requires { ⌜ t < 8 ⌝ }
-    ensures { λ r. ⌜ r ≡ handComes (narrow k (now (im .entry))) g i t ⌝ }
+    ensures { λ r. ⌜ r ≡ handComes (imageOf width k (now (im .entry))) g i t ⌝ }
 {
-    let h = image::tracer_word(im, k, 8 * t + 2) as usize;
-    let n = image::tracer_word(im, k, 8 * t + 3) as usize;
+    let h = image::sections::tracer_word(im, k, 8 * t + 2) as usize;
+    let n = image::sections::tracer_word(im, k, 8 * t + 3) as usize;
     (h == g) & (n <= i)
 }
 
-pub fn link_to_come(im: &[u16], k: usize, g: usize, j: usize) -> bool
-    requires { ⌜ Sized k (now im) ⌝ }
-    ensures { λ r. ⌜ r ≡ any 8 (handComes (narrow k (now (im .entry))) g j) ⌝ }
+pub fn link_to_come(im: &[Word], k: usize, g: usize, j: usize) -> bool
+    requires { ⌜ Sized width k (now im) ⌝ }
+    ensures { λ r. ⌜ r ≡ any 8 (handComes (imageOf width k (now (im .entry))) g j) ⌝ }
 {
     let mut found = false;
     let mut i = 0;
@@ -35,21 +39,21 @@ pub fn link_to_come(im: &[u16], k: usize, g: usize, j: usize) -> bool
     found
 }
 
-pub fn card_comes(im: &[u16], k: usize, g: usize, t: usize) -> bool
-    requires { ⌜ Sized k (now im) ⌝ }
+pub fn card_comes(im: &[Word], k: usize, g: usize, t: usize) -> bool
+    requires { ⌜ Sized width k (now im) ⌝ }
     requires { ⌜ t < 8 ⌝ }
     requires { ⌜ g < 64 * k ⌝ }
-    ensures { λ r. ⌜ r ≡ cardComes (narrow k (now (im .entry))) g t ⌝ }
+    ensures { λ r. ⌜ r ≡ cardComes (imageOf width k (now (im .entry))) g t ⌝ }
 {
-    let c = image::tracer_word(im, k, 8 * t + 4) as usize;
-    let n = image::tracer_word(im, k, 8 * t + 5) as usize;
+    let c = image::sections::tracer_word(im, k, 8 * t + 4) as usize;
+    let n = image::sections::tracer_word(im, k, 8 * t + 5) as usize;
     (c == g / 64 + 1) & (n <= g)
 }
 
-pub fn granule_to_come(im: &[u16], k: usize, g: usize) -> bool
-    requires { ⌜ Sized k (now im) ⌝ }
+pub fn granule_to_come(im: &[Word], k: usize, g: usize) -> bool
+    requires { ⌜ Sized width k (now im) ⌝ }
     requires { ⌜ g < 64 * k ⌝ }
-    ensures { λ r. ⌜ r ≡ any 8 (cardComes (narrow k (now (im .entry))) g) ⌝ }
+    ensures { λ r. ⌜ r ≡ any 8 (cardComes (imageOf width k (now (im .entry))) g) ⌝ }
 {
     let mut found = false;
     let mut i = 0;
@@ -62,18 +66,18 @@ pub fn granule_to_come(im: &[u16], k: usize, g: usize) -> bool
 
 // ---- players
 
-pub fn is_held(im: &[u16], k: usize, p: usize, a: usize, q: usize) -> bool
-    requires { ⌜ Sized k (now im) ⌝ }
+pub fn is_held(im: &[Word], k: usize, p: usize, a: usize, q: usize) -> bool
+    requires { ⌜ Sized width k (now im) ⌝ }
     requires { ⌜ (p < 16) × (q < 16) ⌝ }
-    ensures { λ r. ⌜ r ≡ holds (narrow k (now (im .entry))) p a q ⌝ }
+    ensures { λ r. ⌜ r ≡ holds (imageOf width k (now (im .entry))) p a q ⌝ }
 {
-    image::reg(im, k, p, q) as usize == a
+    image::sections::reg(im, k, p, q) as usize == a
 }
 
-pub fn held_by(im: &[u16], k: usize, p: usize, a: usize) -> bool
-    requires { ⌜ Sized k (now im) ⌝ }
+pub fn held_by(im: &[Word], k: usize, p: usize, a: usize) -> bool
+    requires { ⌜ Sized width k (now im) ⌝ }
     requires { ⌜ p < 16 ⌝ }
-    ensures { λ r. ⌜ r ≡ any 16 (holds (narrow k (now (im .entry))) p a) ⌝ }
+    ensures { λ r. ⌜ r ≡ any 16 (holds (imageOf width k (now (im .entry))) p a) ⌝ }
 {
     let mut found = false;
     let mut i = 0;
@@ -84,22 +88,22 @@ pub fn held_by(im: &[u16], k: usize, p: usize, a: usize) -> bool
     found
 }
 
-pub fn is_owing(im: &[u16], k: usize, g: usize, a: usize, p: usize) -> bool
-    requires { ⌜ Sized k (now im) ⌝ }
+pub fn is_owing(im: &[Word], k: usize, g: usize, a: usize, p: usize) -> bool
+    requires { ⌜ Sized width k (now im) ⌝ }
     requires { ⌜ p < 16 ⌝ }
     requires { ⌜ g < 64 * k ⌝ }
-    ensures { λ r. ⌜ r ≡ owes (narrow k (now (im .entry))) g a p ⌝ }
+    ensures { λ r. ⌜ r ≡ owesHolding (imageOf width k (now (im .entry))) g a p ⌝ }
 {
-    if image::owed(im, k, p) as usize != g / 64 + 1 {
+    if image::sections::owed(im, k, p) as usize != g / 64 + 1 {
         return false;
     }
     held_by(im, k, p, a)
 }
 
-pub fn owed_with(im: &[u16], k: usize, g: usize, a: usize) -> bool
-    requires { ⌜ Sized k (now im) ⌝ }
+pub fn owed_with(im: &[Word], k: usize, g: usize, a: usize) -> bool
+    requires { ⌜ Sized width k (now im) ⌝ }
     requires { ⌜ g < 64 * k ⌝ }
-    ensures { λ r. ⌜ r ≡ any 16 (owes (narrow k (now (im .entry))) g a) ⌝ }
+    ensures { λ r. ⌜ r ≡ any 16 (owesHolding (imageOf width k (now (im .entry))) g a) ⌝ }
 {
     let mut found = false;
     let mut i = 0;
@@ -112,56 +116,47 @@ pub fn owed_with(im: &[u16], k: usize, g: usize, a: usize) -> bool
 
 // ---- an object, and one of its links
 
-pub fn is_dirty(im: &[u16], k: usize, c: usize) -> bool
-    requires { ⌜ Sized k (now im) ⌝ }
-    requires { ⌜ c < k ⌝ }
-    ensures { λ r. ⌜ r ≡ dirty (narrow k (now (im .entry))) c ⌝ }
-{
-    let x = image::card(im, k, c);
-    (x == 1) | (x == 3)
-}
-
-pub fn is_coming(im: &[u16], k: usize, entered: &[u16], g: usize) -> bool
-    requires { ⌜ Sized k (now im) ⌝ }
-    requires { ⌜ EnteredSet (narrow k (now im)) (now entered) ⌝ }
+pub fn is_coming(im: &[Word], k: usize, entered: &[Word], g: usize) -> bool
+    requires { ⌜ Sized width k (now im) ⌝ }
+    requires { ⌜ EnteredSet width (imageOf width k (now im)) (now entered) ⌝ }
     requires { ⌜ g < 64 * k ⌝ }
-    ensures { λ r. ⌜ r ≡ coming (narrow k (now (im .entry))) g ⌝ }
+    ensures { λ r. ⌜ r ≡ coming (imageOf width k (now (im .entry))) g ⌝ }
 {
-    if is_dirty(im, k, g / 64) {
+    if image::cards::is_dirty(im, k, g / 64) {
         return true;
     }
-    if soundness::starts::in_set(entered, g) {
+    if soundness::sets::in_set(entered, g) {
         return true;
     }
     granule_to_come(im, k, g)
 }
 
-pub fn is_plain(im: &[u16], k: usize, g: usize, j: usize) -> bool
-    requires { ⌜ Sized k (now im) ⌝ }
+pub fn is_plain(im: &[Word], k: usize, g: usize, j: usize) -> bool
+    requires { ⌜ Sized width k (now im) ⌝ }
     requires { ⌜ 4 * g + 2 + j < 256 * k ⌝ }
-    ensures { λ r. ⌜ r ≡ plain (narrow k (now (im .entry))) g j ⌝ }
+    ensures { λ r. ⌜ r ≡ plain (imageOf width k (now (im .entry))) g j ⌝ }
 {
-    let a = image::word(im, k, g, 2 + j) as usize;
+    let a = image::sections::word(im, k, g, 2 + j) as usize;
     (a == 0) | soundness::marks::marked_at(im, k, a)
 }
 
 // The first two words for links stand in every object: both are read, so that no branch hangs on how many links there are.
-pub fn first_plain(im: &[u16], k: usize, g: usize, n: usize) -> bool
-    requires { ⌜ Sized k (now im) ⌝ }
+pub fn first_plain(im: &[Word], k: usize, g: usize, n: usize) -> bool
+    requires { ⌜ Sized width k (now im) ⌝ }
     requires { ⌜ g < 64 * k ⌝ }
-    ensures { λ r. ⌜ r ≡ all (min 2 n) (plain (narrow k (now (im .entry))) g) ⌝ }
+    ensures { λ r. ⌜ r ≡ all (min 2 n) (plain (imageOf width k (now (im .entry))) g) ⌝ }
 {
     ((n < 1) | is_plain(im, k, g, 0)) & ((n < 2) | is_plain(im, k, g, 1))
 }
 
-pub fn all_plain(im: &[u16], k: usize, g: usize, n: usize) -> bool
-    requires { ⌜ Sized k (now im) ⌝ }
+pub fn all_plain(im: &[Word], k: usize, g: usize, n: usize) -> bool
+    requires { ⌜ Sized width k (now im) ⌝ }
     requires { ⌜ g < 64 * k ⌝ }
     requires { ⌜ 4 * g + 2 + n ≤ 256 * k ⌝ }
-    ensures { λ r. ⌜ r ≡ all n (plain (narrow k (now (im .entry))) g) ⌝ }
+    ensures { λ r. ⌜ r ≡ all n (plain (imageOf width k (now (im .entry))) g) ⌝ }
 {
     let mut ok = first_plain(im, k, g, n);
-    let mut i = soundness::starts::least(2, n);
+    let mut i = soundness::least(2, n);
     while i < n {
         ok = ok & is_plain(im, k, g, i);
         i += 1;
@@ -169,22 +164,22 @@ pub fn all_plain(im: &[u16], k: usize, g: usize, n: usize) -> bool
     ok
 }
 
-pub fn is_late(im: &[u16], k: usize, g: usize, j: usize) -> bool
-    requires { ⌜ Sized k (now im) ⌝ }
+pub fn is_late(im: &[Word], k: usize, g: usize, j: usize) -> bool
+    requires { ⌜ Sized width k (now im) ⌝ }
     requires { ⌜ 4 * g + 2 + j < 256 * k ⌝ }
-    ensures { λ r. ⌜ r ≡ late (narrow k (now (im .entry))) g j ⌝ }
+    ensures { λ r. ⌜ r ≡ late (imageOf width k (now (im .entry))) g j ⌝ }
 {
-    let a = image::word(im, k, g, 2 + j) as usize;
+    let a = image::sections::word(im, k, g, 2 + j) as usize;
     if is_plain(im, k, g, j) {
         return true;
     }
     link_to_come(im, k, g, j) | owed_with(im, k, g, a)
 }
 
-pub fn all_late(im: &[u16], k: usize, g: usize, n: usize) -> bool
-    requires { ⌜ Sized k (now im) ⌝ }
+pub fn all_late(im: &[Word], k: usize, g: usize, n: usize) -> bool
+    requires { ⌜ Sized width k (now im) ⌝ }
     requires { ⌜ 4 * g + 2 + n ≤ 256 * k ⌝ }
-    ensures { λ r. ⌜ r ≡ all n (late (narrow k (now (im .entry))) g) ⌝ }
+    ensures { λ r. ⌜ r ≡ all n (late (imageOf width k (now (im .entry))) g) ⌝ }
 {
     let mut ok = true;
     let mut i = 0;
@@ -195,14 +190,14 @@ pub fn all_late(im: &[u16], k: usize, g: usize, n: usize) -> bool
     ok
 }
 
-pub fn object_covered(im: &[u16], k: usize, entered: &[u16], g: usize) -> bool
-    requires { ⌜ Sized k (now im) ⌝ }
-    requires { ⌜ Ready k (narrow k (now im)) ⌝ }
-    requires { ⌜ EnteredSet (narrow k (now im)) (now entered) ⌝ }
-    requires { ⌜ (g < 64 * k) × (marked (narrow k (now im)) g ≡ true) ⌝ }
-    ensures { λ r. ⌜ r ≡ objectCovered (narrow k (now (im .entry))) g ⌝ }
+pub fn object_covered(im: &[Word], k: usize, entered: &[Word], g: usize) -> bool
+    requires { ⌜ Sized width k (now im) ⌝ }
+    requires { ⌜ Coverable k (imageOf width k (now im)) ⌝ }
+    requires { ⌜ EnteredSet width (imageOf width k (now im)) (now entered) ⌝ }
+    requires { ⌜ (g < 64 * k) × (marked (imageOf width k (now im)) g ≡ true) ⌝ }
+    ensures { λ r. ⌜ r ≡ objectCovered (imageOf width k (now (im .entry))) g ⌝ }
 {
-    let n = image::word(im, k, g, 1) as usize;
+    let n = image::sections::links(im, k, g);
     if all_plain(im, k, g, n) {
         return true;
     }
@@ -212,46 +207,46 @@ pub fn object_covered(im: &[u16], k: usize, entered: &[u16], g: usize) -> bool
     all_late(im, k, g, n)
 }
 
-// ---- the marked objects of sixteen granules, by their mark bits
+// ---- the marked objects of a word, by their mark bits
 
-pub fn word_covered(im: &[u16], k: usize, entered: &[u16], w: usize) -> bool
-    requires { ⌜ Sized k (now im) ⌝ }
-    requires { ⌜ Ready k (narrow k (now im)) ⌝ }
-    requires { ⌜ EnteredSet (narrow k (now im)) (now entered) ⌝ }
-    requires { ⌜ w < 4 * k ⌝ }
-    ensures { λ r. ⌜ r ≡ wordwise (objectCovered (narrow k (now (im .entry)))) w ⌝ }
+pub fn word_covered(im: &[Word], k: usize, entered: &[Word], w: usize) -> bool
+    requires { ⌜ Sized width k (now im) ⌝ }
+    requires { ⌜ Coverable k (imageOf width k (now im)) ⌝ }
+    requires { ⌜ EnteredSet width (imageOf width k (now im)) (now entered) ⌝ }
+    requires { ⌜ w < 64 * k / width ⌝ }
+    ensures { λ r. ⌜ r ≡ wordwise width (objectCovered (imageOf width k (now (im .entry)))) w ⌝ }
 {
     let mut ok = true;
-    let mut left = image::mark_word(im, k, w);
+    let mut left = image::sections::mark_word(im, k, w);
     while left != 0 {
-        let j = u16::trailing_zeros(left) as usize;
-        ok = ok & object_covered(im, k, entered, 16 * w + j);
-        left = image::bits::without_bit(left, j as u16);
+        let j = u64::trailing_zeros(left as u64) as usize;
+        ok = ok & object_covered(im, k, entered, BITS * w + j);
+        left = image::bits::without_bit(left, j as Word);
     }
     ok
 }
 
-pub fn all_covered(im: &[u16], k: usize, entered: &[u16]) -> bool
-    requires { ⌜ Sized k (now im) ⌝ }
-    requires { ⌜ Ready k (narrow k (now im)) ⌝ }
-    requires { ⌜ EnteredSet (narrow k (now im)) (now entered) ⌝ }
-    ensures { λ r. ⌜ r ≡ cover (narrow k (now (im .entry))) ⌝ }
+pub fn all_covered(im: &[Word], k: usize, entered: &[Word]) -> bool
+    requires { ⌜ Sized width k (now im) ⌝ }
+    requires { ⌜ Coverable k (imageOf width k (now im)) ⌝ }
+    requires { ⌜ EnteredSet width (imageOf width k (now im)) (now entered) ⌝ }
+    ensures { λ r. ⌜ r ≡ cover (imageOf width k (now (im .entry))) ⌝ }
 {
     let mut ok = true;
     let mut i = 0;
-    while i < 4 * k {
+    while i < 64 * k / BITS {
         ok = ok & word_covered(im, k, entered, i);
         i += 1;
     }
     ok
 }
 
-pub fn is_covered(im: &[u16], k: usize) -> bool
-    requires { ⌜ Sized k (now im) ⌝ }
-    requires { ⌜ Ready k (narrow k (now im)) ⌝ }
-    ensures { λ r. ⌜ r ≡ cover (narrow k (now (im .entry))) ⌝ }
+pub fn is_covered(im: &[Word], k: usize) -> bool
+    requires { ⌜ Sized width k (now im) ⌝ }
+    requires { ⌜ Coverable k (imageOf width k (now im)) ⌝ }
+    ensures { λ r. ⌜ r ≡ cover (imageOf width k (now (im .entry))) ⌝ }
 {
-    let mut entered: [u16; 2048] = [0; 2048];
+    let mut entered: [Word; SEEN] = [0; SEEN];
     soundness::packets::all_once(im, k, &mut entered);
     all_covered(im, k, &entered)
 }

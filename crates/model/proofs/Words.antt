@@ -1,16 +1,19 @@
 -- An image is its words, and words of fitting length are an image: both round trips.
-use mathlib.Core.Path.{_≡_, refl, ap, _∙_}
+use mathlib.Core.Path.{_≡_, refl, sym, ap, subst, _∙_}
 use mathlib.Core.Logic.{_⊎_, inl, inr}
 use mathlib.Core.Bool.{Bool, true, false, cond}
-use mathlib.Core.List.{List, [], _∷_, map}
-use Prim.Native.Nat.{ℕ, _+_, _*_, _≤_}
+use mathlib.Core.List.{List, [], _∷_, _++_, map}
+use Prim.Native.Nat.{ℕ, zero, suc, _+_, _*_, _-_, _≤_, _<_}
+use native.Mathlib.Nat.{add-assoc, zero-add, suc-add}
 use native.Mathlib.Omega.{arith}
 use lib.Dec.{eqb}
-use lib.ListN.{length, drop, length-drop, length-append, take-append-drop}
-use lib.Seq.{take-at, drop-at, length-take-le}
+use lib.ListN.{length, getD, drop, replicate, length-replicate, length-drop, length-append, take-append-drop}
+use lib.Seq.{set-append-left, take-at, drop-at, length-take-le}
 use borrow.Author.Tests.{eqb-true, eq-eqb, leb-true, le-leb}
-use Rattle.model.specs.Image.{Image, lengths, total, imageLength, mostCards, cardsOf, fits, split, join, sections, image, imageOf, parts, words}
-use Rattle.model.proofs.Laws.{every-use, every-cons, every-nil}
+use Rattle.model.specs.Base.{put}
+use Rattle.model.specs.Image.{Image, heapAt, generalAt, lengths, total, place, imageLength, mostCards, cardsOf, fits, split, join, sections, image, imageOf, parts, words, setSection, withHeap, withGeneral, setWord, setFirstRun}
+use Rattle.model.specs.Undamaged.{freshStore}
+use Rattle.model.proofs.Laws.{every-use, every-cons, every-nil, length-put}
 
 -- ---- lists cut and joined
 
@@ -91,3 +94,44 @@ parts-words m f =
 pub words-parts : (w : ℕ) (ws : List ℕ) → fits w (length ws) ≡ true → words (parts w ws) ≡ ws
 unfolding parts imageOf words image sections fits split
 words-parts w ws e = join-split (lengths w (cardsOf w (length ws))) ws (eqb-true _ _ (every-use _ e 2))
+
+-- ---- a word written in a section is that word written at its place
+
+put-past : (l r : List ℕ) (i v : ℕ) → put (l ++ r) (length l + i) v ≡ l ++ put r i v
+unfolding put
+put-past [] r i v = rw (zero-add i)
+put-past (x ∷ l) r i v = rw (suc-add (length l) i) (ap (λ y. x ∷ y) (put-past l r i v))
+
+pub join-put : (ls : List (List ℕ)) (s i v : ℕ) → i < length (getD ls s []) → join (setSection ls s (put (getD ls s []) i v)) ≡ put (join ls) (place (map length ls) s + i) v
+unfolding join setSection put
+join-put [] s i v h = absurd (omega arith)
+join-put (l ∷ ls) zero i v h = rw (zero-add i) (sym (set-append-left l (join ls) i v h))
+join-put (l ∷ ls) (suc s) i v h =
+    ap (λ r. l ++ r) (join-put ls s i v h) ∙ rw (add-assoc (length l) (place (map length ls) s) i) (sym (put-past l (join ls) (place (map length ls) s + i) v))
+
+put-lengths : (ls : List (List ℕ)) (s i v : ℕ) → map length (setSection ls s (put (getD ls s []) i v)) ≡ map length ls
+unfolding setSection
+put-lengths [] s i v = refl
+put-lengths (l ∷ ls) zero i v = ap (λ n. n ∷ map length ls) (length-put l i v)
+put-lengths (l ∷ ls) (suc s) i v = ap (λ ns. length l ∷ ns) (put-lengths ls s i v)
+
+-- the words of a fresh store: zeros but for two
+pub fresh-words : (w k : ℕ) → 1 ≤ k → freshStore w k ≡ put (put (replicate (imageLength w k) 0) 4 (64 * k - 1)) (place (lengths w k) generalAt + 1) 1
+unfolding freshStore words sections setFirstRun setWord withGeneral withHeap imageOf image split setSection
+fresh-words w k h =
+    join-put with-run generalAt 1 1 (subst (λ ns. 1 < getD ns generalAt 0) (sym run-lengths) (omega arith))
+    ∙ (ap (λ ns. put (join with-run) (place ns generalAt + 1) 1) run-lengths
+    ∙ ap (λ ws. put ws (place (lengths w k) generalAt + 1) 1)
+    (join-put zeros heapAt 4 (64 * k - 1) (subst (λ ns. 4 < getD ns heapAt 0) (sym zero-lengths) (omega arith)) ∙ ap (λ ws. put ws 4 (64 * k - 1)) (join-split (lengths w k) (replicate (imageLength w k) 0) (length-replicate _ 0))))
+  where
+    zeros : List (List ℕ)
+    zeros = split (lengths w k) (replicate (imageLength w k) 0)
+
+    with-run : List (List ℕ)
+    with-run = setSection zeros heapAt (put (getD zeros heapAt []) 4 (64 * k - 1))
+
+    zero-lengths : map length zeros ≡ lengths w k
+    zero-lengths = split-lengths (lengths w k) (replicate (imageLength w k) 0) (length-replicate _ 0)
+
+    run-lengths : map length with-run ≡ lengths w k
+    run-lengths = put-lengths zeros heapAt 4 (64 * k - 1) ∙ zero-lengths

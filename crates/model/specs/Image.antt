@@ -28,34 +28,35 @@ pub record Image : Type 0 where
 abbrev pub lengths : ℕ → ℕ → List ℕ
 lengths w k = 256 * k ∷ 64 * k / w ∷ 64 * k / w ∷ k ∷ 256 ∷ 1024 ∷ 64 ∷ 32 ∷ 8 ∷ []
 
--- the numbers of the sections in this order
+-- the sections' numbers in this order
 abbrev pub heapAt : ℕ
 heapAt = 0
 
 abbrev pub startsAt : ℕ
-startsAt = 1
+startsAt = suc heapAt
 
 abbrev pub marksAt : ℕ
-marksAt = 2
+marksAt = suc startsAt
 
 abbrev pub cardsAt : ℕ
-cardsAt = 3
+cardsAt = suc marksAt
 
 abbrev pub regsAt : ℕ
-regsAt = 4
+regsAt = suc cardsAt
 
 abbrev pub packetsAt : ℕ
-packetsAt = 5
+packetsAt = suc regsAt
 
 abbrev pub tracersAt : ℕ
-tracersAt = 6
+tracersAt = suc packetsAt
 
 abbrev pub playersAt : ℕ
-playersAt = 7
+playersAt = suc tracersAt
 
 abbrev pub generalAt : ℕ
-generalAt = 8
+generalAt = suc playersAt
 
+-- the sum of some lengths
 abbrev pub total : List ℕ → ℕ
 total [] = 0
 total (n ∷ ns) = n + total ns

@@ -1,75 +1,62 @@
 // The steps on a level word of the object in a register: read, write.
 ghost use mathlib.Core.Path.{_≡_};
-ghost use Prim.Native.Nat.{ℕ, _+_, _*_, _≤_, _<_};
+ghost use Prim.Native.Nat.{_^_, _<_};
+ghost use Rattle.model.specs.Image.{imageOf, levels, owed};
 ghost use Rattle.model.specs.Steps.{step};
+ghost use Rattle.theory.specs.Heap.{ObjectAt};
 ghost use Rattle.theory.specs.Lines.{Sound};
-ghost use Rattle.image.specs.Sized.{Sized, narrow};
-ghost use Rattle.image.specs.Answer.{doneOf, asked};
-ghost use Rattle.mutator.specs.Held.{heldOf};
-ghost use Rattle.mutator.specs.declared.refusals.Holding.the-variants.{Holds};
-use crate::refusals::Holding;
-use image::answer::Answer;
+ghost use Rattle.image_laws.specs.Sized.{Sized};
+ghost use Rattle.image.specs.Layout.{width};
+ghost use Rattle.request_laws.specs.Answer.{asked};
+ghost use Rattle.request.specs.Answer.{doneOf};
+use image::layout::Word;
+use request::answer::Answer;
 
-fn read_level(im: &mut [u16], k: usize, p: usize, a: usize, b: usize, g: usize) -> Answer
-    requires { ⌜ Sized k (now im) ⌝ }
-    requires { ⌜ Sound (narrow k (now im)) ⌝ }
-    requires { ⌜ heldOf (narrow k (now im)) p a ≡ Holds g ⌝ }
-    ensures { λ r. ⌜ doneOf r (narrow k (now (im .exit))) ≡ step (narrow k (now (im .entry))) (asked 7 p a b 0) ⌝ }
+// The number of level words of the object at g.
+fn levels(im: &[Word], k: usize, g: usize) -> usize
+    requires { ⌜ Sized width k (now im) ⌝ }
+    requires { ⌜ ObjectAt (imageOf width k (now im)) g ⌝ }
+    ensures { λ r. ⌜ r ≡ levels (imageOf width k (now (im .entry))) g ⌝ }
 {
+    let s = image::sections::word(im, k, g, 0) as usize;
+    let n = image::sections::links(im, k, g);
+    4 * s - 2 - n
+}
+
+pub fn read(im: &[Word], k: usize, p: usize, a: usize, b: usize) -> Answer
+    requires { ⌜ Sized width k (now im) ⌝ }
+    requires { ⌜ Sound (imageOf width k (now im)) ⌝ }
+    requires { ⌜ (p < 16) × (a < 16) ⌝ }
+    requires { ⌜ owed (imageOf width k (now im)) p ≡ 0 ⌝ }
+    ensures { λ r. ⌜ doneOf r (imageOf width k (now (im .entry))) ≡ step (imageOf width k (now (im .entry))) (asked 7 p a b 0) ⌝ }
+{
+    let g = image::sections::reg(im, k, p, a) as usize;
     if g == 0 {
         return Answer::NoObject;
     }
-    if crate::words::levels(im, k, g) <= b {
+    if levels(im, k, g) <= b {
         return Answer::PastEnd;
     }
-    let n = crate::words::links(im, k, g);
-    Answer::Done(image::word(im, k, g, 2 + n + b))
+    let n = image::sections::links(im, k, g);
+    Answer::Done(image::sections::word(im, k, g, 2 + n + b))
 }
 
-pub fn read(im: &mut [u16], k: usize, p: usize, a: usize, b: usize, c: usize) -> Answer
-    requires { ⌜ Sized k (now im) ⌝ }
-    requires { ⌜ Sound (narrow k (now im)) ⌝ }
-    ensures { λ r. ⌜ doneOf r (narrow k (now (im .exit))) ≡ step (narrow k (now (im .entry))) (asked 7 p a b c) ⌝ }
+pub fn write(im: &mut [Word], k: usize, p: usize, a: usize, b: usize, c: usize) -> Answer
+    requires { ⌜ Sized width k (now im) ⌝ }
+    requires { ⌜ Sound (imageOf width k (now im)) ⌝ }
+    requires { ⌜ (p < 16) × (a < 16) ⌝ }
+    requires { ⌜ owed (imageOf width k (now im)) p ≡ 0 ⌝ }
+    requires { ⌜ c < 2 ^ width ⌝ }
+    ensures { λ r. ⌜ doneOf r (imageOf width k (now (im .exit))) ≡ step (imageOf width k (now (im .entry))) (asked 8 p a b c) ⌝ }
 {
-    if c != 0 {
-        return Answer::Unknown;
-    }
-    let h = crate::refusals::held(im, k, p, a);
-    match h {
-        Holding::Off => Answer::OffDesk,
-        Holding::Owes => Answer::Owing,
-        Holding::Holds(g) => read_level(im, k, p, a, b, g as usize),
-    }
-}
-
-fn write_level(im: &mut [u16], k: usize, p: usize, a: usize, b: usize, c: usize, g: usize) -> Answer
-    requires { ⌜ Sized k (now im) ⌝ }
-    requires { ⌜ Sound (narrow k (now im)) ⌝ }
-    requires { ⌜ c < 65536 ⌝ }
-    requires { ⌜ heldOf (narrow k (now im)) p a ≡ Holds g ⌝ }
-    ensures { λ r. ⌜ doneOf r (narrow k (now (im .exit))) ≡ step (narrow k (now (im .entry))) (asked 8 p a b c) ⌝ }
-{
+    let g = image::sections::reg(im, k, p, a) as usize;
     if g == 0 {
         return Answer::NoObject;
     }
-    if crate::words::levels(im, k, g) <= b {
+    if levels(im, k, g) <= b {
         return Answer::PastEnd;
     }
-    let n = crate::words::links(im, k, g);
-    image::set_word(im, k, g, 2 + n + b, c as u16);
+    let n = image::sections::links(im, k, g);
+    image::sections::set_word(im, k, g, 2 + n + b, c as Word);
     Answer::Done(0)
-}
-
-pub fn write(im: &mut [u16], k: usize, p: usize, a: usize, b: usize, c: usize) -> Answer
-    requires { ⌜ Sized k (now im) ⌝ }
-    requires { ⌜ Sound (narrow k (now im)) ⌝ }
-    requires { ⌜ c < 65536 ⌝ }
-    ensures { λ r. ⌜ doneOf r (narrow k (now (im .exit))) ≡ step (narrow k (now (im .entry))) (asked 8 p a b c) ⌝ }
-{
-    let h = crate::refusals::held(im, k, p, a);
-    match h {
-        Holding::Off => Answer::OffDesk,
-        Holding::Owes => Answer::Owing,
-        Holding::Holds(g) => write_level(im, k, p, a, b, c, g as usize),
-    }
 }

@@ -1,7 +1,5 @@
-// The players' steps, kinds 1 to 8: each is an equation with the model's step.
+// The players' steps, kinds 1 to 8, on a record whose fields passed numbers 3 to 5: each is an equation with the model's step.
 pub mod levels; // levels.rt: read, write
+pub mod links; // links.rt: load, store
 pub mod new; // new.rt: new
-pub mod objects; // objects.rt: load, store
-pub mod refusals; // refusals.rt: what a player's register holds, or why the step is refused
 pub mod registers; // registers.rt: barrier, hand, drop
-pub mod words; // words.rt: how many links and level words an object has

@@ -1,84 +1,51 @@
 // The steps on registers and owed cards: barrier, hand, drop.
 ghost use mathlib.Core.Path.{_≡_};
-ghost use Rattle.model.specs.Image.{dirtyState};
+ghost use Prim.Native.Nat.{_<_};
+ghost use Rattle.model.specs.Image.{imageOf, owed};
 ghost use Rattle.model.specs.Steps.{step};
 ghost use Rattle.theory.specs.Lines.{Sound};
-ghost use Rattle.image.specs.Sized.{Sized, narrow};
-ghost use Rattle.image.specs.Answer.{doneOf, asked};
-use crate::refusals::Holding;
-use image::answer::Answer;
+ghost use Rattle.image_laws.specs.Sized.{Sized};
+ghost use Rattle.image.specs.Layout.{width};
+ghost use Rattle.request_laws.specs.Answer.{asked};
+ghost use Rattle.request.specs.Answer.{doneOf};
+use image::layout::Word;
+use request::answer::Answer;
 
-// "0 to 1, 2 to 3; 1 and 3 stay"
-pub fn dirtied(s: u16) -> u16
-    ensures { λ r. ⌜ r ≡ dirtyState s ⌝ }
+pub fn barrier(im: &mut [Word], k: usize, p: usize) -> Answer
+    requires { ⌜ Sized width k (now im) ⌝ }
+    requires { ⌜ Sound (imageOf width k (now im)) ⌝ }
+    requires { ⌜ p < 16 ⌝ }
+    ensures { λ r. ⌜ doneOf r (imageOf width k (now (im .exit))) ≡ step (imageOf width k (now (im .entry))) (asked 4 p 0 0 0) ⌝ }
 {
-    match s {
-        0 | 1 => 1,
-        _ => 3,
-    }
-}
-
-pub fn barrier(im: &mut [u16], k: usize, p: usize, a: usize, b: usize, c: usize) -> Answer
-    requires { ⌜ Sized k (now im) ⌝ }
-    requires { ⌜ Sound (narrow k (now im)) ⌝ }
-    ensures { λ r. ⌜ doneOf r (narrow k (now (im .exit))) ≡ step (narrow k (now (im .entry))) (asked 4 p a b c) ⌝ }
-{
-    if image::fields::some_set(a, b, c) {
-        return Answer::Unknown;
-    }
-    if 16 <= p {
-        return Answer::OffDesk;
-    }
-    let o = image::owed(im, k, p) as usize;
+    let o = image::sections::owed(im, k, p) as usize;
     if o == 0 {
         return Answer::NothingToDo;
     }
-    let s = image::card(im, k, o - 1);
-    image::set_card(im, k, o - 1, dirtied(s));
-    image::set_owed(im, k, p, 0);
+    image::cards::dirty_card(im, k, o - 1);
+    image::sections::set_owed(im, k, p, 0);
     Answer::Done(0)
 }
 
-pub fn hand(im: &mut [u16], k: usize, p: usize, a: usize, b: usize, c: usize) -> Answer
-    requires { ⌜ Sized k (now im) ⌝ }
-    requires { ⌜ Sound (narrow k (now im)) ⌝ }
-    ensures { λ r. ⌜ doneOf r (narrow k (now (im .exit))) ≡ step (narrow k (now (im .entry))) (asked 5 p a b c) ⌝ }
+// Player q's register b gets a copy of p's register a.
+pub fn hand(im: &mut [Word], k: usize, p: usize, a: usize, q: usize, b: usize) -> Answer
+    requires { ⌜ Sized width k (now im) ⌝ }
+    requires { ⌜ Sound (imageOf width k (now im)) ⌝ }
+    requires { ⌜ (p < 16) × (a < 16) × (q < 16) × (b < 16) ⌝ }
+    requires { ⌜ (owed (imageOf width k (now im)) p ≡ 0) × (owed (imageOf width k (now im)) q ≡ 0) ⌝ }
+    ensures { λ r. ⌜ doneOf r (imageOf width k (now (im .exit))) ≡ step (imageOf width k (now (im .entry))) (asked 5 p a q b) ⌝ }
 {
-    if 16 <= b {
-        return Answer::OffDesk;
-    }
-    if 16 <= c {
-        return Answer::OffDesk;
-    }
-    let h = crate::refusals::held(im, k, p, a);
-    match h {
-        Holding::Off => Answer::OffDesk,
-        Holding::Owes => Answer::Owing,
-        Holding::Holds(v) => {
-            if image::owed(im, k, b) != 0 {
-                return Answer::Owing;
-            }
-            image::set_reg(im, k, b, c, v);
-            Answer::Done(0)
-        }
-    }
+    let v = image::sections::reg(im, k, p, a);
+    image::sections::set_reg(im, k, q, b, v);
+    Answer::Done(0)
 }
 
-pub fn drop(im: &mut [u16], k: usize, p: usize, a: usize, b: usize, c: usize) -> Answer
-    requires { ⌜ Sized k (now im) ⌝ }
-    requires { ⌜ Sound (narrow k (now im)) ⌝ }
-    ensures { λ r. ⌜ doneOf r (narrow k (now (im .exit))) ≡ step (narrow k (now (im .entry))) (asked 6 p a b c) ⌝ }
+pub fn drop(im: &mut [Word], k: usize, p: usize, a: usize) -> Answer
+    requires { ⌜ Sized width k (now im) ⌝ }
+    requires { ⌜ Sound (imageOf width k (now im)) ⌝ }
+    requires { ⌜ (p < 16) × (a < 16) ⌝ }
+    requires { ⌜ owed (imageOf width k (now im)) p ≡ 0 ⌝ }
+    ensures { λ r. ⌜ doneOf r (imageOf width k (now (im .exit))) ≡ step (imageOf width k (now (im .entry))) (asked 6 p a 0 0) ⌝ }
 {
-    if image::fields::some_set(b, c, 0) {
-        return Answer::Unknown;
-    }
-    let h = crate::refusals::held(im, k, p, a);
-    match h {
-        Holding::Off => Answer::OffDesk,
-        Holding::Owes => Answer::Owing,
-        Holding::Holds(_) => {
-            image::set_reg(im, k, p, a, 0);
-            Answer::Done(0)
-        }
-    }
+    image::sections::set_reg(im, k, p, a, 0);
+    Answer::Done(0)
 }

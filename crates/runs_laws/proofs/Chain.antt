@@ -24,8 +24,8 @@ pub record OnChain (m : Image) (left g : ℕ) : Type 0 where
   pub linked : Linked m g
 
 -- what falls with each turn
-abbrev pub over : ℕ → ℕ → ℕ
-over n g = cond (eqb g 0) 0 (n - g)
+abbrev pub chain-measure : ℕ → ℕ → ℕ
+chain-measure n g = cond (eqb g 0) 0 (n - g)
 
 on-first : (m : Image) (g : ℕ) → g ≡ firstRun m → Linked m (firstRun m) → OnChain m (granules m) g
 on-first m g e l = record { enough = inr (omega arith); linked = rw e l }
@@ -45,7 +45,7 @@ module _ (m : Image) (left g : ℕ) (o : OnChain m left g) (h : g ≡ 0 → ⊥)
       let r = linked-in m g (o .linked) h in
       record { enough = ⊎-elim (λ z. inl z) (λ (z : g < word m g 1). inr (omega (arith, on-in, on-left))) (r .1); linked = r .2 }
 
-  on-less : over (granules m) (word m g 1) < over (granules m) g
+  on-less : chain-measure (granules m) (word m g 1) < chain-measure (granules m) g
   on-less =
       let r = linked-in m g (o .linked) h in
       let i : g < granules m = on-in in
@@ -103,7 +103,7 @@ module _ (m : Image) (b before g : ℕ) (w : Walk m b before g) where
           same = sym (fit-next m b (w .left - 1) before g (omega arith) l) ∙ (rw e (w .same));
         }
 
-    pub walk-less : over (granules m) (word m g 1) < over (granules m) g
+    pub walk-less : chain-measure (granules m) (word m g 1) < chain-measure (granules m) g
     walk-less = on-less m (w .left) g (w .on) h
 
 -- ---- the walk that counts granules
@@ -155,5 +155,5 @@ module _ (m : Image) (total g : ℕ) (w : Counting m total g) where
           fewer = ⊎-elim (λ z. inl z) (λ (z : g < word m g 1). inr (omega (arith, so-far))) (r .1);
         }
 
-    pub count-less : over (granules m) (word m g 1) < over (granules m) g
+    pub count-less : chain-measure (granules m) (word m g 1) < chain-measure (granules m) g
     count-less = on-less m (w .left) g (w .on) h

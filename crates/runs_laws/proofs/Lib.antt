@@ -1,1 +1,3 @@
 pub mod Chain
+pub mod Sound
+pub mod Due

@@ -1,12 +1,11 @@
 // The library: a fresh store made, an image judged, a batch of steps run.
 ghost use mathlib.Core.Path.{_≡_};
 ghost use Rattle.model.specs.Batch.{freshOf, judgeOf, batchOf};
-ghost use Rattle.image.specs.Made.{madeOf};
-ghost use Rattle.show_store.specs.Run.{batched};
+ghost use Rattle.image_laws.specs.Fresh.{madeOf};
+ghost use Rattle.show_store_laws.specs.Run.{batched};
 
-pub mod due; // due.rt: kind 14
-pub mod finish; // finish.rt: kind 13, as a step
-pub mod perform; // perform.rt: a record's step, by its kind
+pub mod calls; // calls.rt: a batch, at this store's width
+pub mod perform; // perform.rt: a request's step, by its kind
 pub mod reader; // reader.rt: the step bytes and a position in them
 pub mod record; // record.rt: a step record from its bytes
 pub mod run; // run.rt: the records of a batch, one after the other
@@ -32,22 +31,5 @@ pub extern "C" fn judge(image: &[u16]) -> u16
 pub extern "C" fn batch(image: &mut [u16], steps: &[u8], answers: &mut [u16]) -> u16
     ensures { λ r. ⌜ batched r (now (image .exit)) (now (answers .exit)) ≡ batchOf (now (image .entry)) (now (steps .entry)) (now (answers .entry)) ⌝ }
 {
-    let s = image::size::cards(image.len());
-    match s {
-        image::size::Size::Misfit => 1,
-        image::size::Size::Cards(k) => {
-            let n = steps.len() / 8;
-            if steps.len() % 8 != 0 {
-                return 1;
-            }
-            if answers.len() != 2 * n {
-                return 1;
-            }
-            if judge::is_undamaged(image, k) {
-                crate::run::run_all(image, k, steps, answers, n);
-                return 0;
-            }
-            2
-        }
-    }
+    crate::calls::batch(image, steps, answers)
 }

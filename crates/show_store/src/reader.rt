@@ -2,9 +2,10 @@
 ghost use mathlib.Core.Path.{_≡_};
 ghost use Prim.Native.Nat.{_+_, _≤_};
 ghost use lib.ListN.{length, take, drop};
-ghost use Rattle.model.specs.Records.{stepOf};
-ghost use Rattle.show_store.specs.Record.{requested, Narrow};
-use crate::record::Record;
+ghost use Rattle.model.specs.Records.{recordBytes, stepOf};
+ghost use Rattle.image.specs.Layout.{width, recordLength};
+ghost use Rattle.request_laws.specs.Request.{requested, InRange};
+use request_laws::Request;
 
 pub struct Reader<'a> {
     pub bytes: &'a [u8],
@@ -18,17 +19,17 @@ pub fn new<'a>(bytes: &'a [u8], at: usize) -> Reader<'a>
 }
 
 // The record at the position.
-pub fn next<'a>(r: Reader<'a>) -> Record
-    requires { ⌜ r .at + 8 ≤ length (now (r .bytes)) ⌝ }
-    ensures { λ s. ⌜ (requested s ≡ stepOf 16 (take 8 (drop (r .entry .at) (now (r .entry .bytes))))) × Narrow s ⌝ }
+pub fn next<'a>(r: Reader<'a>) -> Request
+    requires { ⌜ r .at + recordLength ≤ length (now (r .bytes)) ⌝ }
+    ensures { λ s. ⌜ (requested s ≡ stepOf width (take (recordBytes width) (drop (r .entry .at) (now (r .entry .bytes))))) × InRange width s ⌝ }
 {
     crate::record::record_at(r.bytes, r.at)
 }
 
 // The record whose first byte is byte `at`: from plain bytes to a reader and back.
-pub fn read(steps: &[u8], at: usize) -> Record
-    requires { ⌜ at + 8 ≤ length (now steps) ⌝ }
-    ensures { λ r. ⌜ (requested r ≡ stepOf 16 (take 8 (drop at (now (steps .entry))))) × Narrow r ⌝ }
+pub fn read(steps: &[u8], at: usize) -> Request
+    requires { ⌜ at + recordLength ≤ length (now steps) ⌝ }
+    ensures { λ r. ⌜ (requested r ≡ stepOf width (take (recordBytes width) (drop at (now (steps .entry))))) × InRange width r ⌝ }
 {
     next(new(steps, at))
 }

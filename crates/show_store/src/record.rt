@@ -2,16 +2,10 @@
 ghost use mathlib.Core.Path.{_≡_};
 ghost use Prim.Native.Nat.{_+_, _*_, _≤_, _<_};
 ghost use lib.ListN.{length, take, drop};
-ghost use Rattle.model.specs.Records.{little, stepOf};
-ghost use Rattle.show_store.specs.Record.{requested, Narrow};
-
-pub struct Record {
-    pub kind: usize,
-    pub who: usize,
-    pub a: usize,
-    pub b: usize,
-    pub c: usize,
-}
+ghost use Rattle.model.specs.Records.{little, recordBytes, stepOf};
+ghost use Rattle.image.specs.Layout.{width, recordLength};
+ghost use Rattle.request_laws.specs.Request.{requested, InRange};
+use request_laws::Request;
 
 fn wide(x: u8) -> usize
     ensures { λ r. ⌜ (r ≡ x) × (r < 256) ⌝ }
@@ -30,16 +24,16 @@ fn field(steps: &[u8], at: usize) -> usize
 }
 
 // The record whose first byte is byte `at`.
-pub fn record_at(steps: &[u8], at: usize) -> Record
-    requires { ⌜ at + 8 ≤ length (now steps) ⌝ }
-    ensures { λ r. ⌜ (requested r ≡ stepOf 16 (take 8 (drop at (now (steps .entry))))) × Narrow r ⌝ }
+pub fn record_at(steps: &[u8], at: usize) -> Request
+    requires { ⌜ at + recordLength ≤ length (now steps) ⌝ }
+    ensures { λ r. ⌜ (requested r ≡ stepOf width (take (recordBytes width) (drop at (now (steps .entry))))) × InRange width r ⌝ }
 {
     let kind = wide(steps[at]);
     let who = wide(steps[at + 1]);
     let a = field(steps, at + 2);
     let b = field(steps, at + 4);
     let c = field(steps, at + 6);
-    Record {
+    Request {
         kind: kind,
         who: who,
         a: a,

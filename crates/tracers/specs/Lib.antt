@@ -1,3 +1,1 @@
-pub mod Packets
-pub mod Tracers
-pub mod Marks
+pub mod Plain

@@ -1,38 +1,33 @@
 // The next marked object of a card: trailing zeros of its remaining mark bits.
 ghost use mathlib.Core.Path.{_≡_};
 ghost use Prim.Native.Nat.{ℕ, _+_, _*_, _-_, _≤_, _<_};
+ghost use Rattle.model.specs.Image.{imageOf};
 ghost use Rattle.model.specs.Collect.{nextMarked};
-ghost use Rattle.image.specs.Sized.{Sized, narrow};
-ghost use Rattle.tracers.specs.Marks.{CardMarks};
+ghost use Rattle.image_laws.specs.Sized.{Sized};
+ghost use Rattle.image.specs.Layout.{width};
+ghost use Rattle.tracers_laws.specs.Marks.{CardMarks};
+use image::layout::BITS;
+use image::layout::Word;
 
-// A word of 16 bits below the others.
-fn beside(high: u64, low: u16) -> u64
-    requires { ⌜ high < 281474976710656 ⌝ }
-    ensures { λ r. ⌜ r ≡ high * 65536 + low ⌝ }
-{
-    (high << 16) | (low as u64)
-}
-
-// The 64 mark bits of card c.
-pub fn card_marks(im: &[u16], k: usize, c: usize) -> u64
-    requires { ⌜ Sized k (now im) ⌝ }
+// The 64 mark bits of card c, word by word.
+pub fn card_marks(im: &[Word], k: usize, c: usize) -> u64
+    requires { ⌜ Sized width k (now im) ⌝ }
     requires { ⌜ c < k ⌝ }
-    ensures { λ r. ⌜ CardMarks (narrow k (now (im .entry))) c r ⌝ }
+    ensures { λ r. ⌜ CardMarks (imageOf width k (now (im .entry))) c r ⌝ }
 {
-    let x = image::mark_word(im, k, 4 * c);
-    let y = image::mark_word(im, k, 4 * c + 1);
-    let z = image::mark_word(im, k, 4 * c + 2);
-    let w = image::mark_word(im, k, 4 * c + 3) as u64;
-    let high = beside(w, z);
-    let most = beside(high, y);
-    beside(most, x)
+    let mut marks: u64 = 0;
+    for i in 0..64 / BITS {
+        let w = image::sections::mark_word(im, k, 64 / BITS * c + i);
+        marks |= (w as u64) << ((BITS * i) as u64);
+    }
+    marks
 }
 
 // 1 + the first marked granule from `from` on that lies on card c - 1; 0 if there is none.
-pub fn next_marked(im: &[u16], k: usize, from: usize, c: usize) -> usize
-    requires { ⌜ Sized k (now im) ⌝ }
+pub fn next_marked(im: &[Word], k: usize, from: usize, c: usize) -> usize
+    requires { ⌜ Sized width k (now im) ⌝ }
     requires { ⌜ (c ≤ k) × (64 * c ≤ from + 64) × (from ≤ 64 * c) ⌝ }
-    ensures { λ r. ⌜ r ≡ nextMarked (narrow k (now (im .entry))) (64 * c - from) from ⌝ }
+    ensures { λ r. ⌜ r ≡ nextMarked (imageOf width k (now (im .entry))) (64 * c - from) from ⌝ }
 {
     if 64 * c <= from {
         return 0;

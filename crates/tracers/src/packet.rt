@@ -3,20 +3,25 @@ ghost use mathlib.Core.Path.{_≡_};
 ghost use Prim.Native.Nat.{ℕ, _+_, _*_, _-_, _≤_, _<_};
 ghost use lib.ListN.{length, take};
 ghost use Rattle.model.specs.Base.{nth};
-ghost use Rattle.model.specs.Image.{count};
+ghost use Rattle.model.specs.Image.{imageOf, count};
 ghost use Rattle.model.specs.Collect.{append};
-ghost use Rattle.image.specs.Sized.{Sized, narrow};
-ghost use Rattle.tracers.specs.Packets.{Tidy, Popped, packetAt, pushed, popped, wordsOf, withPacket};
+ghost use Rattle.image_laws.specs.Sized.{Sized};
+ghost use Rattle.image.specs.Layout.{width};
+ghost use Rattle.tracers_laws.specs.Packet.{Tidy, LastOff, packetAt, withEntry, withoutLast, wordsOf, withPacket};
+ghost use Rattle.tracers.specs.Plain.{packetOf};
+use image::layout::PACKETS;
+use image::layout::PER_CARD;
+use image::layout::Word;
 
 pub struct Packet {
     pub count: usize,
-    pub entries: [u16; 30],
+    pub entries: [Word; 30],
 }
 
 impl Packet {
-    pub fn push(mut self, v: u16) -> Self
+    pub fn push(mut self, v: Word) -> Self
         requires { ⌜ self .count < 30 ⌝ }
-        ensures { λ r. ⌜ r ≡ pushed self v ⌝ }
+        ensures { λ r. ⌜ packetOf r ≡ withEntry (packetOf self) v ⌝ }
     {
         let n = self.count;
         self.entries[n] = v;
@@ -26,7 +31,7 @@ impl Packet {
 
     pub fn pop(mut self) -> Self
         requires { ⌜ (0 < self .count) × (self .count ≤ 30) ⌝ }
-        ensures { λ r. ⌜ r ≡ popped self ⌝ }
+        ensures { λ r. ⌜ packetOf r ≡ withoutLast (packetOf self) ⌝ }
     {
         let n = self.count - 1;
         self.entries[n] = 0;
@@ -34,7 +39,7 @@ impl Packet {
         self
     }
 
-    pub fn last(self) -> u16
+    pub fn last(self) -> Word
         requires { ⌜ (0 < self .count) × (self .count ≤ 30) ⌝ }
         ensures { λ r. ⌜ r ≡ nth (self .entries) (self .count - 1) ⌝ }
     {
@@ -43,24 +48,24 @@ impl Packet {
     }
 }
 
-fn thirty(s: &[u16]) -> [u16; 30]
+fn thirty(s: &[Word]) -> [Word; 30]
     requires { ⌜ 30 ≤ length (now s) ⌝ }
     ensures { λ r. ⌜ r ≡ take 30 (now (s .entry)) ⌝ }
 {
-    let mut e = [0u16; 30];
+    let mut e: [Word; 30] = [0; 30];
     for j in 0..30 {
         e[j] = s[j];
     }
     e
 }
 
-pub fn read_packet(im: &[u16], k: usize, p: usize) -> Packet
-    requires { ⌜ Sized k (now im) ⌝ }
+pub fn read_packet(im: &[Word], k: usize, p: usize) -> Packet
+    requires { ⌜ Sized width k (now im) ⌝ }
     requires { ⌜ p < 32 ⌝ }
-    ensures { λ r. ⌜ r ≡ packetAt (narrow k (now (im .entry))) p ⌝ }
+    ensures { λ r. ⌜ packetOf r ≡ packetAt (imageOf width k (now (im .entry))) p ⌝ }
 {
-    let n = image::packet_word(im, k, 32 * p) as usize;
-    let from = 265 * k + 256 + 32 * p + 2;
+    let n = image::sections::packet_word(im, k, 32 * p) as usize;
+    let from = PER_CARD * k + PACKETS + 32 * p + 2;
     let to = from + 30;
     let e = thirty(&im[from..to]);
     Packet {
@@ -69,36 +74,36 @@ pub fn read_packet(im: &[u16], k: usize, p: usize) -> Packet
     }
 }
 
-fn put_words(s: &mut [u16], q: Packet)
+fn put_words(s: &mut [Word], q: Packet)
     requires { ⌜ (length (now s) ≡ 32) × (q .count ≤ 30) ⌝ }
-    ensures { λ _. ⌜ now (s .exit) ≡ wordsOf q ⌝ }
+    ensures { λ _. ⌜ now (s .exit) ≡ wordsOf (packetOf q) ⌝ }
 {
     let n = q.count;
     let e = q.entries;
-    s[0] = n as u16;
+    s[0] = n as Word;
     s[1] = 0;
     for j in 0..30 {
         s[j + 2] = e[j];
     }
 }
 
-pub fn write_packet(im: &mut [u16], k: usize, p: usize, q: Packet)
-    requires { ⌜ Sized k (now im) ⌝ }
+pub fn write_packet(im: &mut [Word], k: usize, p: usize, q: Packet)
+    requires { ⌜ Sized width k (now im) ⌝ }
     requires { ⌜ (p < 32) × (q .count ≤ 30) ⌝ }
-    ensures { λ _. ⌜ narrow k (now (im .exit)) ≡ withPacket (narrow k (now (im .entry))) p q ⌝ }
+    ensures { λ _. ⌜ imageOf width k (now (im .exit)) ≡ withPacket (imageOf width k (now (im .entry))) p (packetOf q) ⌝ }
 {
-    let a = 265 * k + 256 + 32 * p;
+    let a = PER_CARD * k + PACKETS + 32 * p;
     let e = a + 32;
     put_words(&mut im[a..e], q);
 }
 
 // The granule g is appended to packet p.
-pub fn append_entry(im: &mut [u16], k: usize, p: usize, g: u16)
-    requires { ⌜ Sized k (now im) ⌝ }
+pub fn append_entry(im: &mut [Word], k: usize, p: usize, g: Word)
+    requires { ⌜ Sized width k (now im) ⌝ }
     requires { ⌜ p < 32 ⌝ }
-    requires { ⌜ Tidy (narrow k (now im)) p ⌝ }
-    requires { ⌜ count (narrow k (now im)) p < 30 ⌝ }
-    ensures { λ _. ⌜ narrow k (now (im .exit)) ≡ append (narrow k (now (im .entry))) p g ⌝ }
+    requires { ⌜ Tidy (imageOf width k (now im)) p ⌝ }
+    requires { ⌜ count (imageOf width k (now im)) p < 30 ⌝ }
+    ensures { λ _. ⌜ imageOf width k (now (im .exit)) ≡ append (imageOf width k (now (im .entry))) p g ⌝ }
 {
     let q = read_packet(im, k, p);
     let r = q.push(g);
@@ -106,12 +111,12 @@ pub fn append_entry(im: &mut [u16], k: usize, p: usize, g: u16)
 }
 
 // The last entry of packet p comes off.
-pub fn pop_entry(im: &mut [u16], k: usize, p: usize) -> u16
-    requires { ⌜ Sized k (now im) ⌝ }
+pub fn pop_entry(im: &mut [Word], k: usize, p: usize) -> Word
+    requires { ⌜ Sized width k (now im) ⌝ }
     requires { ⌜ p < 32 ⌝ }
-    requires { ⌜ Tidy (narrow k (now im)) p ⌝ }
-    requires { ⌜ 0 < count (narrow k (now im)) p ⌝ }
-    ensures { λ r. ⌜ Popped (narrow k (now (im .entry))) p r (narrow k (now (im .exit))) ⌝ }
+    requires { ⌜ Tidy (imageOf width k (now im)) p ⌝ }
+    requires { ⌜ 0 < count (imageOf width k (now im)) p ⌝ }
+    ensures { λ r. ⌜ LastOff (imageOf width k (now (im .entry))) p r (imageOf width k (now (im .exit))) ⌝ }
 {
     let q = read_packet(im, k, p);
     let g = q.last();

@@ -1,36 +1,40 @@
 // Tracers by value: "input packet + 1, output packet + 1, object in hand, its next link, card in hand + 1, next granule on it".
 ghost use mathlib.Core.Path.{_≡_};
 ghost use Prim.Native.Nat.{ℕ, _+_, _*_, _<_};
-ghost use Rattle.image.specs.Sized.{Sized, narrow};
-ghost use Rattle.tracers.specs.Tracers.{tracerAt, withInput, withOutput, withHand, withCard, withTracer};
+ghost use Rattle.model.specs.Image.{imageOf};
+ghost use Rattle.image_laws.specs.Sized.{Sized};
+ghost use Rattle.image.specs.Layout.{width};
+ghost use Rattle.tracers_laws.specs.Tracer.{tracerAt, withInput, withOutput, withHand, withCard, withTracer};
+ghost use Rattle.tracers.specs.Plain.{tracerOf};
+use image::layout::Word;
 
 pub struct Tracer {
-    pub input: u16,
-    pub output: u16,
-    pub hand: u16,
-    pub link: u16,
-    pub card: u16,
-    pub granule: u16,
+    pub input: Word,
+    pub output: Word,
+    pub hand: Word,
+    pub link: Word,
+    pub card: Word,
+    pub granule: Word,
 }
 
 impl Tracer {
-    pub fn with_input(mut self, v: u16) -> Self
-        ensures { λ r. ⌜ r ≡ withInput self v ⌝ }
+    pub fn with_input(mut self, v: Word) -> Self
+        ensures { λ r. ⌜ tracerOf r ≡ withInput (tracerOf self) v ⌝ }
     {
         self.input = v;
         self
     }
 
-    pub fn with_output(mut self, v: u16) -> Self
-        ensures { λ r. ⌜ r ≡ withOutput self v ⌝ }
+    pub fn with_output(mut self, v: Word) -> Self
+        ensures { λ r. ⌜ tracerOf r ≡ withOutput (tracerOf self) v ⌝ }
     {
         self.output = v;
         self
     }
 
     // Object g in hand, link i its next.
-    pub fn with_hand(mut self, g: u16, i: u16) -> Self
-        ensures { λ r. ⌜ r ≡ withHand self g i ⌝ }
+    pub fn with_hand(mut self, g: Word, i: Word) -> Self
+        ensures { λ r. ⌜ tracerOf r ≡ withHand (tracerOf self) g i ⌝ }
     {
         self.hand = g;
         self.link = i;
@@ -38,8 +42,8 @@ impl Tracer {
     }
 
     // Card c - 1 in hand, granule n its next.
-    pub fn with_card(mut self, c: u16, n: u16) -> Self
-        ensures { λ r. ⌜ r ≡ withCard self c n ⌝ }
+    pub fn with_card(mut self, c: Word, n: Word) -> Self
+        ensures { λ r. ⌜ tracerOf r ≡ withCard (tracerOf self) c n ⌝ }
     {
         self.card = c;
         self.granule = n;
@@ -47,30 +51,30 @@ impl Tracer {
     }
 }
 
-pub fn read_tracer(im: &[u16], k: usize, t: usize) -> Tracer
-    requires { ⌜ Sized k (now im) ⌝ }
+pub fn read_tracer(im: &[Word], k: usize, t: usize) -> Tracer
+    requires { ⌜ Sized width k (now im) ⌝ }
     requires { ⌜ t < 8 ⌝ }
-    ensures { λ r. ⌜ r ≡ tracerAt (narrow k (now (im .entry))) t ⌝ }
+    ensures { λ r. ⌜ tracerOf r ≡ tracerAt (imageOf width k (now (im .entry))) t ⌝ }
 {
     Tracer {
-        input: image::tracer_word(im, k, 8 * t),
-        output: image::tracer_word(im, k, 8 * t + 1),
-        hand: image::tracer_word(im, k, 8 * t + 2),
-        link: image::tracer_word(im, k, 8 * t + 3),
-        card: image::tracer_word(im, k, 8 * t + 4),
-        granule: image::tracer_word(im, k, 8 * t + 5),
+        input: image::sections::tracer_word(im, k, 8 * t),
+        output: image::sections::tracer_word(im, k, 8 * t + 1),
+        hand: image::sections::tracer_word(im, k, 8 * t + 2),
+        link: image::sections::tracer_word(im, k, 8 * t + 3),
+        card: image::sections::tracer_word(im, k, 8 * t + 4),
+        granule: image::sections::tracer_word(im, k, 8 * t + 5),
     }
 }
 
-pub fn write_tracer(im: &mut [u16], k: usize, t: usize, x: Tracer)
-    requires { ⌜ Sized k (now im) ⌝ }
+pub fn write_tracer(im: &mut [Word], k: usize, t: usize, x: Tracer)
+    requires { ⌜ Sized width k (now im) ⌝ }
     requires { ⌜ t < 8 ⌝ }
-    ensures { λ _. ⌜ narrow k (now (im .exit)) ≡ withTracer (narrow k (now (im .entry))) t x ⌝ }
+    ensures { λ _. ⌜ imageOf width k (now (im .exit)) ≡ withTracer (imageOf width k (now (im .entry))) t (tracerOf x) ⌝ }
 {
-    image::set_tracer(im, k, t, 0, x.input);
-    image::set_tracer(im, k, t, 1, x.output);
-    image::set_tracer(im, k, t, 2, x.hand);
-    image::set_tracer(im, k, t, 3, x.link);
-    image::set_tracer(im, k, t, 4, x.card);
-    image::set_tracer(im, k, t, 5, x.granule);
+    image::sections::set_tracer(im, k, t, 0, x.input);
+    image::sections::set_tracer(im, k, t, 1, x.output);
+    image::sections::set_tracer(im, k, t, 2, x.hand);
+    image::sections::set_tracer(im, k, t, 3, x.link);
+    image::sections::set_tracer(im, k, t, 4, x.card);
+    image::sections::set_tracer(im, k, t, 5, x.granule);
 }

@@ -4,12 +4,9 @@ use mathlib.Core.Path.{refl}
 use Rattle.soundness.proofs.card_ok.Statement.{statement}
 use Rattle.soundness.proofs.card_ok.Tie as tie
 
-card-requires : tie.Need-card-requires
-card-requires c κs = search needs
-
 returns : tie.Need-returns
 unfolding cardOk
 returns c = rw (c .card .ensures) refl
 
 pub card-ok-spec : {M : Type 1} → statement M
-card-ok-spec = tie.close (tie.spec card-requires returns)
+card-ok-spec = tie.close (tie.spec (λ c κs. search needs) returns)

@@ -1,36 +1,20 @@
-use Rattle.soundness.proofs.Loops.{Passed, none, more, end}
 use Rattle.model.specs.Undamaged.{playerOk}
-use Rattle.image.specs.Sized.{narrow}
 use Prim.Native.Nat.{_-_}
 use borrow.Author.Needs.{needs}
+use Rattle.model.specs.Image.{imageOf}
+use Rattle.image.specs.Layout.{width}
+use Rattle.soundness_laws.proofs.Checks.{Checked, checked-none, checked-more, checked-end}
 use Rattle.soundness.proofs.players_ok.Statement.{statement}
 use Rattle.soundness.proofs.players_ok.Tie as tie
 
 abbrev Inv-loop : tie.InvT-loop
-Inv-loop im k ok₀ i₀ ok i = Passed (16) (playerOk (narrow k im)) ok i
+Inv-loop im k ok₀ i₀ ok i = Checked 16 (playerOk (imageOf width k im)) ok i
 
 abbrev μ-loop : tie.MeasureT-loop
-μ-loop im k ok₀ i₀ ok i = (16) - i
-
-loop-holds : tie.Need-loop-holds Inv-loop μ-loop
-loop-holds c = none
-
-player-ok-requires : tie.Need-player-ok-requires Inv-loop μ-loop
-player-ok-requires c κs = search needs
-
-add-i : tie.Need-add-i Inv-loop μ-loop
-add-i c = search needs
-
-loop-less : tie.Need-loop-less Inv-loop μ-loop
-loop-less c = search needs
-
-loop-again : tie.Need-loop-again Inv-loop μ-loop
-loop-again c = search more
-
-returns : tie.Need-returns Inv-loop μ-loop
-returns c = search end
+μ-loop im k ok₀ i₀ ok i = 16 - i
 
 pub players-ok-spec : {M : Type 1} → statement M
 players-ok-spec =
     tie.close
-    (tie.spec Inv-loop μ-loop loop-holds player-ok-requires add-i loop-less loop-again returns)
+    (tie.spec Inv-loop μ-loop (λ c. checked-none) (λ c κs. search needs) (λ c. search needs) (λ c. search needs) (λ c. search checked-more)
+    (λ c. search checked-end))

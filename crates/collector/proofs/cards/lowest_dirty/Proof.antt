@@ -1,5 +1,6 @@
-use Rattle.collector.proofs.Lowest.{NoDirty, dirty-first, dirty-end, dirty-more, dirty-found}
-use Rattle.image.specs.Sized.{narrow}
+use Rattle.collector_laws.proofs.Cards.{NoDirty, dirty-first, dirty-end, dirty-more, dirty-found}
+use Rattle.image.specs.Layout.{width}
+use Rattle.model.specs.Image.{imageOf}
 use Prim.Native.Nat.{_-_, _≤_}
 use native.Mathlib.Omega.{arith}
 use borrow.Author.Needs.{needs}
@@ -7,7 +8,7 @@ use Rattle.collector.proofs.cards.lowest_dirty.Statement.{statement}
 use Rattle.collector.proofs.cards.lowest_dirty.Tie as tie
 
 abbrev Inv-loop : tie.InvT-loop
-Inv-loop im k c₀ c = (c ≤ k) × NoDirty (narrow k im) c
+Inv-loop im k c₀ c = (c ≤ k) × NoDirty (imageOf width k im) c
 
 abbrev μ-loop : tie.MeasureT-loop
 μ-loop im k c₀ c = k - c
@@ -15,20 +16,8 @@ abbrev μ-loop : tie.MeasureT-loop
 loop-holds : tie.Need-loop-holds Inv-loop μ-loop
 loop-holds c = (omega arith, dirty-first _)
 
-card-requires : tie.Need-card-requires Inv-loop μ-loop
-card-requires c κs = search needs
-
-add-result : tie.Need-add-result Inv-loop μ-loop
-add-result c = search needs
-
 returns : tie.Need-returns Inv-loop μ-loop
 returns c = search dirty-found
-
-add-c : tie.Need-add-c Inv-loop μ-loop
-add-c c = search needs
-
-loop-less : tie.Need-loop-less Inv-loop μ-loop
-loop-less c = search needs
 
 loop-again : tie.Need-loop-again Inv-loop μ-loop
 loop-again c = (omega arith, search dirty-more)
@@ -42,11 +31,7 @@ lowest-dirty-spec =
     (tie.spec
     Inv-loop
     μ-loop
-    loop-holds
-    card-requires
-    add-result
-    returns
-    add-c
-    loop-less
+    loop-holds (λ c κs. search needs) (λ c. search needs)
+    returns (λ c. search needs) (λ c. search needs)
     loop-again
     returns-2)

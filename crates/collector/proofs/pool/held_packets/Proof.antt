@@ -1,15 +1,16 @@
-use Rattle.collector.specs.Pool.{heldSet}
-use Rattle.image.specs.Sized.{narrow}
+use Rattle.model.specs.Image.{imageOf}
+use Rattle.image.specs.Layout.{width}
+use Rattle.collector_laws.specs.Pool.{heldSet}
+use Rattle.collector_laws.proofs.Pool.{held-more, held-all, input-few, output-few}
 use Prim.Native.Nat.{_-_, _≤_}
 use mathlib.Core.Path.{_≡_}
-use borrow.Author.Needs.{needs}
-use Rattle.collector.proofs.Choosing.{held-more, held-all, input-few, output-few}
 use native.Mathlib.Omega.{arith}
+use borrow.Author.Needs.{needs}
 use Rattle.collector.proofs.pool.held_packets.Statement.{statement}
 use Rattle.collector.proofs.pool.held_packets.Tie as tie
 
 abbrev Inv-loop : tie.InvT-loop
-Inv-loop im k s₀ t₀ s t = (t ≤ 8) × (s ≡ heldSet (narrow k im) t)
+Inv-loop im k s₀ t₀ s t = (t ≤ 8) × (s ≡ heldSet (imageOf width k im) t)
 
 abbrev μ-loop : tie.MeasureT-loop
 μ-loop im k s₀ t₀ s t = 8 - t
@@ -18,32 +19,11 @@ loop-holds : tie.Need-loop-holds Inv-loop μ-loop
 unfolding heldSet
 loop-holds c = search needs
 
-mul-tracer-word : tie.Need-mul-tracer-word Inv-loop μ-loop
-mul-tracer-word c = search needs
-
-tracer-word-requires : tie.Need-tracer-word-requires Inv-loop μ-loop
-tracer-word-requires c κs = search needs
-
-mul-tracer-word-2 : tie.Need-mul-tracer-word-2 Inv-loop μ-loop
-mul-tracer-word-2 c = search needs
-
-add-tracer-word : tie.Need-add-tracer-word Inv-loop μ-loop
-add-tracer-word c = search needs
-
-tracer-word-requires-2 : tie.Need-tracer-word-requires-2 Inv-loop μ-loop
-tracer-word-requires-2 c κs = search needs
-
 with-packet-requires : tie.Need-with-packet-requires Inv-loop μ-loop
 with-packet-requires c κs = search input-few
 
 with-packet-requires-2 : tie.Need-with-packet-requires-2 Inv-loop μ-loop
 with-packet-requires-2 c κs = search output-few
-
-add-t : tie.Need-add-t Inv-loop μ-loop
-add-t c = search needs
-
-loop-less : tie.Need-loop-less Inv-loop μ-loop
-loop-less c = search needs
 
 loop-again : tie.Need-loop-again Inv-loop μ-loop
 loop-again c = (omega arith, search held-more)
@@ -57,15 +37,8 @@ held-packets-spec =
     (tie.spec
     Inv-loop
     μ-loop
-    loop-holds
-    mul-tracer-word
-    tracer-word-requires
-    mul-tracer-word-2
-    add-tracer-word
-    tracer-word-requires-2
+    loop-holds (λ c. search needs) (λ c κs. search needs) (λ c. search needs) (λ c. search needs) (λ c. search needs) (λ c κs. search needs) (λ c. search needs)
     with-packet-requires
-    with-packet-requires-2
-    add-t
-    loop-less
+    with-packet-requires-2 (λ c. search needs) (λ c. search needs)
     loop-again
     returns)

@@ -5,12 +5,9 @@ use lib.Bits.{and-mask}
 use Rattle.collector.proofs.pool.in_pool.Statement.{statement}
 use Rattle.collector.proofs.pool.in_pool.Tie as tie
 
-shr-result : tie.Need-shr-result
-shr-result c = search needs
-
 returns : tie.Need-returns
 unfolding testBit
 returns c = rw (and-mask (c .args .s / 2 ^ c .args .p) 1)
 
 pub in-pool-spec : {M : Type 1} → statement M
-in-pool-spec = tie.close (tie.spec shr-result returns)
+in-pool-spec = tie.close (tie.spec (λ c. search needs) returns)

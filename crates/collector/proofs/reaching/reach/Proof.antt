@@ -1,5 +1,5 @@
 use borrow.Author.Needs.{needs}
-use Rattle.collector.proofs.Reaches.{start-in, reach-nil, reach-marked, reach-new, marked-lines, taken-lines, taken-spare}
+use Rattle.collector_laws.proofs.Reaching.{start-in, reach-nil, reach-marked, reach-new, marked-lines, taken-lines, taken-spare}
 use Rattle.collector.proofs.reaching.reach.Statement.{statement}
 use Rattle.collector.proofs.reaching.reach.Tie as tie
 
@@ -9,9 +9,6 @@ returns c = search reach-nil
 is-marked-requires : tie.Need-is-marked-requires
 is-marked-requires c κs = (search needs, search start-in)
 
-same-length : tie.Need-same-length
-same-length c = search needs
-
 returns-2 : tie.Need-returns-2
 returns-2 c = search reach-marked
 
@@ -19,13 +16,10 @@ set-mark-requires : tie.Need-set-mark-requires
 set-mark-requires c κs = (search needs, search start-in)
 
 take-output-requires : tie.Need-take-output-requires
-take-output-requires c κs = let B = c .before .before .before .before .before .before .before .before in (search needs, (marked-lines _ (B .before .before .args .t) _ (B .if1 .left) _ (c .before .before .before .set-mark .ensures) (B .before .before .pre .1 .0) (B .before .before .pre .1 .1 .0), search needs))
+take-output-requires c κs = (search needs, (marked-lines _ _ _ (c .before .before .before .set-mark .ensures) (search needs) (search needs) (search needs), search needs))
 
 enter-requires : tie.Need-enter-requires
 enter-requires c κs = (search needs, (search taken-lines, (search taken-spare, (search needs, search start-in))))
-
-same-length-2 : tie.Need-same-length-2
-same-length-2 c = search needs
 
 returns-3 : tie.Need-returns-3
 returns-3 c = search reach-new
@@ -35,11 +29,9 @@ reach-spec =
     tie.close
     (tie.spec
     returns
-    is-marked-requires
-    same-length
+    is-marked-requires (λ c. search needs)
     returns-2
     set-mark-requires
     take-output-requires
-    enter-requires
-    same-length-2
+    enter-requires (λ c. search needs)
     returns-3)

@@ -1,5 +1,6 @@
-use Rattle.collector.proofs.Registers.{Scanning, scan-first, scan-end, scan-reg, scan-more}
-use Rattle.image.specs.Sized.{narrow}
+use Rattle.collector_laws.proofs.Scanning.{Scanning, scan-first, scan-end, scan-reg, scan-more}
+use Rattle.image.specs.Layout.{width}
+use Rattle.model.specs.Image.{imageOf}
 use Prim.Native.Nat.{_-_, _≤_}
 use mathlib.Core.Path.{_≡_, refl}
 use borrow.Author.Needs.{needs}
@@ -9,7 +10,7 @@ use Rattle.collector.proofs.scanning.reach_registers.Statement.{stateme
 use Rattle.collector.proofs.scanning.reach_registers.Tie as tie
 
 abbrev Inv-loop : tie.InvT-loop
-Inv-loop im₀ k t p r₀ im r = (r ≤ 16) × (length im ≡ length im₀) × Scanning (narrow k im₀) t p r (narrow k im)
+Inv-loop im₀ k t p r₀ im r = (r ≤ 16) × (length im ≡ length im₀) × Scanning (imageOf width k im₀) t p r (imageOf width k im)
 
 abbrev μ-loop : tie.MeasureT-loop
 μ-loop im₀ k t p r₀ im r = 16 - r
@@ -17,26 +18,14 @@ abbrev μ-loop : tie.MeasureT-loop
 loop-holds : tie.Need-loop-holds Inv-loop μ-loop
 loop-holds c = (omega arith, refl, scan-first _ _ _ (c .before .pre .1 .0))
 
-reg-requires : tie.Need-reg-requires Inv-loop μ-loop
-reg-requires c κs = search needs
-
 reach-requires : tie.Need-reach-requires Inv-loop μ-loop
-reach-requires c κs = let L = c .before .before .before .before .loop in (search needs, (L .inv .2 .lines, (scan-reg _ _ _ _ _ (L .inv .2) _ (c .before .reg .ensures), search needs)))
-
-add-r : tie.Need-add-r Inv-loop μ-loop
-add-r c = search needs
-
-loop-less : tie.Need-loop-less Inv-loop μ-loop
-loop-less c = search needs
+reach-requires c κs = (search needs, (search needs, (search scan-reg, search needs)))
 
 loop-again : tie.Need-loop-again Inv-loop μ-loop
-loop-again c = let L = c .before .before .before .before .before .before .before .loop in let A = c .before .before .before .before .before .before .before .before .before .pre .1 .1 in (omega arith, search needs, scan-more _ _ _ _ _ (L .inv .2) _ (c .before .before .before .before .reg .ensures) (A .0) (A .1) (omega arith) _ (c .before .before .reach .ensures))
-
-same-length : tie.Need-same-length Inv-loop μ-loop
-same-length c = search needs
+loop-again c = (omega arith, search needs, search scan-more)
 
 returns : tie.Need-returns Inv-loop μ-loop
-returns c = let L = c .before .loop in scan-end _ _ _ _ _ (L .inv .2) (omega arith) (omega arith)
+returns c = search scan-end
 
 pub reach-registers-spec : {M : Type 1} → statement M
 reach-registers-spec =
@@ -44,11 +33,7 @@ reach-registers-spec =
     (tie.spec
     Inv-loop
     μ-loop
-    loop-holds
-    reg-requires
-    reach-requires
-    add-r
-    loop-less
-    loop-again
-    same-length
+    loop-holds (λ c κs. search needs)
+    reach-requires (λ c. search needs) (λ c. search needs)
+    loop-again (λ c. search needs)
     returns)

@@ -1,66 +1,62 @@
 use borrow.Author.Needs.{needs}
-use Rattle.mutator.proofs.Asking.{held-off, held-owing}
-use Rattle.mutator.proofs.LevelWords.{read-asks, read-unknown}
-use Rattle.image.specs.Answer.{asked}
-use mathlib.Core.Path.{sym, _∙_}
+use Rattle.model.specs.Image.{imageOf}
+use Rattle.model.specs.Rows.{rows-open}
+use Rattle.theory.specs.Heap.{ObjectAt}
+use Rattle.image.specs.Layout.{width}
+use Rattle.request_laws.specs.Answer.{asked}
+use Rattle.mutator_laws.specs.Objects.{means-level}
+use Rattle.mutator_laws.proofs.Levels.{read-done}
+use Rattle.mutator_laws.proofs.Objects.{object-nil, word-past, reg-object, object-below, level-below}
+use Rattle.mutator_laws.proofs.Passed.{read-passed}
+use Prim.Native.Nat.{_+_, _*_, _<_}
+use mathlib.Core.Path.{refl}
+use native.Mathlib.Omega.{arith}
 use Rattle.mutator.proofs.levels.read.Statement.{statement}
 use Rattle.mutator.proofs.levels.read.Tie as tie
 
+-- the object in the register
+object : (c : tie.Else1) → let A = c .before .before .before .args in ObjectAt (imageOf width (A .k) (A .im .now)) (c .before .reg .result)
+object c = reg-object _ _ _ (c .before .before .before .pre .1 .0) _ _ (c .before .reg .ensures) (c .if1 .left)
+
+-- where its level word lies
+place : (c : tie.After-links) → let A = c .before .before .before .before .before .before .args in 4 * c .before .before .before .before .reg .result + (2 + c .links .result + A .b) < 256 * A .k
+place c = level-below _ _ _ (object (c .before .before .before)) (c .before .before .levels .ensures) (c .links .ensures) (c .before .if2 .left)
+
 returns : tie.Need-returns
-returns c = search read-unknown
+unfolding asked rows-open
+returns c = let p = c .before .before .before .pre in object-nil (read-passed _ _ _ (p .1 .1 .1) (p .1 .1 .0) _) (means-level (c .before .reg .ensures) refl refl) (c .if1 .taken)
 
-held-requires : tie.Need-held-requires
-held-requires c κs = search needs
-
-enum-told : tie.Need-enum-told
-enum-told c = search needs
-
-enum-told-2 : tie.Need-enum-told-2
-enum-told-2 c = search needs
-
-enum-known-h : tie.Need-enum-known-h
-enum-known-h c = search needs
-
-cast-read-level : tie.Need-cast-read-level
-cast-read-level c = search needs
-
-read-level-requires : tie.Need-read-level-requires
-read-level-requires c κs = (search needs, (c .before .before .before .before .before .before .before .before .pre .1, sym (c .before .before .before .before .held .ensures) ∙ c .before .before .h .given .1))
-
-same-length : tie.Need-same-length
-same-length c = search needs
+levels-requires : tie.Need-levels-requires
+levels-requires c κs = (search needs, object c)
 
 returns-2 : tie.Need-returns-2
-unfolding asked
-returns-2 c = held-off (read-asks _ _ _ _ _ (c .before .before .before .before .if1 .left) .asks) (sym (c .before .before .held .ensures) ∙ c .enum-told .given .1)
+unfolding asked rows-open
+returns-2 c = let p = c .before .before .before .before .before .pre in word-past (read-passed _ _ _ (p .1 .1 .1) (p .1 .1 .0) _) (means-level (c .before .before .before .reg .ensures) (c .before .levels .ensures) refl) (c .before .before .if1 .left) (c .if2 .taken)
 
-same-length-2 : tie.Need-same-length-2
-same-length-2 c = search needs
+links-requires : tie.Need-links-requires
+links-requires c κs = (search needs, object-below _ _ _ (object (c .before .before)))
+
+add-word : tie.Need-add-word
+add-word c = omega (arith, place c)
+
+add-word-2 : tie.Need-add-word-2
+add-word-2 c = omega (arith, place c)
+
+word-requires : tie.Need-word-requires
+word-requires c κs = (search needs, place c)
 
 returns-3 : tie.Need-returns-3
-unfolding asked
-returns-3 c = held-owing (read-asks _ _ _ _ _ (c .before .before .before .before .if1 .left) .asks) (sym (c .before .before .held .ensures) ∙ c .enum-told2 .given .1)
-
-same-length-3 : tie.Need-same-length-3
-same-length-3 c = search needs
-
-returns-4 : tie.Need-returns-4
-returns-4 c = rw (c .before .before .before .before .before .before .before .before .before .if1 .left) (c .before .before .read-level .ensures)
+returns-3 c = search read-done
 
 pub read-spec : {M : Type 1} → statement M
 read-spec =
     tie.close
-    (tie.spec
+    (tie.spec (λ c κs. search needs) (λ c. search needs)
     returns
-    held-requires
-    enum-told
-    enum-told-2
-    enum-known-h
-    cast-read-level
-    read-level-requires
-    same-length
+    levels-requires
     returns-2
-    same-length-2
-    returns-3
-    same-length-3
-    returns-4)
+    links-requires
+    add-word
+    add-word-2
+    word-requires
+    returns-3)

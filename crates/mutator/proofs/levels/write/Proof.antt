@@ -1,62 +1,62 @@
 use borrow.Author.Needs.{needs}
-use Rattle.mutator.proofs.Asking.{held-off, held-owing}
-use Rattle.mutator.proofs.LevelWords.{write-asks}
-use Rattle.image.specs.Answer.{asked}
-use mathlib.Core.Path.{sym, _∙_}
+use Rattle.model.specs.Image.{imageOf}
+use Rattle.model.specs.Rows.{rows-open}
+use Rattle.theory.specs.Heap.{ObjectAt}
+use Rattle.image.specs.Layout.{width}
+use Rattle.request_laws.specs.Answer.{asked}
+use Rattle.mutator_laws.specs.Objects.{means-level}
+use Rattle.mutator_laws.proofs.Levels.{write-done}
+use Rattle.mutator_laws.proofs.Objects.{object-nil, word-past, reg-object, object-below, level-below}
+use Rattle.mutator_laws.proofs.Passed.{write-passed}
+use Prim.Native.Nat.{_+_, _*_, _<_}
+use mathlib.Core.Path.{refl}
+use native.Mathlib.Omega.{arith}
 use Rattle.mutator.proofs.levels.write.Statement.{statement}
 use Rattle.mutator.proofs.levels.write.Tie as tie
 
-held-requires : tie.Need-held-requires
-held-requires c κs = search needs
+-- the object in the register
+object : (c : tie.Else1) → let A = c .before .before .before .before .args in ObjectAt (imageOf width (A .k) (A .im .now)) (c .before .reg .result)
+object c = reg-object _ _ _ (c .before .before .before .before .pre .1 .0) _ _ (c .before .reg .ensures) (c .if1 .left)
 
-enum-told : tie.Need-enum-told
-enum-told c = search needs
-
-enum-told-2 : tie.Need-enum-told-2
-enum-told-2 c = search needs
-
-enum-known-h : tie.Need-enum-known-h
-enum-known-h c = search needs
-
-cast-write-level : tie.Need-cast-write-level
-cast-write-level c = search needs
-
-write-level-requires : tie.Need-write-level-requires
-write-level-requires c κs = let q = c .before .before .before .before .before .before .before .pre in (search needs, (q .1 .0, (q .1 .1, sym (c .before .before .before .before .held .ensures) ∙ c .before .before .h .given .1)))
-
-same-length : tie.Need-same-length
-same-length c = search needs
+-- where its level word lies
+place : (c : tie.After-set-word-arg) → let A = c .before .before .before .before .before .before .before .before .before .before .args in 4 * c .before .before .before .before .before .before .before .reg .result + (2 + c .before .links .result + A .b) < 256 * A .k
+place c = level-below _ _ _ (object (c .before .before .before .before .before .before)) (c .before .before .before .before .levels .ensures) (c .before .links .ensures) (c .before .before .before .if2 .left)
 
 returns : tie.Need-returns
-unfolding asked
-returns c = held-off (write-asks _ _ _ _ _ .asks) (sym (c .before .before .held .ensures) ∙ c .enum-told .given .1)
+unfolding asked rows-open
+returns c = let p = c .before .before .before .before .pre in object-nil (write-passed _ _ _ (p .1 .1 .1 .0) (p .1 .1 .0) _ _) (means-level (c .before .reg .ensures) refl refl) (c .if1 .taken)
 
-same-length-2 : tie.Need-same-length-2
-same-length-2 c = search needs
+levels-requires : tie.Need-levels-requires
+levels-requires c κs = (search needs, object (c .before))
 
 returns-2 : tie.Need-returns-2
-unfolding asked
-returns-2 c = held-owing (write-asks _ _ _ _ _ .asks) (sym (c .before .before .held .ensures) ∙ c .enum-told2 .given .1)
+unfolding asked rows-open
+returns-2 c = let p = c .before .before .before .before .before .before .before .pre in word-past (write-passed _ _ _ (p .1 .1 .1 .0) (p .1 .1 .0) _ _) (means-level (c .before .before .before .before .reg .ensures) (c .before .levels .ensures) refl) (c .before .before .before .if1 .left) (c .if2 .taken)
 
-same-length-3 : tie.Need-same-length-3
-same-length-3 c = search needs
+links-requires : tie.Need-links-requires
+links-requires c κs = (search needs, object-below _ _ _ (object (c .before .before .before .before)))
+
+add-set-word : tie.Need-add-set-word
+add-set-word c = omega (arith, place c)
+
+add-set-word-2 : tie.Need-add-set-word-2
+add-set-word-2 c = omega (arith, place c)
+
+set-word-requires : tie.Need-set-word-requires
+set-word-requires c κs = (search needs, place c)
 
 returns-3 : tie.Need-returns-3
-returns-3 c = search needs
+returns-3 c = search write-done
 
 pub write-spec : {M : Type 1} → statement M
 write-spec =
     tie.close
-    (tie.spec
-    held-requires
-    enum-told
-    enum-told-2
-    enum-known-h
-    cast-write-level
-    write-level-requires
-    same-length
+    (tie.spec (λ c κs. search needs) (λ c. search needs) (λ c. search needs)
     returns
-    same-length-2
+    levels-requires (λ c. search needs)
     returns-2
-    same-length-3
+    links-requires
+    add-set-word
+    add-set-word-2 (λ c. search needs)
+    set-word-requires (λ c. search needs)
     returns-3)

@@ -1,5 +1,5 @@
 use Rattle.image.specs.Layout.{width}
-use Rattle.runs_laws.proofs.Chain.{Walk, over, walk-first, walk-end, walk-in, walk-here, walk-next, walk-less}
+use Rattle.runs_laws.proofs.Chain.{Walk, chain-measure, walk-first, walk-end, walk-in, walk-here, walk-next, walk-less}
 use Rattle.model.specs.Image.{granules, imageOf}
 use borrow.Author.Needs.{needs}
 use Rattle.image_laws.proofs.Sections.{granules-image}
@@ -11,7 +11,7 @@ abbrev Inv-loop : tie.InvT-loop
 Inv-loop im k b before₀ g₀ before g = Walk (imageOf width k im) b before g
 
 abbrev μ-loop : tie.MeasureT-loop
-μ-loop im k b before₀ g₀ before g = over (granules (imageOf width k im)) g
+μ-loop im k b before₀ g₀ before g = chain-measure (granules (imageOf width k im)) g
 
 first-run-requires : tie.Need-first-run-requires Inv-loop μ-loop
 first-run-requires c κs = search needs

@@ -1,5 +1,5 @@
 use Rattle.image.specs.Layout.{width}
-use Rattle.runs_laws.proofs.Chain.{over, Counting, count-first, count-end, count-in, count-next, count-less}
+use Rattle.runs_laws.proofs.Chain.{chain-measure, Counting, count-first, count-end, count-in, count-next, count-less}
 use Rattle.image_laws.proofs.Sections.{granules-image}
 use Rattle.model.specs.Image.{granules, imageOf}
 use native.Mathlib.Omega.{arith}
@@ -11,7 +11,7 @@ abbrev Inv-loop : tie.InvT-loop
 Inv-loop im k total₀ g₀ total g = Counting (imageOf width k im) total g
 
 abbrev μ-loop : tie.MeasureT-loop
-μ-loop im k total₀ g₀ total g = over (granules (imageOf width k im)) g
+μ-loop im k total₀ g₀ total g = chain-measure (granules (imageOf width k im)) g
 
 first-run-requires : tie.Need-first-run-requires Inv-loop μ-loop
 first-run-requires c κs = search needs

@@ -1,5 +1,5 @@
 use borrow.Author.Needs.{needs}
-use Rattle.tracers.proofs.CardBits.{next-past, next-none, next-found}
+use Rattle.tracers_laws.proofs.Marks.{next-past, next-none, next-found}
 use Prim.Native.Nat.{_/_, _%_, _^_}
 use mathlib.Core.Path.{refl}
 use native.Mathlib.Omega.{arith}
@@ -7,17 +7,8 @@ use lib.Count.{trailing-le}
 use Rattle.tracers.proofs.marks.next_marked.Statement.{statement}
 use Rattle.tracers.proofs.marks.next_marked.Tie as tie
 
-mul-if1 : tie.Need-mul-if1
-mul-if1 c = search needs
-
 returns : tie.Need-returns
-returns c = next-past _ _ _ (omega arith)
-
-card-marks-requires : tie.Need-card-marks-requires
-card-marks-requires c κs = search needs
-
-shr-left : tie.Need-shr-left
-shr-left c = search needs
+returns c = search next-past
 
 returns-2 : tie.Need-returns-2
 returns-2 c = let A = c .before .before .before .before .args in next-none _ _ (A .from) _ _ (omega arith) (omega arith) (c .before .card-marks .ensures) refl (c .if2 .taken)
@@ -37,11 +28,8 @@ returns-3 c = let A = c .before .before .before .before .args in next-found _ _ 
 pub next-marked-spec : {M : Type 1} → statement M
 next-marked-spec =
     tie.close
-    (tie.spec
-    mul-if1
-    returns
-    card-marks-requires
-    shr-left
+    (tie.spec (λ c. search needs)
+    returns (λ c κs. search needs) (λ c. search needs)
     returns-2
     cast-t
     add-result

@@ -1,11 +1,8 @@
 use borrow.Author.Needs.{needs}
-use Rattle.tracers.proofs.PacketWords.{packet-count, pushed-count, append-done}
+use Rattle.tracers_laws.proofs.Packet.{packet-count, pushed-count, append-done}
 use native.Mathlib.Omega.{arith}
 use Rattle.tracers.proofs.packet.append_entry.Statement.{statement}
 use Rattle.tracers.proofs.packet.append_entry.Tie as tie
-
-read-packet-requires : tie.Need-read-packet-requires
-read-packet-requires c κs = search needs
 
 push-requires : tie.Need-push-requires
 push-requires c κs = omega (arith, packet-count _ _ _ (c .read-packet .ensures))
@@ -13,13 +10,10 @@ push-requires c κs = omega (arith, packet-count _ _ _ (c .read-packet .ensures)
 write-packet-requires : tie.Need-write-packet-requires
 write-packet-requires c κs = (search needs, (omega arith, omega (arith, pushed-count _ _ _ (c .before .push .ensures), packet-count _ _ _ (c .before .before .read-packet .ensures))))
 
-same-length : tie.Need-same-length
-same-length c = search needs
-
 returns : tie.Need-returns
 returns c = search append-done
 
 pub append-entry-spec : {M : Type 1} → statement M
 append-entry-spec =
     tie.close
-    (tie.spec read-packet-requires push-requires write-packet-requires same-length returns)
+    (tie.spec (λ c κs. search needs) push-requires write-packet-requires (λ c. search needs) returns)

@@ -1,11 +1,8 @@
 use borrow.Author.Needs.{needs}
-use Rattle.tracers.proofs.PacketWords.{pop-done, packet-count, popped-count}
+use Rattle.tracers_laws.proofs.Packet.{pop-done, packet-count, popped-count}
 use native.Mathlib.Omega.{arith}
 use Rattle.tracers.proofs.packet.pop_entry.Statement.{statement}
 use Rattle.tracers.proofs.packet.pop_entry.Tie as tie
-
-read-packet-requires : tie.Need-read-packet-requires
-read-packet-requires c κs = search needs
 
 last-requires : tie.Need-last-requires
 last-requires c κs = let n = packet-count _ _ _ (c .read-packet .ensures) in (omega (arith, n), omega (arith, n))
@@ -16,19 +13,14 @@ pop-requires c κs = let n = packet-count _ _ _ (c .before .read-packet .ensures
 write-packet-requires : tie.Need-write-packet-requires
 write-packet-requires c κs = (search needs, (omega arith, omega (arith, popped-count _ _ (c .before .pop .ensures), packet-count _ _ _ (c .before .before .before .read-packet .ensures))))
 
-same-length : tie.Need-same-length
-same-length c = search needs
-
 returns : tie.Need-returns
 returns c = search pop-done
 
 pub pop-entry-spec : {M : Type 1} → statement M
 pop-entry-spec =
     tie.close
-    (tie.spec
-    read-packet-requires
+    (tie.spec (λ c κs. search needs)
     last-requires
     pop-requires
-    write-packet-requires
-    same-length
+    write-packet-requires (λ c. search needs)
     returns)

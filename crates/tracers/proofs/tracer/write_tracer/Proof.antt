@@ -1,28 +1,7 @@
 use borrow.Author.Needs.{needs}
-use Rattle.tracers.proofs.TracerWords.{tracer-written}
+use Rattle.tracers_laws.proofs.Tracer.{tracer-written}
 use Rattle.tracers.proofs.tracer.write_tracer.Statement.{statement}
 use Rattle.tracers.proofs.tracer.write_tracer.Tie as tie
-
-set-tracer-requires : tie.Need-set-tracer-requires
-set-tracer-requires c κs = search needs
-
-set-tracer-requires-2 : tie.Need-set-tracer-requires-2
-set-tracer-requires-2 c κs = search needs
-
-set-tracer-requires-3 : tie.Need-set-tracer-requires-3
-set-tracer-requires-3 c κs = search needs
-
-set-tracer-requires-4 : tie.Need-set-tracer-requires-4
-set-tracer-requires-4 c κs = search needs
-
-set-tracer-requires-5 : tie.Need-set-tracer-requires-5
-set-tracer-requires-5 c κs = search needs
-
-set-tracer-requires-6 : tie.Need-set-tracer-requires-6
-set-tracer-requires-6 c κs = search needs
-
-same-length : tie.Need-same-length
-same-length c = search needs
 
 returns : tie.Need-returns
 returns c =
@@ -37,12 +16,5 @@ returns c =
 pub write-tracer-spec : {M : Type 1} → statement M
 write-tracer-spec =
     tie.close
-    (tie.spec
-    set-tracer-requires
-    set-tracer-requires-2
-    set-tracer-requires-3
-    set-tracer-requires-4
-    set-tracer-requires-5
-    set-tracer-requires-6
-    same-length
+    (tie.spec (λ c κs. search needs) (λ c κs. search needs) (λ c κs. search needs) (λ c κs. search needs) (λ c κs. search needs) (λ c κs. search needs) (λ c. search needs)
     returns)

@@ -1,4 +1,4 @@
-use Rattle.tracers.specs.Tracers.{withCard}
+use Rattle.tracers_laws.specs.Tracer.{withCard}
 use mathlib.Core.Path.{refl}
 use Rattle.tracers.proofs.tracer.Tracer.with_card.Statement.{statement}
 use Rattle.tracers.proofs.tracer.Tracer.with_card.Tie as tie

@@ -1,4 +1,4 @@
-use Rattle.tracers.specs.Tracers.{withHand}
+use Rattle.tracers_laws.specs.Tracer.{withHand}
 use mathlib.Core.Path.{refl}
 use Rattle.tracers.proofs.tracer.Tracer.with_hand.Statement.{statement}
 use Rattle.tracers.proofs.tracer.Tracer.with_hand.Tie as tie

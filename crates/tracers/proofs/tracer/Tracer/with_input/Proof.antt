@@ -1,4 +1,4 @@
-use Rattle.tracers.specs.Tracers.{withInput}
+use Rattle.tracers_laws.specs.Tracer.{withInput}
 use mathlib.Core.Path.{refl}
 use Rattle.tracers.proofs.tracer.Tracer.with_input.Statement.{statement}
 use Rattle.tracers.proofs.tracer.Tracer.with_input.Tie as tie

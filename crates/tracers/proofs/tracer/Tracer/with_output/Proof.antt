@@ -1,4 +1,4 @@
-use Rattle.tracers.specs.Tracers.{withOutput}
+use Rattle.tracers_laws.specs.Tracer.{withOutput}
 use mathlib.Core.Path.{refl}
 use Rattle.tracers.proofs.tracer.Tracer.with_output.Statement.{statement}
 use Rattle.tracers.proofs.tracer.Tracer.with_output.Tie as tie

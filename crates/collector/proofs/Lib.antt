@@ -1,8 +1,0 @@
-pub mod Choosing
-pub mod Lowest
-pub mod Numbers
-pub mod Reaches
-pub mod InHand
-pub mod Registers
-pub mod TraceLines
-pub mod CleanLines

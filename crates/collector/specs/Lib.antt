@@ -1,3 +1,0 @@
-pub mod Pool
-pub mod Refusals
-pub mod Hands

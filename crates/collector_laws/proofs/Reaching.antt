@@ -1,0 +1,109 @@
+-- Reach, each way out as the code finds it: the output packet taken, the object entered, the whole.
+use mathlib.Core.Path.{_≡_, sym, ap, _∙_}
+use mathlib.Core.Logic.{inl, inr}
+use mathlib.Core.Bool.{Bool, true, false}
+use mathlib.Core.List.{List}
+use Prim.Native.Nat.{ℕ, zero, suc, _+_, _*_, _-_, _/_, _≤_, _<_}
+use native.Mathlib.Omega.{arith}
+use lib.Seq.{set-set, set-getD}
+use borrow.Author.Tests.{eq-eqb, ne-eqb}
+use Rattle.model.specs.Base.{nth, put, some}
+use Rattle.model.specs.Image.{Image, imageOf, image, marked, count, output, withTracers, setMark, dirtyCard, setTracer}
+use Rattle.model.specs.Collect.{emptiest, append, noOutput, takeOutput, enter, reach}
+use Rattle.model.proofs.Laws.{best-ok}
+use Rattle.theory.specs.Lines.{HeldOk, NilOr, Start, Lines}
+use Rattle.theory.proofs.lines.Sections.{hold-ok}
+use Rattle.theory.proofs.steps.Reaching.{mark-lines, take-lines, took}
+use Rattle.tracers_laws.specs.Packet.{Tidy}
+use Rattle.collector_laws.specs.Pool.{lacksSpace, Spare}
+
+-- ---- the output packet
+
+pub emptiest-few : (m : Image) (x : ℕ) → x ≡ emptiest m → x ≤ 32
+unfolding emptiest
+emptiest-few m zero e = omega arith
+emptiest-few m (suc p) e = best-ok _ _ 32 p (sym e) .0
+
+module _ (m : Image) (t : ℕ) where
+  pub back-places : Lines m → t < 8 → (n : Image) → n ≡ setTracer m t 1 0 → HeldOk (n .tracers)
+  unfolding setTracer withTracers
+  back-places o h n e = rw e (hold-ok (o .tracers-ok) t h 1 0 (omega arith) (omega arith) (λ u j p hu hj x y. absurd (omega arith)) .places)
+
+  module _ (x : ℕ) (f : x ≡ nth (m .tracers) (8 * t + 1)) (b : Bool) (e : b ≡ lacksSpace m x) where
+    pub take-new : b ≡ true → (n₁ n₂ : Image) (y : ℕ) → n₁ ≡ setTracer m t 1 0 → y ≡ emptiest n₁ → n₂ ≡ setTracer n₁ t 1 y → n₂ ≡ takeOutput m t
+    unfolding takeOutput noOutput lacksSpace output setTracer withTracers put
+    take-new q n₁ n₂ y g h i =
+        let s : lacksSpace m (output m t) ≡ true = ap (lacksSpace m) (sym f) ∙ (sym e ∙ q) in
+        rw (s, i, h, g) (ap (withTracers m) (set-set (m .tracers) (8 * t + 1) 0 (emptiest (setTracer m t 1 0))))
+
+    pub take-same : b ≡ false → m ≡ takeOutput m t
+    unfolding takeOutput noOutput lacksSpace output setTracer withTracers put nth
+    take-same q =
+        let s : lacksSpace m (output m t) ≡ false = ap (lacksSpace m) (sym f) ∙ (sym e ∙ q) in
+        rw s (ap (withTracers m) (sym (set-getD (m .tracers) (8 * t + 1) 0)))
+
+-- ---- an object entered
+
+module _ (m : Image) (t g x : ℕ) (f : x ≡ nth (m .tracers) (8 * t + 1)) where
+  pub enter-dirty : x ≡ 0 → (n : Image) → n ≡ dirtyCard m (g / 64) → n ≡ enter m t g
+  unfolding enter output
+  enter-dirty z n e = e ∙ rw (← f, z, enter)
+
+  module _ (z : x ≡ 0 → ⊥) where
+    is-suc : output m t ≡ suc (x - 1)
+    unfolding output
+    is-suc = omega (arith, f)
+
+    pub enter-append : (n : Image) → n ≡ append m (x - 1) g → n ≡ enter m t g
+    unfolding enter
+    enter-append n e = e ∙ rw (is-suc, enter)
+
+    pub enter-packet : Spare m t → x - 1 < 32
+    enter-packet s = s .space (x - 1) is-suc .0
+
+    pub enter-space : Spare m t → count m (x - 1) < 30
+    enter-space s = s .space (x - 1) is-suc .1
+
+    pub enter-tidy : Lines m → Spare m t → Tidy m (x - 1)
+    unfolding count
+    enter-tidy o s = record { gap = o .packets-ok .gap (x - 1) (enter-packet s); few = o .packets-ok .few (x - 1) (enter-packet s) }
+
+-- ---- reach
+
+taken-count : (m : Image) (t p : ℕ) → count m p < 30 → count (takeOutput m t) p < 30
+unfolding takeOutput setTracer withTracers count
+taken-count m t p h = h
+
+pub start-in : (w k : ℕ) (ws : List ℕ) (g : ℕ) → NilOr (Start (imageOf w k ws)) g → (g ≡ 0 → ⊥) → g < 64 * k
+unfolding imageOf image
+start-in w k ws g (inl e) z = absurd (z e)
+start-in w k ws g (inr s) z = s .0
+
+pub marked-lines : (m n : Image) (g : ℕ) → n ≡ setMark m g → Lines m → NilOr (Start m) g → (g ≡ 0 → ⊥) → Lines n
+marked-lines m n g f o s z = rw f (mark-lines o g (is-start s))
+  where
+    is-start : NilOr (Start m) g → Start m g
+    is-start (inl e) = absurd (z e)
+    is-start (inr s) = s
+
+module _ (m : Image) (t g : ℕ) where
+  pub reach-nil : g ≡ 0 → m ≡ reach m t g
+  unfolding reach some
+  reach-nil e = rw (eq-eqb g 0 e, reach)
+
+  module _ (z : g ≡ 0 → ⊥) where
+    pub reach-marked : (b : Bool) → b ≡ marked m g → b ≡ true → m ≡ reach m t g
+    unfolding reach some
+    reach-marked b e q = rw (ne-eqb g 0 z, ← e, q, reach)
+
+    module _ (n₁ : Image) (f : n₁ ≡ setMark m g) where
+      pub reach-new : (b : Bool) → b ≡ marked m g → b ≡ false → (n₂ n₃ : Image) → n₂ ≡ takeOutput n₁ t → n₃ ≡ enter n₂ t g → n₃ ≡ reach m t g
+      unfolding reach some
+      reach-new b e q n₂ n₃ h i = rw (ne-eqb g 0 z, ← e, q, reach, i, h, f)
+
+      module _ (o : Lines m) (s : NilOr (Start m) g) (h : t < 8) (n₂ : Image) (i : n₂ ≡ takeOutput n₁ t) where
+        pub taken-lines : Lines n₂
+        taken-lines = rw i (take-lines (marked-lines m n₁ g f o s z) t h)
+
+        pub taken-spare : Spare n₂ t
+        taken-spare = rw i (record { space = λ p e. let r = took (marked-lines m n₁ g f o s z) t p h e in (r .0, taken-count n₁ t p (r .1)) })

@@ -1,0 +1,218 @@
+-- Cover, in the order in which the code asks.
+use mathlib.Core.Path.{_≡_, refl, sym, ap, _∙_}
+use mathlib.Core.Bool.{Bool, true, false, _&&_, _||_, and-true, and-assoc, or-false}
+use mathlib.Core.List.{List, [], _∷_}
+use Prim.Native.Nat.{ℕ, suc, _+_, _*_, _/_, _≤_, _<_, _^_}
+use native.Mathlib.Numerals.{add-one}
+use native.Mathlib.Decide.{ℕ-discrete}
+use native.Mathlib.Omega.{arith}
+use lib.Count.{trailingZeros}
+use lib.Dec.{leb, eqb}
+use lib.ListN.{length, set}
+use borrow.Author.Tests.{eq-eqb, ne-eqb}
+use Rattle.model.specs.Base.{nth, all, any, every, some, implies, testBit, bit}
+use Rattle.model.specs.Image.{image, imageOf, word, marked, link, dirty, hand, nextLink, handCard, nextGranule, owed, Image, mostCards, links}
+use Rattle.model.specs.Undamaged.{linkToCome, granuleToCome, owedWith, covered, cover}
+use Rattle.model.proofs.Laws.{false≢, all-use, all-make}
+use Rattle.judge_laws.specs.Order.{handComes, cardComes, holds, owesHolding, plain, coming, late, objectCovered, Coverable}
+use Rattle.model.specs.Cases.{ok}
+use Rattle.image_laws.specs.Bits.{withoutBit}
+use Rattle.image_laws.specs.Sized.{Sized}
+use Rattle.image_laws.proofs.Bits.{bit-at, zero-bit}
+use Rattle.image_laws.proofs.Masks.{withoutBit-same, withoutBit-less, withoutBit-other}
+use Rattle.image_laws.proofs.Parts.{all-cong}
+use Rattle.image_laws.proofs.Places.{place-in, word-in, words-full}
+use Rattle.image_laws.proofs.Trailing.{Lowest, word-lowest}
+use Rattle.soundness_laws.specs.Sets.{EnteredSet}
+use Rattle.soundness_laws.specs.Tests.{atWord, wordwise}
+use Rattle.soundness_laws.proofs.Checks.{all-pick}
+use Rattle.soundness_laws.proofs.Marks.{by-words}
+use mathlib.Core.Logic.{_⊎_, inl, inr}
+use lib.Pow.{high}
+use Rattle.model.specs.Examples.{at}
+use Rattle.image_laws.proofs.Lengths.{sized-width}
+
+-- ---- seven lines in another order
+
+plain-some : (a b d e h c o : Bool) → some (a ∷ b ∷ []) ≡ true → some (a ∷ b ∷ d ∷ e ∷ h ∷ c ∷ o ∷ []) ≡ true
+unfolding some
+plain-some true b d e h c o q = refl
+plain-some false true d e h c o q = refl
+plain-some false false d e h c o q = false≢ q
+
+coming-some : (a b d e h c o : Bool) → some (d ∷ e ∷ c ∷ []) ≡ true → some (a ∷ b ∷ d ∷ e ∷ h ∷ c ∷ o ∷ []) ≡ true
+unfolding some
+coming-some true b d e h c o q = refl
+coming-some false true d e h c o q = refl
+coming-some false false true e h c o q = refl
+coming-some false false false true h c o q = refl
+coming-some false false false false true c o q = refl
+coming-some false false false false false true o q = refl
+coming-some false false false false false false o q = false≢ q
+
+late-some : (a b d e h c o : Bool) → some (d ∷ e ∷ c ∷ []) ≡ false → some (some (a ∷ b ∷ []) ∷ h ∷ o ∷ []) ≡ some (a ∷ b ∷ d ∷ e ∷ h ∷ c ∷ o ∷ [])
+unfolding some
+late-some true b d e h c o q = refl
+late-some false true d e h c o q = refl
+late-some false false true e h c o q = false≢ (sym q)
+late-some false false false true h c o q = false≢ (sym q)
+late-some false false false false h true o q = false≢ (sym q)
+late-some false false false false h false o q = refl
+
+-- ---- the ways out of `object_covered`
+
+module _ (m : Image) (g : ℕ) (mg : marked m g ≡ true) (n : ℕ) (en : n ≡ links m g) where
+  is-all : objectCovered m g ≡ all n (covered m g)
+  unfolding objectCovered implies
+  is-all = rw (mg, en)
+
+  pub inside-of : (k : ℕ) → Coverable k m → g < 64 * k → 4 * g + 2 + n ≤ 256 * k
+  inside-of k r h = rw en (r .inside g h mg)
+
+  pub cov-plain : (r : Bool) → r ≡ all n (plain m g) → r ≡ true → true ≡ objectCovered m g
+  unfolding covered plain
+  cov-plain r e h = rw is-all (sym (all-make n _ (λ i q. plain-some _ _ _ _ _ _ _ (all-use n _ (sym e ∙ h) i q))))
+
+  pub cov-coming : (d : Bool) → d ≡ coming m g → d ≡ true → true ≡ objectCovered m g
+  unfolding covered coming
+  cov-coming d e h = rw is-all (sym (all-make n _ (λ i q. coming-some _ _ _ _ _ _ _ (sym e ∙ h))))
+
+  pub cov-late : (d r : Bool) → d ≡ coming m g → d ≡ false → r ≡ all n (late m g) → r ≡ objectCovered m g
+  unfolding covered coming late plain
+  cov-late d r e h q = rw is-all (q ∙ all-cong n _ _ (λ i v. late-some _ _ _ _ _ _ _ (sym e ∙ h)))
+
+-- ---- the marked objects of a word
+
+-- granule j of word i, where bit j of x is set, passes
+unfoldable pub leftOk : ℕ → (ℕ → Bool) → ℕ → ℕ → ℕ → Bool
+leftOk w p i x j = implies (testBit x j) (atWord w p i j)
+
+twice : (a b : Bool) → implies a (implies a b) ≡ implies a b
+unfolding implies
+twice true b = refl
+twice false b = refl
+
+-- `ok` says whether the objects taken from word i are covered; those left are the bits of x
+pub record Taken (w k : ℕ) (l : List ℕ) (i : ℕ) (ok : Bool) (x : ℕ) : Type 0 where
+  pub small : x < 2 ^ w
+  pub are-marked : (j : ℕ) → j < w → testBit x j ≡ true → marked (imageOf w k l) (w * i + j) ≡ true
+  pub so-far : (ok && all w (leftOk w (objectCovered (imageOf w k l)) i x)) ≡ wordwise w (objectCovered (imageOf w k l)) i
+
+module _ (w k : ℕ) (l : List ℕ) (z : Sized w k l) (i x : ℕ) where
+  mark-is : x ≡ nth (imageOf w k l .marks) i → (j : ℕ) → j < w → testBit x j ≡ marked (imageOf w k l) (w * i + j)
+  unfolding marked imageOf image
+  mark-is e j h = rw (bit-at w (imageOf w k l .marks) i j h, e)
+
+  pub taken-none : x < 2 ^ w → x ≡ nth (imageOf w k l .marks) i → Taken w k l i true x
+  unfolding leftOk wordwise atWord objectCovered
+  taken-none h e = record {
+    small = h;
+    are-marked = λ j h q. sym (mark-is e j h) ∙ q;
+    so-far = all-cong w _ _ (λ j h. rw (mark-is e j h) (twice (marked (imageOf w k l) (w * i + j)) _));
+  }
+
+  module _ (ok : Bool) (s : Taken w k l i ok x) where
+    pub taken-end : x ≡ 0 → ok ≡ wordwise w (objectCovered (imageOf w k l)) i
+    unfolding leftOk implies
+    taken-end e = sym (and-true ok) ∙ (rw (all-make w (leftOk w (objectCovered (imageOf w k l)) i x) (λ j h. rw (zero-bit x j e))) at (s .so-far))
+
+    module _ (nz : x ≡ 0 → ⊥) where
+      few : (w ≡ 16) ⊎ (w ≡ 32) → w ≤ 64
+      few (inl e) = omega arith
+      few (inr e) = omega arith
+
+      low : Lowest w x (trailingZeros 64 x)
+      low = word-lowest w x (few (sized-width z)) (s .small) nz
+
+      pub taken-low : trailingZeros 64 x < w
+      taken-low = low .within
+
+      pub taken-place : i < 64 * k / w → (w * i + trailingZeros 64 x < 64 * k) × (marked (imageOf w k l) (w * i + trailingZeros 64 x) ≡ true)
+      taken-place h =
+          (rw (words-full w k (sized-width z)) at (place-in w i (trailingZeros 64 x) (low .within) (64 * k / w) h), s .are-marked _ (low .within) (low .is-set))
+
+      pub taken-less : withoutBit x (trailingZeros 64 x) < x
+      taken-less = withoutBit-less x _ (low .is-set)
+
+      still-marked : (j : ℕ) → j < w → testBit (withoutBit x (trailingZeros 64 x)) j ≡ true → marked (imageOf w k l) (w * i + j) ≡ true
+      still-marked j h q = go (ℕ-discrete j (trailingZeros 64 x))
+        where
+          go : Dec (j ≡ trailingZeros 64 x) → marked (imageOf w k l) (w * i + j) ≡ true
+          go (yes e) = false≢ (sym (withoutBit-same x (trailingZeros 64 x)) ∙ (rw e at q))
+          go (no e) = s .are-marked j h (sym (withoutBit-other x j (trailingZeros 64 x) e) ∙ q)
+
+      taken-one : all w (leftOk w (objectCovered (imageOf w k l)) i x) ≡ (objectCovered (imageOf w k l) (w * i + trailingZeros 64 x) && all w (leftOk w (objectCovered (imageOf w k l)) i (withoutBit x (trailingZeros 64 x))))
+      unfolding leftOk implies atWord
+      taken-one =
+          rw (low .is-set) at (all-pick w (leftOk w (objectCovered (imageOf w k l)) i x) (leftOk w (objectCovered (imageOf w k l)) i (withoutBit x (trailingZeros 64 x))) (trailingZeros 64 x) (low .within)
+          (λ j ne. rw (withoutBit-other x j (trailingZeros 64 x) ne)) (rw (withoutBit-same x (trailingZeros 64 x))))
+
+      pub taken-more : (t : Bool) (x′ : ℕ) → t ≡ objectCovered (imageOf w k l) (w * i + trailingZeros 64 x) → x′ ≡ withoutBit x (trailingZeros 64 x) → Taken w k l i (ok && t) x′
+      taken-more t x′ et ex = record {
+        small = omega (arith, s .small, taken-less);
+        are-marked = λ j h q. still-marked j h (rw ex at q);
+        so-far = rw (ex, et) (and-assoc ok _ _ ∙ (ap (λ b. ok && b) (sym taken-one) ∙ s .so-far));
+      }
+
+-- ---- all words
+
+pub cover-end : (w k : ℕ) (l : List ℕ) (r : Bool) → Sized w k l → r ≡ all (64 * k / w) (wordwise w (objectCovered (imageOf w k l))) → r ≡ cover (imageOf w k l)
+unfolding cover objectCovered
+cover-end w k l r z e = by-words w k l (objectCovered (imageOf w k l)) r z e
+
+module _ (m : Image) where
+  -- ---- one tracer, one player
+
+  module _ (g i t h n : ℕ) (eh : h ≡ nth (m .tracers) (8 * t + 2)) (en : n ≡ nth (m .tracers) (8 * t + 3)) where
+    pub hand-comes : (eqb h g && leb n i) ≡ handComes m g i t
+    unfolding handComes every hand nextLink
+    hand-comes = rw (← eh, ← en) (simp and-true)
+
+  module _ (g t c n : ℕ) (ec : c ≡ nth (m .tracers) (8 * t + 4)) (en : n ≡ nth (m .tracers) (8 * t + 5)) where
+    pub card-comes : (eqb c (g / 64 + 1) && leb n g) ≡ cardComes m g t
+    unfolding cardComes every handCard nextGranule
+    card-comes = rw (← ec, ← en, add-one) (simp and-true)
+
+  module _ (g a p v : ℕ) (e : v ≡ owed m p) where
+    pub owes-no : (v ≡ g / 64 + 1 → ⊥) → false ≡ owesHolding m g a p
+    unfolding owesHolding every
+    owes-no h = rw (← e, ne-eqb v (suc (g / 64)) (λ q. h (omega arith)))
+
+    pub owes-yes : (r : Bool) → v ≡ g / 64 + 1 → r ≡ any 16 (holds m p a) → r ≡ owesHolding m g a p
+    unfolding owesHolding every
+    owes-yes r h q = rw (← e, eq-eqb v (suc (g / 64)) (omega arith), ← q) (sym (and-true r))
+
+  -- ---- one link
+
+  pub plain-is : (g j a : ℕ) (t : Bool) → a ≡ word m g (2 + j) → t ≡ marked m a → (eqb a 0 || t) ≡ plain m g j
+  unfolding plain some link
+  plain-is g j a t ea et = rw (← ea, ← et, or-false)
+
+  module _ (g j : ℕ) (t : Bool) (e : t ≡ plain m g j) where
+    pub late-plain : t ≡ true → true ≡ late m g j
+    unfolding late some
+    late-plain h = rw (← e, h)
+
+    pub late-more : (a : ℕ) (x y : Bool) → t ≡ false → a ≡ word m g (2 + j) → x ≡ any 8 (handComes m g j) → y ≡ any 16 (owesHolding m g a) → (x || y) ≡ late m g j
+    unfolding late some linkToCome handComes owedWith owesHolding holds link
+    late-more a x y h q ex ey = rw (← e, h, ← q, ex, ey, or-false)
+
+  -- ---- one object
+
+  module _ (g : ℕ) (d : Bool) (ed : d ≡ dirty m (g / 64)) where
+    pub coming-dirty : d ≡ true → true ≡ coming m g
+    unfolding coming some
+    coming-dirty h = rw (← ed, h)
+
+    module _ (hd : d ≡ false) (w : ℕ) (set : List ℕ) (es : EnteredSet w m set) (x : Bool) (ex : x ≡ bit w set g) where
+      pub coming-entered : x ≡ true → true ≡ coming m g
+      unfolding coming some
+      coming-entered h = rw (← ed, hd, ← (es .just g), ← ex, h)
+
+      pub coming-card : (c : Bool) → x ≡ false → c ≡ any 8 (cardComes m g) → c ≡ coming m g
+      unfolding coming some granuleToCome cardComes
+      coming-card c h q = rw (← ed, hd, ← (es .just g), ← ex, h, ← q) (sym (or-false c))
+
+-- a granule has its bit in the set
+pub set-place : (w k : ℕ) (l : List ℕ) (g : ℕ) (set : List ℕ) → Sized w k l → EnteredSet w (imageOf w k l) set → g < 64 * k → g / w < length set
+set-place w k l g set z es h = rw (es .long) (word-in w (mostCards w) (sized-width z) g (omega (arith, z .high)))

@@ -1,0 +1,87 @@
+-- What soundness gives Cover; the ways out of `is_undamaged` and of `judge`.
+use mathlib.Core.Path.{_≡_, sym, _∙_}
+use mathlib.Core.Bool.{Bool, true, false, not, and-true}
+use mathlib.Core.List.{List, [], _∷_}
+use Prim.Native.Nat.{ℕ, zero, suc, _*_, _≤_, _<_}
+use native.Mathlib.Omega.{arith}
+use lib.ListN.{length}
+use borrow.Author.Tests.{eq-eqb, not-true, not-false}
+use Rattle.model.specs.Base.{every, implies, first}
+use Rattle.model.specs.Image.{image, imageOf, granules, isStart, marked, firstRun, running}
+use Rattle.model.specs.Undamaged.{zeroGranule, filled, markOk, idleOk, sound, cover, undamaged, judgeAt}
+use Rattle.model.proofs.Laws.{false≢, all-use, all-make, every-use, imp-use}
+use Rattle.image_laws.specs.Size.{extentOf}
+use Rattle.image_laws.specs.declared.Extent.{Extent}
+use Rattle.image_laws.specs.declared.Extent.the-variants.{Cards, Misfit}
+use Rattle.judge_laws.specs.Order.{Coverable}
+use Rattle.image_laws.specs.Sized.{Sized}
+use Rattle.image_laws.proofs.Size.{misfit-fits, cards-fits, cards-sized, cards-parts}
+use Rattle.soundness_laws.proofs.Heap.{object-room, starts-ok}
+use Rattle.soundness_laws.proofs.Lines.{no-mark}
+use Rattle.soundness_laws.proofs.Packets.{all-packets, packed}
+
+module _ (w k : ℕ) (l : List ℕ) (z : Sized w k l) where
+  -- ---- what soundness gives
+
+  past : (g : ℕ) → zeroGranule (imageOf w k l) ≡ true → isStart (imageOf w k l) g ≡ true → 1 ≤ g
+  unfolding zeroGranule
+  past zero e s = false≢ (sym (not-true _ (every-use _ e 1)) ∙ s)
+  past (suc g) e s = omega arith
+
+  ready : sound (imageOf w k l) ≡ true → Coverable k (imageOf w k l)
+  unfolding sound filled markOk granules imageOf image
+  ready e =
+      let u = every-use _ e in
+      let st : (g : ℕ) → g < 64 * k → marked (imageOf w k l) g ≡ true → isStart (imageOf w k l) g ≡ true = λ g h q. imp-use _ _ (all-use (64 * k) _ (u 7) g h) q in
+      record {
+        inside = λ g h q. object-room w k l z g h (starts-ok w k l z (64 * k) 1 (firstRun (imageOf w k l)) false (u 1) g (past g (u 0) (st g h q)) h (st g h q));
+        packed = packed w k l z (sym (all-packets w k l z) ∙ u 8);
+      }
+
+  -- ---- the ways out of `is_undamaged`
+
+  module _ (s : Bool) (e : s ≡ sound (imageOf w k l)) where
+    pub un-sound : not s ≡ true → false ≡ undamaged (imageOf w k l)
+    unfolding undamaged every
+    un-sound h = rw (← e, not-true s h)
+
+    pub ready-of : not s ≡ false → Coverable k (imageOf w k l)
+    ready-of h = ready (sym e ∙ not-false s h)
+
+    pub un-cover : (r : Bool) → not s ≡ false → r ≡ cover (imageOf w k l) → r ≡ undamaged (imageOf w k l)
+    unfolding undamaged every
+    un-cover r h q = rw (← e, not-false s h, ← q) (sym (and-true r))
+
+    -- with no cycle nothing is marked
+    still : (v : ℕ) → v ≡ running (imageOf w k l) → v ≡ 0 → sound (imageOf w k l) ≡ true → cover (imageOf w k l) ≡ true
+    unfolding sound idleOk cover implies
+    still v ev h q =
+        let i = imp-use _ _ (every-use _ q 12) (eq-eqb _ 0 (sym ev ∙ h)) in
+        all-make (granules (imageOf w k l)) _ (λ g b. rw (no-mark w k l (every-use _ i 0) g))
+
+    pub un-still : (v : ℕ) → not s ≡ false → v ≡ running (imageOf w k l) → v ≡ 0 → true ≡ undamaged (imageOf w k l)
+    un-still v h ev y = un-cover true h (sym (still v ev y (sym e ∙ not-false s h)))
+
+-- ---- the ways out of `judge`
+
+module _ (w : ℕ) (l : List ℕ) (s : Extent) (e : s ≡ extentOf w (length l)) where
+  pub judged-misfit : s ≡ Misfit → 1 ≡ judgeAt w l
+  unfolding judgeAt first
+  judged-misfit q = rw (misfit-fits w l s e q)
+
+  module _ (k : ℕ) (q : s ≡ Cards k) where
+    pub judged-sized : Sized w k l
+    judged-sized = cards-sized w l s e k q
+
+    module _ (r : Bool) (er : r ≡ undamaged (imageOf w k l)) where
+      judged-by : judgeAt w l ≡ first 1 (false ∷ not r ∷ [])
+      unfolding judgeAt
+      judged-by = rw (cards-fits w l s e k q, cards-parts w l s e k q, ← er)
+
+      pub judged-0 : r ≡ true → 0 ≡ judgeAt w l
+      unfolding first
+      judged-0 h = rw (judged-by, h)
+
+      pub judged-2 : r ≡ false → 2 ≡ judgeAt w l
+      unfolding first
+      judged-2 h = rw (judged-by, h)

@@ -1,0 +1,107 @@
+-- New: the run that it takes, the words that it writes, and its cases.
+use mathlib.Core.Path.{_≡_, refl, sym, _∙_}
+use mathlib.Core.Bool.{true, false}
+use mathlib.Core.List.{List}
+use Prim.Native.Nat.{ℕ, zero, suc, _+_, _*_, _-_, _≤_, _<_}
+use native.Mathlib.Omega.{arith}
+use borrow.Author.Tests.{lt-ltb, le-ltb, eq-eqb, ne-eqb}
+use Rattle.model.specs.Image.{Image, granules, word, firstRun, owed, setWord, setStart, setReg, setFirstRun, imageOf}
+use Rattle.model.specs.Mutate.{Room, roomFor, setNext, takeRun, newObject}
+use Rattle.model.specs.Records.{new}
+use Rattle.model.specs.Rows.{rows-open}
+use Rattle.model.specs.Steps.{badSize, numbers-open, accept, act, step}
+use Rattle.model.proofs.Laws.{some-make}
+use Rattle.theory.specs.Heap.{HeapFilled}
+use Rattle.theory.specs.Lines.{Sound}
+use Rattle.theory.specs.Pieces.{PlaceIn}
+use Rattle.theory.proofs.heap.Facts.{heap-filled-of, heap-sized-of}
+use Rattle.theory.proofs.heap.Unused.{clear-one}
+use Rattle.theory.proofs.new.Carve.{place-below}
+use Rattle.theory.proofs.new.Room.{room-place, place-apart}
+use Rattle.image_laws.proofs.Sections.{granules-image}
+use Rattle.request_laws.specs.Answer.{done, asked}
+use Rattle.request_laws.proofs.Numbers.{number-8, number-9, number-0}
+use Rattle.mutator_laws.specs.New.{RunFor}
+use Rattle.mutator_laws.proofs.Passed.{new-passed}
+
+-- ---- the run found
+
+run-in : (m : Image) → Sound m → (b g before : ℕ) → _≡_ {A = Room} (record { run = g; before = before }) (roomFor m b) → (g ≡ 0 → ⊥) → (b ≤ word m g 0) × (g + word m g 0 ≤ granules m) × (before < g)
+run-in m s b zero before e nz = absurd (nz refl)
+run-in m s b (suc g) before e nz =
+    let o : HeapFilled m = heap-filled-of (s .lines) in
+    let h : PlaceIn m b 1 (firstRun m) false 0 (suc g) ((roomFor m b) .before) = room-place m b o (heap-sized-of (s .lines)) g (rw (← e)) in
+    let a = place-apart m b (omega arith) h (clear-one m o) in
+    (a .1, a .0 .is-run .ends, rw (← e) at (place-below m h (omega arith)))
+
+pub run-for : (w k : ℕ) (ws : List ℕ) → Sound (imageOf w k ws) → (b g before : ℕ) → 1 ≤ b → _≡_ {A = Room} (record { run = g; before = before }) (roomFor (imageOf w k ws) b) → (g ≡ 0 → ⊥) → RunFor k (imageOf w k ws) b g before
+run-for w k ws s b g before h e nz =
+    let q = run-in (imageOf w k ws) s b g before e nz in
+    record { some-granules = h; suffices = q .0; ends = omega (arith, q .1, granules-image w k ws); below = q .2 }
+
+-- ---- the run taken from the chain
+
+module _ (m i : Image) (before g : ℕ) where
+  pub set-next-first : before ≡ 0 → i ≡ setFirstRun m g → i ≡ setNext m before g
+  unfolding setNext
+  set-next-first z e = rw z e
+
+  pub set-next-after : (before ≡ 0 → ⊥) → i ≡ setWord m before 1 g → i ≡ setNext m before g
+  set-next-after nz e = e ∙ sym (go before nz)
+    where
+      go : (x : ℕ) → (x ≡ 0 → ⊥) → setNext m x g ≡ setWord m x 1 g
+      go zero n = absurd (n refl)
+      go (suc x) n = unfold setNext in refl
+
+module _ (m : Image) (g before b n next : ℕ) (en : n ≡ word m g 0) (ex : next ≡ word m g 1) where
+  pub take-whole : n ≡ b → (i : Image) → i ≡ setNext m before next → i ≡ takeRun m g before b (word m g 0 - b)
+  unfolding takeRun
+  take-whole h i ei = let z : word m g 0 - b ≡ 0 = omega arith in rw z (rw (← ex) ei)
+
+  pub take-part : (n ≡ b → ⊥) → b ≤ word m g 0 → (i j l : Image) → i ≡ setWord m (g + b) 0 (n - b) → j ≡ setWord i (g + b) 1 next → l ≡ setNext j before (g + b)
+      → l ≡ takeRun m g before b (word m g 0 - b)
+  take-part h q i j l ei ej el = go (word m g 0 - b) refl
+    where
+      go : (left : ℕ) → word m g 0 - b ≡ left → l ≡ takeRun m g before b left
+      go zero z = absurd (h (omega arith))
+      go (suc left) z = unfold takeRun in let d : n - b ≡ suc left = omega arith in el ∙ rw (ej, ei, d, ex)
+
+-- ---- the object made
+
+pub object-made : (m : Image) (p a b c g : ℕ) (i j l n : Image) → i ≡ setWord m g 0 b → j ≡ setWord i g 1 c → l ≡ setStart j g → n ≡ setReg l p a g → n ≡ setReg (setStart (setWord (setWord m g 0 b) g 1 c) g) p a g
+object-made m p a b c g i j l n ei ej el en = rw (en, el, ej, ei)
+
+-- ---- the cases
+
+module _ (m : Image) (p a b c : ℕ) (h : (p < 16) × (a < 16)) (z : owed m p ≡ 0) where
+  refused : badSize (asked 1 p a b c) new ≡ true → done 8 0 m ≡ step m (asked 1 p a b c)
+  unfolding numbers-open
+  refused x = number-8 (new-passed m p a z h b c) refl refl x
+
+  pub new-empty : b ≡ 0 → done 8 0 m ≡ step m (asked 1 p a b c)
+  unfolding asked badSize rows-open
+  new-empty e = refused (some-make _ 0 (eq-eqb b 0 e))
+
+  pub new-too-large : 1024 < b → done 8 0 m ≡ step m (asked 1 p a b c)
+  unfolding asked badSize rows-open
+  new-too-large x = refused (some-make _ 1 (lt-ltb 1024 b x))
+
+  pub new-overlinked : 4 * b - 2 < c → done 8 0 m ≡ step m (asked 1 p a b c)
+  unfolding asked badSize rows-open
+  new-overlinked x = refused (some-make _ 2 (lt-ltb (4 * b - 2) c x))
+
+  module _ (nz : b ≡ 0 → ⊥) (few : b ≤ 1024) (fit : c ≤ 4 * b - 2) (g before : ℕ) (er : _≡_ {A = Room} (record { run = g; before = before }) (roomFor m b)) where
+    right-size : badSize (asked 1 p a b c) new ≡ false
+    unfolding asked numbers-open
+    right-size = rw (ne-eqb b 0 nz, le-ltb 1024 b few, le-ltb (4 * b - 2) c fit)
+
+    pub new-no-room : g ≡ 0 → done 9 0 m ≡ step m (asked 1 p a b c)
+    unfolding asked numbers-open
+    new-no-room e = number-9 (new-passed m p a z h b c) refl refl right-size (rw (← er) (eq-eqb _ 0 e))
+
+    pub new-done : (g ≡ 0 → ⊥) → (i j : Image) → i ≡ takeRun m g before b (word m g 0 - b)
+        → j ≡ setReg (setStart (setWord (setWord i g 0 b) g 1 c) g) p a g → done 0 g j ≡ step m (asked 1 p a b c)
+    unfolding asked numbers-open act accept newObject
+    new-done e i j ei ej =
+        let x : act m (asked 1 p a b c) new ≡ done 0 g j = rw (ej, ei, ← er) in
+        sym x ∙ number-0 (new-passed m p a z h b c) refl refl right-size (rw (← er) (ne-eqb _ 0 e)) refl refl

@@ -1,0 +1,166 @@
+-- The dispatch: what an admitted request's fields are, kind by kind, and its step by its kind.
+use mathlib.Core.Path.{_≡_, refl, sym, ap, subst, _∙_}
+use mathlib.Core.Bool.{Bool, true, false}
+use Prim.Native.Nat.{ℕ, zero, suc, _^_, _≤_, _<_}
+use native.Mathlib.Decide.{decLt}
+use native.Mathlib.Omega.{arith}
+use Rattle.model.specs.Image.{Image, owed}
+use Rattle.model.specs.Records.{Step, Kind, unknown, kindOf}
+use Rattle.model.specs.Rows.{rowOf, player}
+use Rattle.model.specs.Steps as steps
+use Rattle.model.specs.Steps.{unnamed, step}
+use Rattle.model.proofs.Rows.{kind-unknown}
+use Rattle.theory.specs.Fields.{fieldAt, roleAt, boundAt}
+use Rattle.theory.proofs.steps.Fields.{four, field-zero, field-below, field-paid}
+use Rattle.request_laws.specs.Answer.{done, asked}
+use Rattle.request_laws.proofs.Numbers.{number-3}
+use Rattle.request_laws.specs.Passed.{Passed}
+use Rattle.request_laws.specs.Request.{requested, InRange}
+use Rattle.request_laws.specs.declared.Request.{Request}
+
+-- the step of a request, by the fields that its kind names; the others are 0
+by-kind : (m : Image) (r : Request) (n w a b c : ℕ) (d : steps.Done) → r .kind ≡ n → r .who ≡ w → r .a ≡ a → r .b ≡ b → r .c ≡ c → d ≡ step m (asked n w a b c) → d ≡ step m (requested r)
+unfolding requested asked
+by-kind m r n w a b c d e f g h i q = rw (e, f, g, h, i) q
+
+module _ (w : ℕ) {m : Image} (r : Request) (v : InRange w r) (q : Passed m (requested r) (kindOf (r .kind))) where
+  in-range : (i : ℕ) → i < 4 → fieldAt (requested r) i < 2 ^ w
+  unfolding requested fieldAt
+  in-range = four (λ i. fieldAt (requested r) i < 2 ^ w) (v .who-small) (v .a-small) (v .b-small) (v .c-small)
+
+  -- a field that its kind n does not name, one that has a limit, and a player who must owe nothing
+  module _ (n : ℕ) (e : r .kind ≡ n) (i : ℕ) (h : i < 4) where
+    same : kindOf (r .kind) ≡ kindOf n
+    same = ap kindOf e
+
+    zero-at : boundAt w (m .k) (kindOf n) i ≡ 0 → fieldAt (requested r) i ≡ 0
+    zero-at z = field-zero w (m .k) (requested r) (kindOf (r .kind)) (q .named) i h (ap (λ (x : Kind). boundAt w (m .k) x i) same ∙ z)
+
+    below-at : (l : ℕ) → boundAt w (m .k) (kindOf n) i ≡ suc l → fieldAt (requested r) i < suc l
+    below-at l b =
+        let s : boundAt w (m .k) (kindOf (r .kind)) i ≡ suc l = ap (λ (x : Kind). boundAt w (m .k) x i) same ∙ b in
+        subst (λ (x : ℕ). fieldAt (requested r) i < x) s (field-below w (m .k) (requested r) (kindOf (r .kind)) (q .on-desk) i h (in-range i h) (subst (λ (x : ℕ). 0 < x) (sym s) (omega arith)))
+
+    paid-at : (rowOf (kindOf n)) .unowing ≡ true → roleAt (kindOf n) i ≡ player → owed m (fieldAt (requested r) i) ≡ 0
+    paid-at u p = field-paid m (requested r) (kindOf (r .kind)) (q .none-owed) (ap (λ (x : Kind). (rowOf x) .unowing) same ∙ u) i h (ap (λ (x : Kind). roleAt x i) same ∙ p)
+
+  -- ---- kind by kind: the limits of its fields and who must owe nothing; its step, where the fields that it does not name are 0
+
+  pub new-fields : r .kind ≡ 1 → ((r .who < 16) × (r .a < 16)) × (owed m (r .who) ≡ 0)
+  unfolding kindOf boundAt roleAt fieldAt requested
+  new-fields e = ((below-at 1 e 0 (omega arith) 15 refl, below-at 1 e 1 (omega arith) 15 refl), paid-at 1 e 0 (omega arith) refl refl)
+
+  pub new-step : r .kind ≡ 1 → (d : steps.Done) → d ≡ step m (asked 1 (r .who) (r .a) (r .b) (r .c)) → d ≡ step m (requested r)
+  new-step e d = by-kind m r 1 (r .who) (r .a) (r .b) (r .c) d e refl refl refl refl
+
+  pub load-fields : r .kind ≡ 2 → ((r .who < 16) × (r .a < 16) × (r .b < 16)) × (owed m (r .who) ≡ 0)
+  unfolding kindOf boundAt roleAt fieldAt requested
+  load-fields e = ((below-at 2 e 0 (omega arith) 15 refl, below-at 2 e 1 (omega arith) 15 refl, below-at 2 e 2 (omega arith) 15 refl), paid-at 2 e 0 (omega arith) refl refl)
+
+  pub load-step : r .kind ≡ 2 → (d : steps.Done) → d ≡ step m (asked 2 (r .who) (r .a) (r .b) (r .c)) → d ≡ step m (requested r)
+  load-step e d = by-kind m r 2 (r .who) (r .a) (r .b) (r .c) d e refl refl refl refl
+
+  pub store-fields : r .kind ≡ 3 → ((r .who < 16) × (r .a < 16) × (r .c < 16)) × (owed m (r .who) ≡ 0)
+  unfolding kindOf boundAt roleAt fieldAt requested
+  store-fields e = ((below-at 3 e 0 (omega arith) 15 refl, below-at 3 e 1 (omega arith) 15 refl, below-at 3 e 3 (omega arith) 15 refl), paid-at 3 e 0 (omega arith) refl refl)
+
+  pub store-step : r .kind ≡ 3 → (d : steps.Done) → d ≡ step m (asked 3 (r .who) (r .a) (r .b) (r .c)) → d ≡ step m (requested r)
+  store-step e d = by-kind m r 3 (r .who) (r .a) (r .b) (r .c) d e refl refl refl refl
+
+  pub barrier-fields : r .kind ≡ 4 → r .who < 16
+  unfolding kindOf boundAt roleAt fieldAt requested
+  barrier-fields e = below-at 4 e 0 (omega arith) 15 refl
+
+  pub barrier-step : r .kind ≡ 4 → (d : steps.Done) → d ≡ step m (asked 4 (r .who) 0 0 0) → d ≡ step m (requested r)
+  unfolding kindOf boundAt roleAt fieldAt requested
+  barrier-step e d = by-kind m r 4 (r .who) 0 0 0 d e refl (zero-at 4 e 1 (omega arith) refl) (zero-at 4 e 2 (omega arith) refl) (zero-at 4 e 3 (omega arith) refl)
+
+  pub hand-fields : r .kind ≡ 5 → ((r .who < 16) × (r .a < 16) × (r .b < 16) × (r .c < 16)) × ((owed m (r .who) ≡ 0) × (owed m (r .b) ≡ 0))
+  unfolding kindOf boundAt roleAt fieldAt requested
+  hand-fields e = ((below-at 5 e 0 (omega arith) 15 refl, below-at 5 e 1 (omega arith) 15 refl, below-at 5 e 2 (omega arith) 15 refl, below-at 5 e 3 (omega arith) 15 refl), (paid-at 5 e 0 (omega arith) refl refl, paid-at 5 e 2 (omega arith) refl refl))
+
+  pub hand-step : r .kind ≡ 5 → (d : steps.Done) → d ≡ step m (asked 5 (r .who) (r .a) (r .b) (r .c)) → d ≡ step m (requested r)
+  hand-step e d = by-kind m r 5 (r .who) (r .a) (r .b) (r .c) d e refl refl refl refl
+
+  pub drop-fields : r .kind ≡ 6 → ((r .who < 16) × (r .a < 16)) × (owed m (r .who) ≡ 0)
+  unfolding kindOf boundAt roleAt fieldAt requested
+  drop-fields e = ((below-at 6 e 0 (omega arith) 15 refl, below-at 6 e 1 (omega arith) 15 refl), paid-at 6 e 0 (omega arith) refl refl)
+
+  pub drop-step : r .kind ≡ 6 → (d : steps.Done) → d ≡ step m (asked 6 (r .who) (r .a) 0 0) → d ≡ step m (requested r)
+  unfolding kindOf boundAt roleAt fieldAt requested
+  drop-step e d = by-kind m r 6 (r .who) (r .a) 0 0 d e refl refl (zero-at 6 e 2 (omega arith) refl) (zero-at 6 e 3 (omega arith) refl)
+
+  pub read-fields : r .kind ≡ 7 → ((r .who < 16) × (r .a < 16)) × (owed m (r .who) ≡ 0)
+  unfolding kindOf boundAt roleAt fieldAt requested
+  read-fields e = ((below-at 7 e 0 (omega arith) 15 refl, below-at 7 e 1 (omega arith) 15 refl), paid-at 7 e 0 (omega arith) refl refl)
+
+  pub read-step : r .kind ≡ 7 → (d : steps.Done) → d ≡ step m (asked 7 (r .who) (r .a) (r .b) 0) → d ≡ step m (requested r)
+  unfolding kindOf boundAt roleAt fieldAt requested
+  read-step e d = by-kind m r 7 (r .who) (r .a) (r .b) 0 d e refl refl refl (zero-at 7 e 3 (omega arith) refl)
+
+  pub write-fields : r .kind ≡ 8 → ((r .who < 16) × (r .a < 16)) × (owed m (r .who) ≡ 0)
+  unfolding kindOf boundAt roleAt fieldAt requested
+  write-fields e = ((below-at 8 e 0 (omega arith) 15 refl, below-at 8 e 1 (omega arith) 15 refl), paid-at 8 e 0 (omega arith) refl refl)
+
+  pub write-step : r .kind ≡ 8 → (d : steps.Done) → d ≡ step m (asked 8 (r .who) (r .a) (r .b) (r .c)) → d ≡ step m (requested r)
+  write-step e d = by-kind m r 8 (r .who) (r .a) (r .b) (r .c) d e refl refl refl refl
+
+  pub begin-step : r .kind ≡ 9 → (d : steps.Done) → d ≡ step m (asked 9 0 0 0 0) → d ≡ step m (requested r)
+  unfolding kindOf boundAt roleAt fieldAt requested
+  begin-step e d = by-kind m r 9 0 0 0 0 d e (zero-at 9 e 0 (omega arith) refl) (zero-at 9 e 1 (omega arith) refl) (zero-at 9 e 2 (omega arith) refl) (zero-at 9 e 3 (omega arith) refl)
+
+  pub scan-fields : r .kind ≡ 10 → (r .who < 8) × (r .a < 16)
+  unfolding kindOf boundAt roleAt fieldAt requested
+  scan-fields e = (below-at 10 e 0 (omega arith) 7 refl, below-at 10 e 1 (omega arith) 15 refl)
+
+  pub scan-step : r .kind ≡ 10 → (d : steps.Done) → d ≡ step m (asked 10 (r .who) (r .a) 0 0) → d ≡ step m (requested r)
+  unfolding kindOf boundAt roleAt fieldAt requested
+  scan-step e d = by-kind m r 10 (r .who) (r .a) 0 0 d e refl refl (zero-at 10 e 2 (omega arith) refl) (zero-at 10 e 3 (omega arith) refl)
+
+  pub trace-fields : r .kind ≡ 11 → r .who < 8
+  unfolding kindOf boundAt roleAt fieldAt requested
+  trace-fields e = below-at 11 e 0 (omega arith) 7 refl
+
+  pub trace-step : r .kind ≡ 11 → (d : steps.Done) → d ≡ step m (asked 11 (r .who) 0 0 0) → d ≡ step m (requested r)
+  unfolding kindOf boundAt roleAt fieldAt requested
+  trace-step e d = by-kind m r 11 (r .who) 0 0 0 d e refl (zero-at 11 e 1 (omega arith) refl) (zero-at 11 e 2 (omega arith) refl) (zero-at 11 e 3 (omega arith) refl)
+
+  pub clean-fields : r .kind ≡ 12 → r .who < 8
+  unfolding kindOf boundAt roleAt fieldAt requested
+  clean-fields e = below-at 12 e 0 (omega arith) 7 refl
+
+  pub clean-step : r .kind ≡ 12 → (d : steps.Done) → d ≡ step m (asked 12 (r .who) 0 0 0) → d ≡ step m (requested r)
+  unfolding kindOf boundAt roleAt fieldAt requested
+  clean-step e d = by-kind m r 12 (r .who) 0 0 0 d e refl (zero-at 12 e 1 (omega arith) refl) (zero-at 12 e 2 (omega arith) refl) (zero-at 12 e 3 (omega arith) refl)
+
+  pub finish-step : r .kind ≡ 13 → (d : steps.Done) → d ≡ step m (asked 13 0 0 0 0) → d ≡ step m (requested r)
+  unfolding kindOf boundAt roleAt fieldAt requested
+  finish-step e d = by-kind m r 13 0 0 0 0 d e (zero-at 13 e 0 (omega arith) refl) (zero-at 13 e 1 (omega arith) refl) (zero-at 13 e 2 (omega arith) refl) (zero-at 13 e 3 (omega arith) refl)
+
+  pub due-step : r .kind ≡ 14 → (d : steps.Done) → d ≡ step m (asked 14 0 (r .a) 0 0) → d ≡ step m (requested r)
+  unfolding kindOf boundAt roleAt fieldAt requested
+  due-step e d = by-kind m r 14 0 (r .a) 0 0 d e (zero-at 14 e 0 (omega arith) refl) refl (zero-at 14 e 2 (omega arith) refl) (zero-at 14 e 3 (omega arith) refl)
+
+-- ---- a number that is no kind's
+
+-- n is none of the numbers 1 to j
+abbrev pub NoneTo : ℕ → ℕ → Type 0
+NoneTo n zero = Unit
+NoneTo n (suc j) = NoneTo n j × (n ≡ suc j → ⊥)
+
+none-to : (n j : ℕ) → NoneTo n j → 1 ≤ n → n ≤ j → ⊥
+none-to n zero h p q = omega arith
+none-to n (suc j) h p q = none-to n j (h .0) p (omega (arith, h .1))
+
+no-kind : (n : ℕ) → NoneTo n 14 → kindOf n ≡ unknown
+unfolding kindOf
+no-kind zero h = refl
+no-kind (suc n) h = kind-unknown (suc n) (at-least (decLt (suc n) 15))
+  where
+    at-least : Dec (suc n < 15) → 15 ≤ suc n
+    at-least (yes l) = absurd (none-to (suc n) 14 h (omega arith) (omega arith))
+    at-least (no l) = omega arith
+
+pub no-step : (m : Image) (r : Request) → NoneTo (r .kind) 14 → done 3 0 m ≡ step m (requested r)
+unfolding requested unnamed
+no-step m r h = number-3 m (requested r) unknown (no-kind (r .kind) h) refl

@@ -1,0 +1,131 @@
+-- One turn of the batch's loop, and its invariant: the records so far have run, and their answers stand before what is left of the answer space.
+use mathlib.Core.Path.{_≡_, refl, sym, ap, _∙_}
+use mathlib.Core.List.{List, [], _∷_, _++_, append-assoc, append-nil}
+use Prim.Native.Nat.{ℕ, zero, suc, _+_, _*_, _/_, _≤_, _<_, zero-le}
+use native.Mathlib.Omega.{arith}
+use native.Mathlib.Numerals.{add-one}
+use lib.ListN.{length, set, drop, length-append, length-drop, drop-of-length-le}
+use lib.Seq.{drop-drop}
+use Rattle.model.specs.Base.{table}
+use Rattle.model.specs.Image.{Image, imageOf}
+use Rattle.model.specs.Records.{recordBytes, records}
+use Rattle.model.specs.Steps.{Done, Event, step, run, after, answersOf}
+use Rattle.theory.specs.Lines.{Undamaged}
+use Rattle.theory.proofs.steps.Kept.{step-keeps}
+use Rattle.theory.proofs.steps.Steps.{run-append}
+use Rattle.image_laws.specs.Sized.{Sized}
+use Rattle.show_store_laws.specs.Run.{recordAt, ran, writtenAt}
+use Rattle.request_laws.specs.Answer.{done}
+use Rattle.request_laws.specs.Request.{requested}
+use Rattle.request_laws.specs.declared.Request.{Request}
+
+-- ---- one turn: its record, and its two answer words
+
+pub turn : (w : ℕ) (m m₁ : Image) (bytes answers : List ℕ) (i : ℕ) (r : Request) (number value : ℕ)
+    → requested r ≡ recordAt w bytes i → done number value m₁ ≡ step m (requested r)
+    → (m₁ ≡ (step m (recordAt w bytes i)) .image) × (set (set answers (2 * i) number) (2 * i + 1) value ≡ writtenAt answers i (step m (recordAt w bytes i)))
+unfolding writtenAt
+turn w m m₁ bytes answers i r number value e d = rw (← e, ← d) (refl, refl)
+
+-- ---- tables, runs and answers with one more at the end
+
+table-more : {A : Type 0} (n : ℕ) (f : ℕ → A) → table (suc n) f ≡ table n f ++ (f n ∷ [])
+unfolding table
+table-more zero f = refl
+table-more (suc n) f = ap (λ l. f zero ∷ l) (table-more n (λ i. f (suc i)))
+
+after-append : (m : Image) (es fs : List Event) → after m (es ++ fs) ≡ after (after m es) fs
+unfolding after
+after-append m [] fs = refl
+after-append m (e ∷ es) fs = after-append (e .done .image) es fs
+
+pub answers-append : (es fs : List Event) → answersOf (es ++ fs) ≡ answersOf es ++ answersOf fs
+unfolding answersOf
+answers-append [] fs = refl
+answers-append (e ∷ es) fs = ap (λ l. e .done .number ∷ e .done .value ∷ l) (answers-append es fs)
+
+module _ (w : ℕ) (m : Image) (bytes : List ℕ) (i : ℕ) where
+  so-far : Image
+  so-far = after m (ran w m bytes i)
+
+  ran-one : ran w m bytes (suc i) ≡ ran w m bytes i ++ run so-far (recordAt w bytes i ∷ [])
+  unfolding ran so-far
+  ran-one = ap (run m) (table-more i (recordAt w bytes)) ∙ run-append m (table i (recordAt w bytes)) (recordAt w bytes i ∷ [])
+
+  after-one : after m (ran w m bytes (suc i)) ≡ (step so-far (recordAt w bytes i)) .image
+  unfolding so-far run after
+  after-one = ap (after m) ran-one ∙ after-append m (ran w m bytes i) (run so-far (recordAt w bytes i ∷ []))
+
+  answers-one : answersOf (ran w m bytes (suc i)) ≡ answersOf (ran w m bytes i) ++ ((step so-far (recordAt w bytes i)) .number ∷ (step so-far (recordAt w bytes i)) .value ∷ [])
+  unfolding run answersOf
+  answers-one = ap answersOf ran-one ∙ answers-append (ran w m bytes i) (run so-far (recordAt w bytes i ∷ []))
+
+-- ---- two words written behind a list
+
+set-two : (p l : List ℕ) (n x y : ℕ) → length p ≡ n → 2 ≤ length l → set (set (p ++ l) n x) (suc n) y ≡ p ++ (x ∷ y ∷ drop 2 l)
+set-two [] [] n x y e h = absurd (omega arith)
+set-two [] (a ∷ []) n x y e h = absurd (omega arith)
+set-two [] (a ∷ b ∷ l) n x y e h = rw (← e)
+set-two (z ∷ p) l n x y e h = rw (← e) (ap (λ q. z ∷ q) (set-two p l (length p) x y refl h))
+
+module _ (w : ℕ) (m : Image) (bytes : List ℕ) (i : ℕ) (long : length (answersOf (ran w m bytes i)) ≡ 2 * i) where
+  long-one : length (answersOf (ran w m bytes (suc i))) ≡ 2 * suc i
+  long-one = rw (answers-one w m bytes i, length-append (answersOf (ran w m bytes i)) ((step (so-far w m bytes i) (recordAt w bytes i)) .number ∷ (step (so-far w m bytes i) (recordAt w bytes i)) .value ∷ [])) (omega arith)
+
+  written-one : (answers : List ℕ) → 2 * suc i ≤ length answers
+      → writtenAt (answersOf (ran w m bytes i) ++ drop (2 * i) answers) i (step (so-far w m bytes i) (recordAt w bytes i)) ≡ answersOf (ran w m bytes (suc i)) ++ drop (2 * suc i) answers
+  unfolding writtenAt
+  written-one answers h =
+      let p : List ℕ = answersOf (ran w m bytes i) in
+      let d : Done = step (so-far w m bytes i) (recordAt w bytes i) in
+      let q : 2 * i + 2 ≡ 2 * suc i = omega arith in
+      let o : 2 * i + 1 ≡ suc (2 * i) = omega arith in
+      rw (o, set-two p (drop (2 * i) answers) (2 * i) (d .number) (d .value) long (omega (arith, length-drop (2 * i) answers)), drop-drop 2 (2 * i) answers, q, answers-one w m bytes i, append-assoc p (d .number ∷ d .value ∷ []) (drop (2 * suc i) answers))
+
+-- ---- the invariant
+
+pub record Ran (w k : ℕ) (im₀ bytes answers₀ : List ℕ) (n : ℕ) (im answers : List ℕ) (i : ℕ) : Type 0 where
+  pub low : i ≤ n
+  pub image : imageOf w k im ≡ after (imageOf w k im₀) (ran w (imageOf w k im₀) bytes i)
+  pub written : answers ≡ answersOf (ran w (imageOf w k im₀) bytes i) ++ drop (2 * i) answers₀
+  pub answers-long : length (answersOf (ran w (imageOf w k im₀) bytes i)) ≡ 2 * i
+  pub sized : Sized w k im
+  pub same : length im ≡ length im₀
+  pub long : length answers ≡ length answers₀
+  pub undamaged : Undamaged (imageOf w k im)
+
+pub ran-none : (w k : ℕ) (im bytes answers : List ℕ) (n : ℕ) → Sized w k im → Undamaged (imageOf w k im) → Ran w k im bytes answers n im answers 0
+unfolding ran table run after answersOf
+ran-none w k im bytes answers n z u = record { low = zero-le; image = refl; written = refl; answers-long = refl; sized = z; same = refl; long = refl; undamaged = u }
+
+module _ (w k : ℕ) (im₀ bytes answers₀ : List ℕ) (n : ℕ) (im answers : List ℕ) (i : ℕ) (im₁ answers₁ : List ℕ) where
+  pub ran-more : Ran w k im₀ bytes answers₀ n im answers i → i < n → length answers₀ ≡ 2 * n
+      → imageOf w k im₁ ≡ (step (imageOf w k im) (recordAt w bytes i)) .image → answers₁ ≡ writtenAt answers i (step (imageOf w k im) (recordAt w bytes i))
+      → length im₁ ≡ length im → length answers₁ ≡ length answers → Ran w k im₀ bytes answers₀ n im₁ answers₁ (i + 1)
+  ran-more r h l e f d c =
+      let m : Image = imageOf w k im₀ in
+      let q : step (imageOf w k im) (recordAt w bytes i) ≡ step (so-far w m bytes i) (recordAt w bytes i) = ap (λ x. step x (recordAt w bytes i)) (unfold so-far in r .image) in
+      record {
+        low = omega arith;
+        image = rw add-one (e ∙ (ap (λ x. x .image) q ∙ sym (after-one w m bytes i)));
+        written = rw add-one (f ∙ (rw (q, r .written) (written-one w m bytes i (r .answers-long) answers₀ (omega arith))));
+        answers-long = rw add-one (long-one w m bytes i (r .answers-long));
+        sized = record { low = r .sized .low; high = r .sized .high; long = d ∙ r .sized .long };
+        same = d ∙ r .same;
+        long = c ∙ r .long;
+        undamaged = rw e (step-keeps (imageOf w k im) (recordAt w bytes i) (r .undamaged));
+      }
+
+-- ---- the end
+
+ran-all : (w : ℕ) (m : Image) (bytes : List ℕ) (n : ℕ) → n ≡ length bytes / recordBytes w → ran w m bytes n ≡ run m (records w bytes)
+unfolding ran records recordAt
+ran-all w m bytes n e = rw e
+
+module _ (w k : ℕ) (im₀ bytes answers₀ : List ℕ) (n : ℕ) (im answers : List ℕ) where
+  pub ran-end : Ran w k im₀ bytes answers₀ n im answers n → n ≡ length bytes / recordBytes w → length answers₀ ≡ 2 * n
+      → (imageOf w k im ≡ after (imageOf w k im₀) (run (imageOf w k im₀) (records w bytes))) × (answers ≡ answersOf (run (imageOf w k im₀) (records w bytes)))
+  ran-end r h l =
+      let m : Image = imageOf w k im₀ in
+      let e : ran w m bytes n ≡ run m (records w bytes) = ran-all w m bytes n h in
+      (r .image ∙ ap (after m) e, r .written ∙ (rw (drop-of-length-le answers₀ {i = 2 * n} (omega arith)) (append-nil _) ∙ ap answersOf e))

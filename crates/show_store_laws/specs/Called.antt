@@ -1,0 +1,21 @@
+-- Calls of `batch` at words of w bits, one after the other: all that is known of each is its contract.
+use mathlib.Core.Path.{_≡_}
+use mathlib.Core.List.{List, [], _∷_, _++_}
+use Prim.Native.Nat.{ℕ, zero, suc}
+use Rattle.model.specs.Batch.{Batch, batchAt}
+use Rattle.model.specs.Claim.{Lent}
+
+-- batches lent from the image ws on, and what each gave and left; "each batch gets the image that the last left"
+pub data Called (w : ℕ) : List ℕ → List Lent → List Batch → Type 0 where
+  none : {ws : List ℕ} → Called w ws [] []
+  more : {ws : List ℕ} (b : Lent) (r : Batch) (bs : List Lent) (rs : List Batch) → r ≡ batchAt w ws (b .steps) (b .answers) → Called w (r .image) bs rs → Called w ws (b ∷ bs) (r ∷ rs)
+
+-- the answer words that a call with this result has written
+unfoldable pub writtenBy : Batch → ℕ → List ℕ
+writtenBy r zero = r .answers
+writtenBy r (suc n) = []
+
+-- those of all calls
+unfoldable pub written : List Batch → List ℕ
+written [] = []
+written (r ∷ rs) = writtenBy r (r .result) ++ written rs

@@ -1,0 +1,42 @@
+use Rattle.model.specs.Base.{nth, put}
+use Rattle.image.specs.Layout.{width}
+use Rattle.soundness_laws.proofs.Sets.{Copied, t-none, t-more, t-place, t-same, t-end}
+use Prim.Native.Nat.{_-_}
+use native.Mathlib.Omega.{arith}
+use borrow.Author.Needs.{needs}
+use Rattle.soundness.proofs.sets.note_targets.Statement.{statement}
+use Rattle.soundness.proofs.sets.note_targets.Tie as tie
+
+abbrev Inv-loop : tie.InvT-loop
+Inv-loop im k targets₀ n i₀ targets i = Copied width k im targets i
+
+abbrev μ-loop : tie.MeasureT-loop
+μ-loop im k targets₀ n i₀ targets i = n - i
+
+slice-write-targets : tie.Need-slice-write-targets Inv-loop μ-loop
+slice-write-targets c = t-place _ _ _ (c .before .before .before .before .before .before .pre .0) _ _ _ (c .before .before .loop .inv) (omega (arith, c .before .before .before .least .ensures))
+
+loop-again : tie.Need-loop-again Inv-loop μ-loop
+unfolding put
+loop-again c = search t-more
+
+slice-read-x : tie.Need-slice-read-x Inv-loop μ-loop
+slice-read-x c = t-place _ _ _ (c .before .before .before .before .before .before .pre .0) _ _ _ (c .before .before .loop .inv) (omega arith)
+
+slice-write-targets-2 : tie.Need-slice-write-targets-2 Inv-loop μ-loop
+slice-write-targets-2 c = t-place _ _ _ (c .before .before .before .before .before .before .before .pre .0) _ _ _ (c .before .before .before .loop .inv) (omega arith)
+
+same-length : tie.Need-same-length Inv-loop μ-loop
+unfolding put
+same-length c = t-same _ _ _ (c .before .before .before .before .before .before .before .pre .0) _ _ _ _ (c .before .before .before .loop .inv) (c .before .before .before .before .before .before .before .pre .1)
+
+returns : tie.Need-returns Inv-loop μ-loop
+unfolding put nth
+returns c = search t-end
+
+pub note-targets-spec : {M : Type 1} → statement M
+note-targets-spec =
+    tie.close
+    (tie.spec Inv-loop μ-loop (λ c. search needs) (λ c κs. search needs) (λ c. search t-none) (λ c κs. search needs) (λ c. search needs)
+    slice-write-targets (λ c. search needs) (λ c. search needs) loop-again slice-read-x (λ c κs. search needs) slice-write-targets-2 same-length
+    returns)

@@ -1,0 +1,104 @@
+-- Loops that test every number below n, as `all n p` or `any n p`; laws of these tests.
+use mathlib.Core.Path.{_≡_, refl, sym}
+use mathlib.Core.Bool.{Bool, true, false, _&&_, _||_, and-true, and-assoc}
+use Prim.Native.Nat.{ℕ, zero, suc, _+_, _≤_, _<_, min, _-_}
+use native.Mathlib.Numerals.{add-one}
+use native.Mathlib.Nat.{add-zero, add-suc}
+use native.Mathlib.Decide.{ℕ-discrete, decLt}
+use native.Mathlib.Omega.{arith}
+use lib.Dec.{ltb}
+use borrow.Author.Tests.{le-ltb, lt-ltb}
+use Rattle.model.specs.Base.{all, any, every}
+use Rattle.model.specs.Cases.{ok}
+use Rattle.image_laws.proofs.Parts.{all-cong}
+use mathlib.Core.List.{[], _∷_}
+use Rattle.model.specs.Examples.{at}
+
+-- ---- `ok` says whether all below i pass
+
+pub record Checked (n : ℕ) (p : ℕ → Bool) (ok : Bool) (i : ℕ) : Type 0 where
+  pub within : i ≤ n
+  pub so-far : ok ≡ all i p
+
+pub checked-none : {n : ℕ} {p : ℕ → Bool} → Checked n p true 0
+unfolding all
+checked-none {n} = record { within = omega arith; so-far = refl }
+
+-- the first two at once
+pub first-two : (p : ℕ → Bool) (n : ℕ) (a b : Bool) → a ≡ p 0 → b ≡ p 1 → ((ltb n 1 || a) && (ltb n 2 || b)) ≡ all (min 2 n) p
+unfolding all
+first-two p n a b ea eb = rw (ea, eb) (go (decLt n 1) (decLt n 2))
+  where
+    go : Dec (n < 1) → Dec (n < 2) → ((ltb n 1 || p 0) && (ltb n 2 || p 1)) ≡ all (min 2 n) p
+    go (yes h) d = let e : n ≡ 0 = omega arith in rw e
+    go (no h) (yes d) = let e : n ≡ 1 = omega arith in rw e (and-true (p 0))
+    go (no h) (no d) =
+        let e : min 2 n ≡ 2 = omega arith in
+        rw (e, le-ltb n 1 (omega arith), le-ltb n 2 (omega arith))
+
+pub after-two : (n : ℕ) (p : ℕ → Bool) (ok : Bool) (i : ℕ) → i ≡ min 2 n → ok ≡ all (min 2 n) p → Checked n p ok i
+after-two n p ok i h e = record { within = omega arith; so-far = rw (← h) at e }
+
+pub checked-more : (n : ℕ) (p : ℕ → Bool) (ok : Bool) (i : ℕ) (t : Bool) → Checked n p ok i → i < n → t ≡ p i → Checked n p (ok && t) (i + 1)
+unfolding all
+checked-more n p ok i t s h e = rw add-one (record { within = omega arith; so-far = rw (s .so-far, e) })
+
+pub checked-end : (n : ℕ) (p : ℕ → Bool) (ok : Bool) (i : ℕ) → Checked n p ok i → n ≤ i → ok ≡ all n p
+checked-end n p ok i s h = let e : i ≡ n = omega (arith, s .within) in rw e at (s .so-far)
+
+-- ---- `found` says whether some below i passes
+
+pub record Sought (n : ℕ) (p : ℕ → Bool) (found : Bool) (i : ℕ) : Type 0 where
+  pub within : i ≤ n
+  pub so-far : found ≡ any i p
+
+pub sought-none : {n : ℕ} {p : ℕ → Bool} → Sought n p false 0
+unfolding any
+sought-none {n} = record { within = omega arith; so-far = refl }
+
+pub sought-more : (n : ℕ) (p : ℕ → Bool) (found : Bool) (i : ℕ) (t : Bool) → Sought n p found i → i < n → t ≡ p i → Sought n p (found || t) (i + 1)
+unfolding any
+sought-more n p found i t s h e = rw add-one (record { within = omega arith; so-far = rw (s .so-far, e) })
+
+pub sought-end : (n : ℕ) (p : ℕ → Bool) (found : Bool) (i : ℕ) → Sought n p found i → n ≤ i → found ≡ any n p
+sought-end n p found i s h = let e : i ≡ n = omega (arith, s .within) in rw e at (s .so-far)
+
+-- ---- more tests
+
+pub all-append : (a b : ℕ) (p : ℕ → Bool) → all (a + b) p ≡ (all a p && all b (λ i. p (a + i)))
+unfolding all
+all-append a zero p = rw add-zero (sym (and-true (all a p)))
+all-append a (suc b) p = rw (add-suc, all-append a b p) (and-assoc (all a p) _ _)
+
+-- number j apart from the others: b passes it, and is a elsewhere
+pub all-pick : (n : ℕ) (a b : ℕ → Bool) (j : ℕ) → j < n → ((i : ℕ) → (i ≡ j → ⊥) → a i ≡ b i) → b j ≡ true → all n a ≡ (a j && all n b)
+unfolding all
+all-pick zero a b j h f e = absurd (omega arith)
+all-pick (suc n) a b j h f e = go (ℕ-discrete n j) (λ l. all-pick n a b j l f e)
+  where
+    last : (x y : Bool) → (x && y) ≡ (y && (x && true))
+    last true true = refl
+    last true false = refl
+    last false true = refl
+    last false false = refl
+
+    go : Dec (n ≡ j) → (j < n → all n a ≡ (a j && all n b)) → (all n a && a n) ≡ (a j && (all n b && b n))
+    go (yes q) ih = rw (q, e, all-cong j a b (λ i l. f i (λ (z : i ≡ j). omega arith))) (last (all j b) (a j))
+    go (no q) ih = rw (ih (omega arith), f n q) (and-assoc (a j) (all n b) (b n))
+
+-- below the end is no further condition, where none behind it passes
+pub test-inside : (p : ℕ → Bool) (n a : ℕ) → (n ≤ a → p a ≡ false) → every (ltb a n ∷ p a ∷ []) ≡ p a
+unfolding every
+test-inside p n a past = go (decLt a n)
+  where
+    go : Dec (a < n) → (ltb a n && (p a && true)) ≡ p a
+    go (yes h) = rw (lt-ltb a n h) (and-true (p a))
+    go (no h) = rw (le-ltb a n (omega arith), past (omega arith))
+
+-- the same where the test is made of a granule below the end
+pub clamped : (p : ℕ → Bool) (n a b : ℕ) (t : Bool) → (n ≤ a → p a ≡ false) → b ≡ min a (n - 1) → t ≡ p b → (ltb a n && t) ≡ p a
+clamped p n a b t past eb et = go (decLt a n)
+  where
+    go : Dec (a < n) → (ltb a n && t) ≡ p a
+    go (yes h) = let e : b ≡ a = omega arith in rw (lt-ltb a n h, et, e)
+    go (no h) = rw (le-ltb a n (omega arith), past (omega arith))

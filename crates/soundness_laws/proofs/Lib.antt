@@ -1,0 +1,9 @@
+pub mod Checks
+pub mod Starts
+pub mod Sets
+pub mod Marks
+pub mod Pieces
+pub mod Heap
+pub mod Packets
+pub mod Hands
+pub mod Lines

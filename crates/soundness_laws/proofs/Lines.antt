@@ -1,0 +1,115 @@
+-- The lines together: with no cycle those on marks, packets and tracers follow from their words being 0; the ways out of a cycle's lines and of all lines.
+use Prim.Native.Nat.{ℕ, _+_, _*_, suc, _/_, zero, _%_}
+use Rattle.model.proofs.Laws.{all-make, every-use, every-cons, every-nil, zeroes-use}
+use Rattle.model.specs.Base.{nth, all, distinct, bit, every, implies, either, zeroes}
+use Rattle.model.specs.Image.{entries, entriesOf, count, entry, image, imageOf, granules, marked, hand, nextLink, handCard, nextGranule, running, owed, scanned}
+use Rattle.model.specs.Undamaged.{zeroGranule, filled, linksOk, regOk, cardOk, playerOk, generalOk, markOk, entryOk, handOk, handCardOk, tracerOk, heldAt, heldOnce, idleOk, sound}
+use borrow.Author.Tests.{eq-eqb, ne-eqb, le-ltb, not-true, not-false}
+use lib.Dec.{leb}
+use lib.ListN.{take, drop}
+use mathlib.Core.Bool.{Bool, true, false, not, _&&_, and-true, and-assoc, and-false}
+use mathlib.Core.List.{List, []}
+use mathlib.Core.Path.{_≡_, refl, sym, _∙_}
+use native.Mathlib.Omega.{arith}
+use Rattle.soundness_laws.specs.Tests.{packetOkAt, entryOkAt, layout, cycleLines, notScanned, idle, Packed}
+use Rattle.soundness_laws.proofs.Packets.{entries-more, packet-is, all-packets, packed}
+use Rattle.image_laws.specs.Sized.{Sized}
+use Rattle.image_laws.proofs.Bits.{zero-bit}
+use Rattle.image_laws.proofs.Parts.{zero-stretch}
+use Rattle.image_laws.proofs.Lengths.{general-words}
+
+no-entries : (n : ℕ) (ps : List ℕ) → ((i : ℕ) → nth ps i ≡ 0) → entriesOf n ps ≡ []
+unfolding entriesOf
+no-entries zero ps z = refl
+no-entries (suc n) ps z = entries-more n ps ∙ rw (no-entries n ps z, z (32 * n))
+
+-- ---- the lines of a section that is 0
+
+module _ (w k : ℕ) (l : List ℕ) where
+  pub player-lines : (p o s : ℕ) → o ≡ owed (imageOf w k l) p → s ≡ scanned (imageOf w k l) p → (leb o k && leb s 1) ≡ playerOk (imageOf w k l) p
+  unfolding playerOk every imageOf image
+  player-lines p o s eo es = rw (eo, es) (simp and-true)
+
+  pub general-lines : (v : ℕ) (r : Bool) → Sized w k l → v ≡ running (imageOf w k l) → r ≡ zeroes (take 6 (drop 2 (imageOf w k l .general))) → (leb v 1 && r) ≡ generalOk (imageOf w k l)
+  unfolding generalOk every
+  general-lines v r z ev er = rw (ev, er, zero-stretch (imageOf w k l .general) 2 6 (omega (arith, general-words z))) (simp and-true)
+
+  pub no-mark : zeroes (imageOf w k l .marks) ≡ true → (g : ℕ) → marked (imageOf w k l) g ≡ false
+  unfolding marked bit
+  no-mark e g = zero-bit _ _ (zeroes-use (imageOf w k l .marks) e _)
+
+  module _ (z : (i : ℕ) → nth (imageOf w k l .packets) i ≡ 0) where
+    entry-idle : (p e : ℕ) → entryOkAt (imageOf w k l) p e ≡ true
+    unfolding entryOkAt entryOk count entry
+    entry-idle p e = rw (z (32 * p), z (32 * p + 2 + e), le-ltb e 0 (omega arith))
+
+    packet-idle : (s : Sized w k l) (p : ℕ) → packetOkAt (imageOf w k l) p ≡ true
+    unfolding every count
+    packet-idle s p = rw (packet-is w k l s p, z (32 * p), z (32 * p + 1), all-make 30 (entryOkAt (imageOf w k l) p) (λ e h. entry-idle p e))
+
+  module _ (z : (i : ℕ) → nth (imageOf w k l .tracers) i ≡ 0) where
+    tracer-idle : (t : ℕ) → tracerOk (imageOf w k l) t ≡ true
+    unfolding tracerOk every handOk handCardOk either hand nextLink handCard nextGranule
+    tracer-idle t = simp z
+
+    held-idle : (x : ℕ) → heldOnce (imageOf w k l) x ≡ true
+    unfolding heldOnce heldAt either
+    held-idle x = rw (z (8 * (x / 2) + x % 2))
+
+  module _ (s : Sized w k l) where
+    pub idle-cycle : idle (imageOf w k l) ≡ true → cycleLines (imageOf w k l) ≡ true
+    unfolding idle cycleLines markOk implies entries distinct
+    idle-cycle e =
+        let p : (i : ℕ) → nth (imageOf w k l .packets) i ≡ 0 = zeroes-use (imageOf w k l .packets) (every-use _ e 1) in
+        let t : (i : ℕ) → nth (imageOf w k l .tracers) i ≡ 0 = zeroes-use (imageOf w k l .tracers) (every-use _ e 2) in
+        every-cons _ _ (all-make (granules (imageOf w k l)) _ (λ g h. rw (no-mark (every-use _ e 0) g)))
+        (every-cons _ _ (all-packets w k l s ∙ all-make 32 (packetOkAt (imageOf w k l)) (λ i h. packet-idle p s i))
+        (every-cons _ _ (rw (no-entries 32 (imageOf w k l .packets) p))
+        (every-cons _ _ (all-make 8 _ (λ i h. tracer-idle t i))
+        (every-cons _ _ (all-make 16 _ (λ i h. held-idle t i)) every-nil))))
+
+    -- ---- the ways out of `cycle_ok`
+
+    module _ (t : Bool) (e : t ≡ all 32 (packetOkAt (imageOf w k l))) where
+      pub cycle-no : not t ≡ true → false ≡ cycleLines (imageOf w k l)
+      unfolding cycleLines every
+      cycle-no h = rw (all-packets w k l s, ← e, not-true t h) (simp and-false)
+
+      pub cycle-yes : (a b c d : Bool) → not t ≡ false → a ≡ all (granules (imageOf w k l)) (markOk (imageOf w k l)) → b ≡ distinct (entries (imageOf w k l)) → c ≡ all 8 (tracerOk (imageOf w k l)) → d ≡ all 16 (heldOnce (imageOf w k l))
+          → (((a && b) && c) && d) ≡ cycleLines (imageOf w k l)
+      unfolding cycleLines every
+      cycle-yes a b c d h ea eb ec ed = rw (all-packets w k l s, ← e, not-false t h, ← ea, ← eb, ← ec, ← ed) (simp (and-assoc, and-true))
+
+      pub cycle-packed : not t ≡ false → Packed (imageOf w k l)
+      cycle-packed h = packed w k l s (sym e ∙ not-false t h)
+
+    -- ---- the ways out of `is_sound`
+
+    pub layout-is : (a b c d e : Bool) → a ≡ (zeroGranule (imageOf w k l) && (filled (imageOf w k l) && all (granules (imageOf w k l)) (linksOk (imageOf w k l)))) → b ≡ all 256 (regOk (imageOf w k l)) → c ≡ all k (cardOk (imageOf w k l)) → d ≡ all 16 (playerOk (imageOf w k l)) → e ≡ generalOk (imageOf w k l)
+        → ((((a && b) && c) && d) && e) ≡ layout (imageOf w k l)
+    unfolding layout every imageOf image
+    layout-is a b c d e ea eb ec ed ee = rw (ea, eb, ec, ed, ee) (simp (and-assoc, and-true))
+
+    module _ (a : Bool) (ea : a ≡ layout (imageOf w k l)) where
+      sound-is : sound (imageOf w k l) ≡ (a && (cycleLines (imageOf w k l) && idleOk (imageOf w k l)))
+      unfolding sound every cycleLines layout
+      sound-is = rw ea (simp (and-assoc, and-true))
+
+      module _ (v : ℕ) (ev : v ≡ running (imageOf w k l)) where
+        idle-still : v ≡ 0 → idleOk (imageOf w k l) ≡ idle (imageOf w k l)
+        unfolding idleOk implies idle notScanned
+        idle-still h = rw (← ev, eq-eqb v 0 h)
+
+        idle-running : (v ≡ 0 → ⊥) → idleOk (imageOf w k l) ≡ true
+        unfolding idleOk implies
+        idle-running h = rw (← ev, ne-eqb v 0 h)
+
+        pub sound-still : (i : Bool) → v ≡ 0 → i ≡ idle (imageOf w k l) → (a && i) ≡ sound (imageOf w k l)
+        sound-still i h q = rw (sound-is, idle-still h, ← q) (go i q)
+          where
+            go : (i : Bool) → i ≡ idle (imageOf w k l) → (a && i) ≡ (a && (cycleLines (imageOf w k l) && i))
+            go true q = rw (idle-cycle (sym q))
+            go false q = simp and-false
+
+        pub sound-cycle : (y : Bool) → (v ≡ 0 → ⊥) → y ≡ cycleLines (imageOf w k l) → (a && y) ≡ sound (imageOf w k l)
+        sound-cycle y h q = rw (sound-is, idle-running h, ← q) (simp and-true)

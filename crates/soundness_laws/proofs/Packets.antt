@@ -1,0 +1,177 @@
+-- Packets by index: their lines, their entries packet after packet, and whether none is entered twice.
+use Prim.Native.Nat.{ℕ, _+_, _*_, _≤_, _<_, suc, _/_, zero}
+use Rattle.model.proofs.Entries.{nth-drop, nth-take}
+use Rattle.model.proofs.Laws.{all-use, every-use}
+use Rattle.model.specs.Base.{nth, all, eachPiece, bit, setBit, every}
+use Rattle.model.specs.Image.{entries, entriesOf, count, entry, image, imageOf, granules, marked, mostCards}
+use Rattle.model.specs.Undamaged.{entryOk, packetOk}
+use borrow.Author.Tests.{leb-true, ltb-true, lt-ltb, le-ltb}
+use lib.Dec.{eqb, leb, ltb}
+use lib.ListN.{length, getD, take, drop, length-take, length-drop}
+use lib.Seq.{drop-drop, take-suc, take-all}
+use mathlib.Core.Bool.{Bool, true, not, _&&_, and-true, and-assoc}
+use mathlib.Core.List.{List, [], _∷_, _++_, append-assoc, append-nil}
+use mathlib.Core.Path.{_≡_, sym, _∙_, ap}
+use native.Mathlib.Numerals.{add-one}
+use native.Mathlib.Omega.{arith}
+use Rattle.soundness_laws.specs.Sets.{setWords, packetEntries, AddedOnce}
+use Rattle.soundness_laws.specs.Tests.{packetOkAt, entryOkAt, Packed}
+use Rattle.soundness_laws.proofs.Checks.{test-inside}
+use Rattle.soundness_laws.proofs.Sets.{once-none, once-one, once-append}
+use Rattle.model.specs.Cases.{ok}
+use Rattle.model.specs.Steps.{after}
+use Rattle.image_laws.specs.Sized.{Sized}
+use Rattle.image_laws.proofs.Bits.{mark-past}
+use Rattle.image_laws.proofs.Parts.{all-cong, all-none, all-first}
+use Rattle.image_laws.proofs.Places.{word-in}
+use Rattle.image_laws.proofs.Sections.{granules-image}
+use lib.Pow.{high}
+use Rattle.model.specs.Examples.{at}
+use Rattle.model.specs.Rows.{below}
+use Rattle.image_laws.proofs.Lengths.{sized-width, packets-words}
+
+-- ---- pieces by index
+
+pub each-piece : (s n : ℕ) (p : List ℕ → Bool) (ws : List ℕ) → eachPiece s n p ws ≡ all n (λ i. p (take s (drop (s * i) ws)))
+unfolding eachPiece
+each-piece s zero p ws = all-none _
+each-piece s (suc n) p ws =
+    let z : s * 0 ≡ 0 = omega arith in
+    rw (each-piece s n p (drop s ws), all-first n (λ i. p (take s (drop (s * i) ws))), z)
+    (ap (λ b. p (take s ws) && b) (all-cong n _ _ (λ i h. let e : s + s * i ≡ s * suc i = omega arith in rw (drop-drop (s * i) s ws, e))))
+
+-- ---- entries packet after packet
+
+pub entries-more : (n : ℕ) (ps : List ℕ) → entriesOf (suc n) ps ≡ entriesOf n ps ++ take (nth ps (32 * n)) (drop (32 * n + 2) ps)
+unfolding entriesOf
+entries-more zero ps = append-nil _
+entries-more (suc n) ps =
+    let a : 32 + 32 * n ≡ 32 * suc n = omega arith in
+    let b : 32 + (32 * n + 2) ≡ 32 * suc n + 2 = omega arith in
+    rw (append-assoc) (ap (λ r. take (nth ps 0) (drop 2 ps) ++ r)
+    (entries-more n (drop 32 ps) ∙ rw (nth-drop 32 ps (32 * n), drop-drop (32 * n + 2) 32 ps, a, b)))
+
+module _ (w k : ℕ) (l : List ℕ) (z : Sized w k l) where
+  -- ---- one packet
+
+  module _ (p e n x : ℕ) (en : n ≡ nth (imageOf w k l .packets) (32 * p)) (ex : x ≡ nth (imageOf w k l .packets) (32 * p + 2 + e)) where
+    pub entry-in : (r : Bool) → e < n → r ≡ marked (imageOf w k l) x → r ≡ entryOkAt (imageOf w k l) p e
+    unfolding entryOkAt entryOk count entry granules imageOf image
+    entry-in r h q = rw (← en, ← ex, lt-ltb e n h) (q ∙ sym (test-inside (marked (imageOf w k l)) (64 * k) x (mark-past w k l z x)))
+
+    pub entry-past : n ≤ e → eqb x 0 ≡ entryOkAt (imageOf w k l) p e
+    unfolding entryOkAt entryOk count entry
+    entry-past h = rw (← en, ← ex, le-ltb e n h)
+
+  -- word i of packet p
+  packet-nth : (p i : ℕ) → i < 32 → nth (take 32 (drop (32 * p) (imageOf w k l .packets))) i ≡ nth (imageOf w k l .packets) (32 * p + i)
+  packet-nth p i h = nth-take 32 (drop (32 * p) (imageOf w k l .packets)) i h ∙ nth-drop (32 * p) (imageOf w k l .packets) i
+
+  pub packet-is : (p : ℕ) → packetOkAt (imageOf w k l) p ≡ every (leb (count (imageOf w k l) p) 30 ∷ eqb (nth (imageOf w k l .packets) (32 * p + 1)) 0 ∷ all 30 (entryOkAt (imageOf w k l) p) ∷ [])
+  unfolding packetOkAt packetOk entryOkAt count entry every
+  packet-is p =
+      let o : 32 * p + 0 ≡ 32 * p = omega arith in
+      let c : nth (take 32 (drop (32 * p) (imageOf w k l .packets))) 0 ≡ nth (imageOf w k l .packets) (32 * p) = packet-nth p 0 (omega arith) ∙ ap (nth (imageOf w k l .packets)) o in
+      let b : all 30 (λ e. entryOk (imageOf w k l) (ltb e (nth (imageOf w k l .packets) (32 * p))) (nth (take 32 (drop (32 * p) (imageOf w k l .packets))) (2 + e))) ≡ all 30 (λ e. entryOk (imageOf w k l) (ltb e (nth (imageOf w k l .packets) (32 * p))) (nth (imageOf w k l .packets) (32 * p + 2 + e))) =
+      all-cong 30 _ _ (λ e h. let y : 32 * p + (2 + e) ≡ 32 * p + 2 + e = omega arith in rw (packet-nth p (2 + e) (omega arith), y)) in
+      rw (c, packet-nth p 1 (omega arith), b)
+
+  pub packet-all : (p n y : ℕ) (r : Bool) → n ≡ nth (imageOf w k l .packets) (32 * p) → y ≡ nth (imageOf w k l .packets) (32 * p + 1) → r ≡ all 30 (entryOkAt (imageOf w k l) p) → ((leb n 30 && eqb y 0) && r) ≡ packetOkAt (imageOf w k l) p
+  unfolding every count
+  packet-all p n y r en ey er = rw (packet-is p, ← en, ← ey, ← er) (simp (and-assoc, and-true))
+
+  -- ---- all packets
+
+  below-end : (p e : ℕ) → e < count (imageOf w k l) p → entryOkAt (imageOf w k l) p e ≡ true → entry (imageOf w k l) p e < granules (imageOf w k l)
+  unfolding entryOkAt entryOk
+  below-end p e h q = ltb-true _ _ (every-use _ (rw (lt-ltb e (count (imageOf w k l) p) h) at q) 0)
+
+  pub all-packets : eachPiece 32 32 (packetOk (imageOf w k l)) (imageOf w k l .packets) ≡ all 32 (packetOkAt (imageOf w k l))
+  unfolding packetOkAt
+  all-packets = each-piece 32 32 (packetOk (imageOf w k l)) (imageOf w k l .packets)
+
+  pub packed : all 32 (packetOkAt (imageOf w k l)) ≡ true → Packed (imageOf w k l)
+  packed h = record { counts = few; below = in-heap }
+    where
+      lines : (p : ℕ) → p < 32 → (i : ℕ) → getD (leb (count (imageOf w k l) p) 30 ∷ eqb (nth (imageOf w k l .packets) (32 * p + 1)) 0 ∷ all 30 (entryOkAt (imageOf w k l) p) ∷ []) i true ≡ true
+      lines p hp = every-use _ (sym (packet-is p) ∙ all-use 32 (packetOkAt (imageOf w k l)) h p hp)
+
+      few : (p : ℕ) → p < 32 → count (imageOf w k l) p ≤ 30
+      few p hp = leb-true _ _ (lines p hp 0)
+
+      in-heap : (p e : ℕ) → p < 32 → e < count (imageOf w k l) p → entry (imageOf w k l) p e < granules (imageOf w k l)
+      in-heap p e hp he = below-end p e he (all-use 30 (entryOkAt (imageOf w k l) p) (lines p hp 2) e (omega (arith, few p hp)))
+
+-- ---- the entries of a packet, none of them twice
+
+module _ (w k : ℕ) (l : List ℕ) (z : Sized w k l) (packed : Packed (imageOf w k l)) (p : ℕ) (hp : p < 32) where
+  pub few : (n : ℕ) → n ≡ nth (imageOf w k l .packets) (32 * p) → n ≤ 30
+  unfolding count
+  few n e = omega (arith, e, packed .counts p hp)
+
+  entries-length : length (packetEntries (imageOf w k l) p) ≡ count (imageOf w k l) p
+  unfolding packetEntries
+  entries-length = omega (arith, length-take (count (imageOf w k l) p) (drop (32 * p + 2) (imageOf w k l .packets)), length-drop (32 * p + 2) (imageOf w k l .packets), packets-words z, packed .counts p hp)
+
+  entries-nth : (e : ℕ) → e < count (imageOf w k l) p → getD (packetEntries (imageOf w k l) p) e 0 ≡ nth (imageOf w k l .packets) (32 * p + 2 + e)
+  unfolding packetEntries nth
+  entries-nth e h = nth-take (count (imageOf w k l) p) (drop (32 * p + 2) (imageOf w k l .packets)) e h ∙ nth-drop (32 * p + 2) (imageOf w k l .packets) e
+
+-- `after` holds the granules of the first e of the n entries of l besides those of `before`
+pub record EntriesSearched (w : ℕ) (l : List ℕ) (n : ℕ) (before : List ℕ) (ok : Bool) (e : ℕ) (after : List ℕ) : Type 0 where
+  pub within : e ≤ n
+  pub long : length after ≡ setWords w
+  pub so-far : AddedOnce w before (take e l) ok after
+
+pub a-none : {w : ℕ} {l : List ℕ} {n : ℕ} {before : List ℕ} → length before ≡ setWords w → EntriesSearched w l n before true 0 before
+a-none h = record { within = omega arith; long = h; so-far = once-none }
+
+module _ (w k : ℕ) (l : List ℕ) (z : Sized w k l) (packed : Packed (imageOf w k l)) (p : ℕ) (hp : p < 32) (before seen : List ℕ) (n e x : ℕ) (ok : Bool) (a : EntriesSearched w (packetEntries (imageOf w k l) p) n before ok e seen) (h : e < n) (en : n ≡ nth (imageOf w k l .packets) (32 * p)) (ex : x ≡ nth (imageOf w k l .packets) (32 * p + 2 + e)) where
+  a-count : e < count (imageOf w k l) p
+  unfolding count
+  a-count = omega arith
+
+  pub a-place : x / w < length seen
+  unfolding entry
+  a-place =
+      let b : x < 64 * mostCards w = omega (arith, packed .below p e hp a-count, granules-image w k l, z .high) in
+      rw (a .long) (word-in w (mostCards w) (sized-width z) x b)
+
+  pub a-more : (t : Bool) (seen′ : List ℕ) → t ≡ not (bit w seen x) → seen′ ≡ setBit w seen x → EntriesSearched w (packetEntries (imageOf w k l) p) n before (ok && t) (e + 1) seen′
+  a-more t seen′ et es =
+      let o : AddedOnce w seen (x ∷ []) t seen′ = rw (et, es) (once-one w seen x a-place) in
+      let y : getD (packetEntries (imageOf w k l) p) e 0 ≡ x = entries-nth w k l z packed p hp e a-count ∙ sym ex in
+      let g : take (suc e) (packetEntries (imageOf w k l) p) ≡ take e (packetEntries (imageOf w k l) p) ++ (x ∷ []) =
+      rw (take-suc (packetEntries (imageOf w k l) p) e 0 (omega (arith, a-count, entries-length w k l z packed p hp)), y) in
+      rw add-one (record { within = omega arith; long = o .same-length ∙ a .long; so-far = rw g (once-append (a .so-far) o) })
+
+pub a-end : (w k : ℕ) (l : List ℕ) (z : Sized w k l) (packed : Packed (imageOf w k l)) (p : ℕ) (hp : p < 32) (before seen : List ℕ) (n e : ℕ) (ok : Bool)
+    → EntriesSearched w (packetEntries (imageOf w k l) p) n before ok e seen → n ≤ e → n ≡ nth (imageOf w k l .packets) (32 * p) → AddedOnce w before (packetEntries (imageOf w k l) p) ok seen
+unfolding count
+a-end w k l z packed p hp before seen n e ok a h en =
+    let t : take e (packetEntries (imageOf w k l) p) ≡ packetEntries (imageOf w k l) p = take-all e (packetEntries (imageOf w k l) p) (omega (arith, entries-length w k l z packed p hp)) in
+    rw t at (a .so-far)
+
+-- ---- packet after packet
+
+module _ (w k : ℕ) (l : List ℕ) where
+  packet-more : (p : ℕ) → entriesOf (suc p) (imageOf w k l .packets) ≡ entriesOf p (imageOf w k l .packets) ++ packetEntries (imageOf w k l) p
+  unfolding packetEntries count
+  packet-more p = entries-more p (imageOf w k l .packets)
+
+  pub record PacketsSearched (before : List ℕ) (ok : Bool) (p : ℕ) (after : List ℕ) : Type 0 where
+    pub within : p ≤ 32
+    pub long : length after ≡ setWords w
+    pub so-far : AddedOnce w before (entriesOf p (imageOf w k l .packets)) ok after
+
+  pub p-none : (before : List ℕ) → length before ≡ setWords w → PacketsSearched before true 0 before
+  unfolding entriesOf
+  p-none before h = record { within = omega arith; long = h; so-far = once-none }
+
+  pub p-more : (before seen seen′ : List ℕ) (p : ℕ) (ok t : Bool) → PacketsSearched before ok p seen → p < 32 → AddedOnce w seen (packetEntries (imageOf w k l) p) t seen′ → PacketsSearched before (ok && t) (p + 1) seen′
+  p-more before seen seen′ p ok t a h o =
+      rw add-one (record { within = omega arith; long = o .same-length ∙ a .long; so-far = rw (packet-more p) (once-append (a .so-far) o) })
+
+  pub p-end : (before seen : List ℕ) (p : ℕ) (ok : Bool) → PacketsSearched before ok p seen → 32 ≤ p → AddedOnce w before (entries (imageOf w k l)) ok seen
+  unfolding entries
+  p-end before seen p ok a h = let e : p ≡ 32 = omega (arith, a .within) in rw e at (a .so-far)

@@ -1,0 +1,184 @@
+-- Sets of granules as bits: the values that a link may name; no granule entered twice, by the set of those seen.
+use mathlib.Core.Path.{_≡_, refl, sym, ap, _∙_}
+use mathlib.Core.Bool.{Bool, true, false, not, _&&_, _||_, and-true, and-assoc, and-false, or-true, or-false, or-assoc}
+use mathlib.Core.List.{List, [], _∷_, _++_, append-assoc, append-nil}
+use Prim.Native.Nat.{ℕ, _+_, _*_, _/_, _<_, _%_, _^_, _≤_, min}
+use native.Mathlib.Decide.{ℕ-discrete, decLt}
+use native.Mathlib.Omega.{arith}
+use lib.Dec.{eqb}
+use lib.ListN.{length, replicate, length-replicate, set}
+use borrow.Author.Tests.{eq-eqb, ne-eqb}
+use Rattle.model.specs.Base.{nth, elem, distinct, bit, setBit, put, either, testBit, withBit}
+use Rattle.model.specs.Image.{Image, entries, image, imageOf, granules, isStart}
+use Rattle.model.specs.Undamaged.{entered, nilOrStart}
+use Rattle.model.proofs.Laws.{length-put, nth-replicate, nth-put-same, nth-put-other}
+use Rattle.model.proofs.Bits.{setBit-same, setBit-other, bit-zeros}
+use Rattle.soundness_laws.specs.Sets.{Targets, setWords, noneIn, AddedOnce, EnteredSet}
+use Rattle.model.specs.Cases.{ok}
+use Rattle.model.specs.Steps.{after}
+use Rattle.image_laws.specs.Sized.{Sized}
+use Rattle.image_laws.proofs.Bits.{start-past}
+use Rattle.image_laws.proofs.Places.{words-full}
+use native.Mathlib.Nat.{mul-comm, zero-mod, mul-le-mul-left, zero-div, div-mul-le-self}
+use Rattle.soundness_laws.proofs.Checks.{test-inside}
+use Rattle.model.specs.Examples.{at}
+use Rattle.image_laws.proofs.Lengths.{sized-width}
+
+-- ---- the values that a link may name
+
+-- the first i words of start bits stand in the set, and zeros behind them
+pub record Copied (w k : ℕ) (l set : List ℕ) (i : ℕ) : Type 0 where
+  pub within : i ≤ 64 * k / w
+  pub long : length set ≡ 4096
+  pub copied : (j : ℕ) → j < i → nth set j ≡ nth (imageOf w k l .starts) j
+  pub rest : (j : ℕ) → i ≤ j → nth set j ≡ 0
+
+module _ (w k : ℕ) (l : List ℕ) (z : Sized w k l) where
+  pub t-none : (set : List ℕ) → set ≡ replicate 4096 0 → Copied w k l set 0
+  t-none set e = record { within = omega arith; long = rw e (length-replicate {A = ℕ} 4096 0); copied = λ j q. absurd (omega arith); rest = λ j q. rw e (nth-replicate 4096 j) }
+
+  pub t-more : (set : List ℕ) (i v n : ℕ) → Copied w k l set i → n ≡ min (64 * k / w) 4096 → i < n → v ≡ nth (imageOf w k l .starts) i → Copied w k l (put set i v) (i + 1)
+  t-more set i v n c en h e =
+      record {
+        within = omega arith;
+        long = length-put set i v ∙ c .long;
+        copied = λ j q. first j q (ℕ-discrete j i);
+        rest = λ j q. nth-put-other set i j v (λ o. absurd (omega arith)) ∙ c .rest j (omega arith);
+      }
+    where
+      first : (j : ℕ) → j < i + 1 → Dec (j ≡ i) → nth (put set i v) j ≡ nth (imageOf w k l .starts) j
+      first j q (yes o) = rw o (nth-put-same set i v (omega (arith, c .long)) ∙ e)
+      first j q (no o) = nth-put-other set i j v o ∙ c .copied j (omega arith)
+
+  pub t-place : (set : List ℕ) (i j : ℕ) → Copied w k l set i → j < 4096 → j < length set
+  t-place set i j c h = omega (arith, c .long)
+
+  pub t-same : (set was : List ℕ) (i v : ℕ) → Copied w k l set i → was ≡ replicate 4096 0 → length (put set 0 v) ≡ length was
+  t-same set was i v c e = rw (length-put set 0 v, e, length-replicate {A = ℕ} 4096 0) (c .long)
+
+  nil-or-start : (a : ℕ) → (eqb a 0 || isStart (imageOf w k l) a) ≡ nilOrStart (imageOf w k l) a
+  unfolding nilOrStart either granules imageOf image
+  nil-or-start a = rw (test-inside (isStart (imageOf w k l)) (64 * k) a (start-past w k l z a)) (go (eqb a 0))
+    where
+      go : (b : Bool) → (b || isStart (imageOf w k l) a) ≡ either b true (isStart (imageOf w k l) a)
+      go true = refl
+      go false = refl
+
+  start-not-nil : (a : ℕ) → (a ≡ 0 → ⊥) → isStart (imageOf w k l) a ≡ nilOrStart (imageOf w k l) a
+  start-not-nil a h = sym (ap (λ b. b || isStart (imageOf w k l) a) (ne-eqb a 0 h)) ∙ nil-or-start a
+
+  copy-is : (set : List ℕ) (i a : ℕ) → Copied w k l set i → min (64 * k / w) 4096 ≤ i → a / w < 4096 → Dec (a / w < i) → bit w set a ≡ isStart (imageOf w k l) a
+  unfolding bit isStart testBit imageOf image
+  copy-is set i a c h b (yes q) = rw (c .copied (a / w) q)
+  copy-is set i a c h b (no q) =
+      let f : w * (64 * k / w) ≤ w * (a / w) = mul-le-mul-left w (omega arith) in
+      rw (c .rest (a / w) (omega arith), zero-div (2 ^ (a % w)))
+      (sym (start-past w k l z a (omega (arith, words-full w k (sized-width z), div-mul-le-self a w, mul-comm w (a / w)))))
+
+  pub t-end : (set : List ℕ) (i v n : ℕ) → Copied w k l set i → n ≡ min (64 * k / w) 4096 → n ≤ i → v ≡ withBit (nth set 0) 0 → Targets w (imageOf w k l) (put set 0 v)
+  unfolding setBit
+  t-end set i v n c en h e = record { long = length-put set 0 v ∙ c .long; bits = λ a q. rw e (go a q (ℕ-discrete a 0)) }
+    where
+      zeroth : put set 0 (withBit (nth set 0) 0) ≡ setBit w set 0
+      zeroth = rw (zero-div w, zero-mod w)
+
+      go : (a : ℕ) → a / w < 4096 → Dec (a ≡ 0) → bit w (put set 0 (withBit (nth set 0) 0)) a ≡ nilOrStart (imageOf w k l) a
+      go a q (yes o) = rw (zeroth, o) (setBit-same w set 0 (rw (zero-div w) (omega (arith, c .long))) ∙ nil-or-start 0)
+      go a q (no o) = rw zeroth (setBit-other w set 0 a o ∙ (copy-is set i a c (omega arith) q (decLt (a / w) i) ∙ start-not-nil a o))
+
+  -- ---- the ways out of `is_target`
+
+  module _ (set : List ℕ) (t : Targets w (imageOf w k l) set) (a : ℕ) where
+    pub target-place : a / w < 4096 → a / w < length set
+    target-place h = omega (arith, t .long)
+
+    pub target-bit : (r : Bool) → a / w < 4096 → r ≡ bit w set a → r ≡ nilOrStart (imageOf w k l) a
+    target-bit r h e = e ∙ t .bits a h
+
+    not-nil : 4096 ≤ a / w → a ≡ 0 → ⊥
+    not-nil h e = omega (arith, rw e at h, zero-div w)
+
+    pub target-start : (r : Bool) → 4096 ≤ a / w → r ≡ isStart (imageOf w k l) a → r ≡ nilOrStart (imageOf w k l) a
+    target-start r h e = e ∙ start-not-nil a (not-nil h)
+
+    pub target-past : 4096 ≤ a / w → 64 * k ≤ a → false ≡ nilOrStart (imageOf w k l) a
+    target-past h p = sym (start-past w k l z a p) ∙ start-not-nil a (not-nil h)
+
+pub target-word : (m : Image) (a v : ℕ) (r : Bool) → v ≡ a → r ≡ nilOrStart m v → r ≡ nilOrStart m a
+target-word m a v r e q = q ∙ ap (nilOrStart m) e
+
+-- ---- no granule twice, by the set of those seen
+
+eqb-sym : (x y : ℕ) → eqb x y ≡ eqb y x
+eqb-sym x y = go (ℕ-discrete x y)
+  where
+    go : Dec (x ≡ y) → eqb x y ≡ eqb y x
+    go (yes e) = rw e refl
+    go (no e) = rw (ne-eqb x y e, ne-eqb y x (λ q. e (sym q)))
+
+-- one more granule in the set
+bit-more : (w : ℕ) (seen : List ℕ) (x g : ℕ) → x / w < length seen → bit w (setBit w seen x) g ≡ (bit w seen g || eqb g x)
+bit-more w seen x g h = go (ℕ-discrete g x)
+  where
+    go : Dec (g ≡ x) → bit w (setBit w seen x) g ≡ (bit w seen g || eqb g x)
+    go (yes e) = rw (e, setBit-same w seen x h, eq-eqb x x refl) (sym (or-true (bit w seen x)))
+    go (no e) = rw (setBit-other w seen x g e, ne-eqb g x e) (sym (or-false (bit w seen g)))
+
+none-more : (w : ℕ) (seen : List ℕ) (x : ℕ) (l : List ℕ) → x / w < length seen → noneIn w (setBit w seen x) l ≡ (noneIn w seen l && not (elem x l))
+unfolding noneIn elem
+none-more w seen x [] h = refl
+none-more w seen x (y ∷ l) h = rw (none-more w seen x l h, bit-more w seen x y h, eqb-sym x y) (go (bit w seen y) (eqb y x) (noneIn w seen l) (elem x l))
+  where
+    go : (a b c d : Bool) → (not (a || b) && (c && not d)) ≡ ((not a && c) && not (b || d))
+    go true b c d = refl
+    go false true c d = sym (and-false c)
+    go false false c d = refl
+
+pub once-none : {w : ℕ} {before : List ℕ} → AddedOnce w before [] true before
+unfolding elem
+once-none = record { same-length = refl; once = λ rest. refl; holds = λ g. sym (or-false _) }
+
+length-setBit : (w : ℕ) (ws : List ℕ) (g : ℕ) → length (setBit w ws g) ≡ length ws
+unfolding setBit
+length-setBit w ws g = length-put ws _ _
+
+pub once-one : (w : ℕ) (seen : List ℕ) (x : ℕ) → x / w < length seen → AddedOnce w seen (x ∷ []) (not (bit w seen x)) (setBit w seen x)
+unfolding noneIn distinct elem
+once-one w seen x h =
+    record {
+      same-length = length-setBit w seen x;
+      once = λ rest. rw (none-more w seen x rest h) (swap (not (bit w seen x)) (noneIn w seen rest) (not (elem x rest)) (distinct rest));
+      holds = λ g. rw (or-false (eqb g x)) (bit-more w seen x g h);
+    }
+  where
+    swap : (a b c d : Bool) → ((a && b) && (c && d)) ≡ (a && ((b && c) && d))
+    swap true true c d = refl
+    swap true false c d = refl
+    swap false b c d = refl
+
+elem-append : (g : ℕ) (l r : List ℕ) → elem g (l ++ r) ≡ (elem g l || elem g r)
+unfolding elem
+elem-append g [] r = refl
+elem-append g (x ∷ l) r = rw (elem-append g l r) (sym (or-assoc (eqb g x) _ _))
+
+pub once-append : {w : ℕ} {a b c l r : List ℕ} {s t : Bool} → AddedOnce w a l s b → AddedOnce w b r t c → AddedOnce w a (l ++ r) (s && t) c
+once-append {w} {a} {b} {c} {l} {r} {s} {t} p q =
+    record {
+      same-length = q .same-length ∙ p .same-length;
+      once = λ rest. rw (append-assoc l r rest) (p .once (r ++ rest) ∙ rw (q .once rest) (sym (and-assoc s t _)));
+      holds = λ g. q .holds g ∙ rw (p .holds g, elem-append g l r) (or-assoc (bit w a g) (elem g l) (elem g r));
+    }
+
+none-zeros : (w n : ℕ) (l : List ℕ) → noneIn w (replicate n 0) l ≡ true
+unfolding noneIn
+none-zeros w n [] = refl
+none-zeros w n (x ∷ l) = rw (bit-zeros w n x) (none-zeros w n l)
+
+pub once-end : (w n : ℕ) {l after : List ℕ} {ok : Bool} → AddedOnce w (replicate n 0) l ok after → ok ≡ distinct l
+unfolding noneIn distinct
+once-end w n {l} {after} {ok} p =
+    sym (and-true ok) ∙ (sym (p .once []) ∙ rw (append-nil l, none-zeros w n l))
+
+pub once-set : (w : ℕ) (m : Image) (after : List ℕ) (ok : Bool) → AddedOnce w (replicate (setWords w) 0) (entries m) ok after → EnteredSet w m after
+unfolding entered
+once-set w m after ok p = record { long = p .same-length ∙ length-replicate {A = ℕ} (setWords w) 0; just = λ g. rw (bit-zeros w (setWords w) g) at (p .holds g) }

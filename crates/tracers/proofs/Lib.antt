@@ -1,5 +1,0 @@
-pub mod Copy
-pub mod Writes
-pub mod PacketWords
-pub mod TracerWords
-pub mod CardBits

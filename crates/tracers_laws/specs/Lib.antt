@@ -1,0 +1,3 @@
+pub mod Packet
+pub mod Tracer
+pub mod Marks
