@@ -1,7 +1,7 @@
 -- A finish as the code does it is the model's: marking, sweep and end together, on every sound image.
 use mathlib.Core.Path.{_≡_, refl, sym, ap, subst, fun-ext, _∙_}
 use mathlib.Core.Bool.{Bool, true, false}
-use mathlib.Core.List.{List, [], _++_}
+use mathlib.Core.List.{List, _++_}
 use Prim.Native.Nat.{ℕ, _+_, _*_, _<_, _^_}
 use native.Mathlib.Omega.{arith}
 use lib.ListN.{length, getD, set, take, drop, length-drop}
@@ -25,11 +25,10 @@ use Rattle.finish_laws.proofs.Ending.{off-to-all}
 use Rattle.finish_laws.proofs.Freed.{freed-counted, freed-small}
 use Rattle.finish_laws.proofs.gaps.Pieces.{withSweep, swept-all}
 use Rattle.image_laws.specs.Sized.{Sized}
-use Rattle.image_laws.proofs.Lengths.{width-image, cards-image, sized-width, starts-words, marks-words}
+use Rattle.image_laws.proofs.Lengths.{width-image, cards-image, sized-width, starts-words, marks-words, cards-words}
 use Rattle.image_laws.proofs.Places.{granules-small}
 use Rattle.image_laws.proofs.Sections.{image-fits, granules-image}
 use Rattle.image_laws.proofs.Words.{zero-words, bit-words}
-use Rattle.finish_marking_laws.specs.Follow.{untouched}
 use Rattle.finish_marking_laws.specs.Seeds.{KeptMarked}
 use Rattle.finish_marking_laws.proofs.Fits.{sound-lines}
 use Rattle.finish_marking_laws.proofs.seeds.Bared.{same-section}
@@ -90,9 +89,15 @@ module _ {w k : ℕ} {ws ws1 : List ℕ} (z : Sized w k ws) (z1 : Sized w k ws1)
   abbrev m1 : Image
   m1 = imageOf w k ws1
 
+  abbrev is-kept : ℕ → Bool
+  is-kept g = getD (keptSet m) g false
+
+  same-set : (g : ℕ) → marked m1 g ≡ is-kept g
+  same-set = marks-kept m m1 (sited-of m (image-fits z) e) (sound-lines z e) q
+
   -- the sweep over what is kept, and over the marks
   kept-sweep : Swept
-  kept-sweep = sweep (isStart m) (λ g. getD (keptSet m) g false) (granules m) 1 (drop 4 (m .heap))
+  kept-sweep = sweep (isStart m) is-kept (granules m) 1 (drop 4 (m .heap))
 
   marks-sweep : Swept
   marks-sweep = sweep (isStart m1) (marked m1) (granules m) 1 (drop 4 (m1 .heap))
@@ -101,8 +106,8 @@ module _ {w k : ℕ} {ws ws1 : List ℕ} (z : Sized w k ws) (z1 : Sized w k ws1)
   unfolding kept-sweep marks-sweep
   same-sweep =
       ap (λ (st : ℕ → Bool). sweep st (marked m1) (granules m) 1 (drop 4 (m1 .heap))) (fun-ext (q .starts))
-      ∙ ap (λ (kp : ℕ → Bool). sweep (isStart m) kp (granules m) 1 (drop 4 (m1 .heap))) (fun-ext (marks-kept m m1 (sited-of m (image-fits z) e) (sound-lines z e) q))
-      ∙ ap (λ (hs : List ℕ). sweep (isStart m) (λ g. getD (keptSet m) g false) (granules m) 1 (drop 4 hs)) (q .heap)
+      ∙ ap (λ (kp : ℕ → Bool). sweep (isStart m) kp (granules m) 1 (drop 4 (m1 .heap))) (fun-ext same-set)
+      ∙ ap (λ (hs : List ℕ). sweep (isStart m) is-kept (granules m) 1 (drop 4 hs)) (q .heap)
 
   heap-filled : HeapFilled m
   heap-filled = heap-filled-of (sound-lines z e)
@@ -148,12 +153,6 @@ module _ {w k : ℕ} {ws ws1 : List ℕ} (z : Sized w k ws) (z1 : Sized w k ws1)
 
   -- ---- the sections
 
-  abbrev is-kept : ℕ → Bool
-  is-kept g = getD (keptSet m) g false
-
-  sect : (i : ℕ) → getD (untouched m1) i [] ≡ getD (untouched m) i []
-  sect i = same-section (q .rest) i
-
   starts-is : ((i : ℕ) → nth (m1 .marks) i < 2 ^ w) → m1 .marks ≡ addBits (m .width) is-kept (granules m) (zeros (m .starts))
   starts-is small =
       bit-words w k (sized-width z) is-kept (m1 .marks) (marks-words z1) small bits (m .starts) (starts-words z)
@@ -161,12 +160,12 @@ module _ {w k : ℕ} {ws ws1 : List ℕ} (z : Sized w k ws) (z1 : Sized w k ws1)
     where
       bits : (g : ℕ) → g < 64 * k → bit w (m1 .marks) g ≡ is-kept g
       bits g h =
-          let r : bit (m1 .width) (m1 .marks) g ≡ is-kept g = unfold marked in marks-kept m m1 (sited-of m (image-fits z) e) (sound-lines z e) q g in
+          let r : bit (m1 .width) (m1 .marks) g ≡ is-kept g = unfold marked in same-set g in
           rw (width-image w k ws1) at r
 
   general-is : put (put (m1 .general) 1 (firstOf 1 marks-sweep)) 0 0 ≡ put (put (m .general) 0 0) 1 (firstOf 1 kept-sweep)
   unfolding put
-  general-is = set-comm (m1 .general) 1 0 (firstOf 1 marks-sweep) 0 (omega arith) ∙ ap (λ (r : Swept). set (set (m1 .general) 0 0) 1 (firstOf 1 r)) same-sweep ∙ ap (λ (l : List ℕ). set (set l 0 0) 1 (firstOf 1 kept-sweep)) (sect 4)
+  general-is = set-comm (m1 .general) 1 0 (firstOf 1 marks-sweep) 0 (omega arith) ∙ ap (λ (r : Swept). set (set (m1 .general) 0 0) 1 (firstOf 1 r)) same-sweep ∙ ap (λ (l : List ℕ). set (set l 0 0) 1 (firstOf 1 kept-sweep)) (same-section (q .rest) 4)
 
   pub finish-whole : (f : ℕ) (m2 m3 m4 : Image) → f ≡ freedBelow m1 (64 * k) → m2 ≡ sweptAll k m1 → StartsKept w m2 m3 → m4 ≡ ended m3 → finished f m4 ≡ finishStep m
   unfolding finishStep finishWith kept-sweep
@@ -189,9 +188,9 @@ module _ {w k : ℕ} {ws ws1 : List ℕ} (z : Sized w k ws) (z1 : Sized w k ws1)
           (ap (λ (hs : List ℕ). take 4 hs ++ sweptWords marks-sweep) (q .heap) ∙ ap (λ (r : Swept). take 4 (m .heap) ++ sweptWords r) same-sweep)
           (starts-is (λ i. rw same-marks at (s .small i)))
           (same-zeros _ _ (marks-words z1 ∙ sym (marks-words z)))
-          (zero-words _ _ (fits-sizes m1 (image-fits z1) .cards-size ∙ cards-image w k ws1 ∙ sym (cards-image w k ws) ∙ sym (fits-sizes m (image-fits z) .cards-size)) (q .cards))
-          (sect 0)
-          (ap zeros (sect 1))
-          (ap zeros (sect 2))
-          (ap (λ (l : List ℕ). scannedOffTo l 16) (sect 3) ∙ off-to-all (m .players) 16 (fits-sizes m (image-fits z) .players-size))
+          (zero-words _ _ (cards-words z1 ∙ sym (cards-words z)) (q .cards))
+          (same-section (q .rest) 0)
+          (ap zeros (same-section (q .rest) 1))
+          (ap zeros (same-section (q .rest) 2))
+          (ap (λ (l : List ℕ). scannedOffTo l 16) (same-section (q .rest) 3) ∙ off-to-all (m .players) 16 (fits-sizes m (image-fits z) .players-size))
           general-is

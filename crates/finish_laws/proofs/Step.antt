@@ -5,7 +5,7 @@ use borrow.Author.Tests.{eq-eqb, ne-eqb}
 use Rattle.model.specs.Image.{Image, running}
 use Rattle.model.specs.Records.{finish, kindOf}
 use Rattle.model.specs.Finish.{finishStep}
-use Rattle.model.specs.Steps.{numbers-open, wrongPhase, finishDone, accept, act, step}
+use Rattle.model.specs.Steps.{numbers-open, finishDone, accept, act, step}
 use Rattle.request_laws.specs.Answer.{done, asked}
 use Rattle.request_laws.specs.Passed.{Passed}
 use Rattle.request_laws.proofs.Numbers.{number-10, number-0}

@@ -15,23 +15,11 @@ Inv-loop im₀ k i₀ i-end im i = Looped width k i-end (StartsCopied width (ima
 abbrev μ-loop : tie.MeasureT-loop
 μ-loop im₀ k i₀ i-end im i = i-end - i
 
-mul-i-end : tie.Need-mul-i-end Inv-loop μ-loop
-mul-i-end c = search needs
-
 loop-holds : tie.Need-loop-holds Inv-loop μ-loop
 loop-holds c = looped-none (search needs) (copied-none width _)
 
 mark-word-requires : tie.Need-mark-word-requires Inv-loop μ-loop
 mark-word-requires c κs = (c .before .before .loop .inv .sized, omega arith)
-
-set-start-word-requires : tie.Need-set-start-word-requires Inv-loop μ-loop
-set-start-word-requires c κs = search needs
-
-add-i : tie.Need-add-i Inv-loop μ-loop
-add-i c = search needs
-
-loop-less : tie.Need-loop-less Inv-loop μ-loop
-loop-less c = search needs
 
 loop-again : tie.Need-loop-again Inv-loop μ-loop
 loop-again c = let M = c .before .before .before .before in let L = M .before .before .before .loop in looped-more (L .inv) (omega arith) (search needs) (copied-more (L .inv .state) _ (M .mark-word .ensures) (omega arith) (c .before .before .set-start-word .ensures))
@@ -47,13 +35,9 @@ keep-starts-spec =
     tie.close
     (tie.spec
     Inv-loop
-    μ-loop
-    mul-i-end
+    μ-loop (λ c. search needs)
     loop-holds
-    mark-word-requires
-    set-start-word-requires
-    add-i
-    loop-less
+    mark-word-requires (λ c κs. search needs) (λ c. search needs) (λ c. search needs)
     loop-again
     same-length
     returns)

@@ -19,20 +19,8 @@ abbrev μ-loop : tie.MeasureT-loop
 loop-holds : tie.Need-loop-holds Inv-loop μ-loop
 loop-holds c = looped-none (c .before .pre) (off-none _)
 
-mul-set-player-word : tie.Need-mul-set-player-word Inv-loop μ-loop
-mul-set-player-word c = search needs
-
-add-set-player-word : tie.Need-add-set-player-word Inv-loop μ-loop
-add-set-player-word c = search needs
-
 set-player-word-requires : tie.Need-set-player-word-requires Inv-loop μ-loop
 set-player-word-requires c κs = (c .before .before .loop .inv .sized, omega arith)
-
-add-p : tie.Need-add-p Inv-loop μ-loop
-add-p c = search needs
-
-loop-less : tie.Need-loop-less Inv-loop μ-loop
-loop-less c = search needs
 
 loop-again : tie.Need-loop-again Inv-loop μ-loop
 loop-again c = let L = c .before .before .before .before .before .loop in looped-more (L .inv) (omega arith) (search needs) (off-more _ _ _ _ (L .inv .state) (c .before .before .set-player-word .ensures))
@@ -49,12 +37,8 @@ unscan-spec =
     (tie.spec
     Inv-loop
     μ-loop
-    loop-holds
-    mul-set-player-word
-    add-set-player-word
-    set-player-word-requires
-    add-p
-    loop-less
+    loop-holds (λ c. search needs) (λ c. search needs)
+    set-player-word-requires (λ c. search needs) (λ c. search needs)
     loop-again
     same-length
     returns)

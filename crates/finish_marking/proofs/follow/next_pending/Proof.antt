@@ -15,29 +15,11 @@ Inv-loop im k c i₀ e i = Searching width (imageOf width k im) c e i
 abbrev μ-loop : tie.MeasureT-loop
 μ-loop im k c i₀ e i = e - i
 
-mul-i : tie.Need-mul-i Inv-loop μ-loop
-mul-i c = search needs
-
-mul-e : tie.Need-mul-e Inv-loop μ-loop
-mul-e c = search needs
-
-add-e : tie.Need-add-e Inv-loop μ-loop
-add-e c = search needs
-
 loop-holds : tie.Need-loop-holds Inv-loop μ-loop
 loop-holds c = searching-none width _ _ _ _ (sized-width (c .before .pre .0)) refl refl
 
-pending-word-requires : tie.Need-pending-word-requires Inv-loop μ-loop
-pending-word-requires c κs = search needs
-
-cast-j : tie.Need-cast-j Inv-loop μ-loop
-cast-j c = search needs
-
 cast-j-2 : tie.Need-cast-j-2 Inv-loop μ-loop
 cast-j-2 c = omega (arith, pending-lowest width (c .before .pending-word .result) (c .before .before .before .loop .inv .width) (omega arith) (c .if1 .taken) .within)
-
-mul-result : tie.Need-mul-result Inv-loop μ-loop
-mul-result c = search needs
 
 add-result : tie.Need-add-result Inv-loop μ-loop
 add-result c = omega (arith, pending-lowest width (c .before .pending-word .result) (c .before .before .before .loop .inv .width) (omega arith) (c .if1 .taken) .within)
@@ -45,17 +27,8 @@ add-result c = omega (arith, pending-lowest width (c .before .pending-word .resu
 returns : tie.Need-returns Inv-loop μ-loop
 returns c = searching-found (c .before .before .before .loop .inv) (c .before .pending-word .ensures) (c .before .before .loop-test .taken) _ (omega arith) (omega arith) (c .if1 .taken)
 
-add-i : tie.Need-add-i Inv-loop μ-loop
-add-i c = search needs
-
-loop-less : tie.Need-loop-less Inv-loop μ-loop
-loop-less c = search needs
-
 loop-again : tie.Need-loop-again Inv-loop μ-loop
 loop-again c = search searching-more
-
-mul-result-2 : tie.Need-mul-result-2 Inv-loop μ-loop
-mul-result-2 c = search needs
 
 returns-2 : tie.Need-returns-2 Inv-loop μ-loop
 returns-2 c = searching-end (c .before .loop .inv) _ (omega arith)
@@ -65,19 +38,10 @@ next-pending-spec =
     tie.close
     (tie.spec
     Inv-loop
-    μ-loop
-    mul-i
-    mul-e
-    add-e
-    loop-holds
-    pending-word-requires
-    cast-j
-    cast-j-2
-    mul-result
+    μ-loop (λ c. search needs) (λ c. search needs) (λ c. search needs)
+    loop-holds (λ c κs. search needs) (λ c. search needs)
+    cast-j-2 (λ c. search needs)
     add-result
-    returns
-    add-i
-    loop-less
-    loop-again
-    mul-result-2
+    returns (λ c. search needs) (λ c. search needs)
+    loop-again (λ c. search needs)
     returns-2)

@@ -14,38 +14,14 @@ Inv-loop im₀ k head g n h₀ i₀ im h i = Looped width k n (LinksDone k (imag
 abbrev μ-loop : tie.MeasureT-loop
 μ-loop im₀ k head g n h₀ i₀ im h i = n - i
 
-links-requires : tie.Need-links-requires Inv-loop μ-loop
-links-requires c κs = search needs
-
 loop-holds : tie.Need-loop-holds Inv-loop μ-loop
 loop-holds c = let S = c .before .before .before in looped-none (S .pre .0) (links-none _ _ _ _ _ (omega arith) (c .links .ensures))
-
-add-word : tie.Need-add-word Inv-loop μ-loop
-add-word c = search needs
-
-word-requires : tie.Need-word-requires Inv-loop μ-loop
-word-requires c κs = search needs
-
-cast-a : tie.Need-cast-a Inv-loop μ-loop
-cast-a c = search needs
 
 visit-requires : tie.Need-visit-requires Inv-loop μ-loop
 visit-requires c κs = let L = c .before .before .before .before .loop in let S = c .before .before .before .before .before .before .before .before in (search needs, (links-target (L .inv .state) _ (c .before .word .ensures) (S .pre .1 .1) (omega arith), omega (arith, L .inv .state .high)))
 
-add-i : tie.Need-add-i Inv-loop μ-loop
-add-i c = search needs
-
-loop-less : tie.Need-loop-less Inv-loop μ-loop
-loop-less c = search needs
-
 loop-again : tie.Need-loop-again Inv-loop μ-loop
 loop-again c = let B = c .before .before .before .before in let L = B .before .before .before .loop in looped-more (L .inv) (omega arith) (search needs) (links-more (L .inv .state) _ (B .word .ensures) _ _ (c .before .before .visit .ensures .0) (c .before .before .visit .ensures .1))
-
-set-start-requires : tie.Need-set-start-requires Inv-loop μ-loop
-set-start-requires c κs = search needs
-
-same-length : tie.Need-same-length Inv-loop μ-loop
-same-length c = search needs
 
 returns : tie.Need-returns Inv-loop μ-loop
 returns c = let L = c .before .before .before .before .before .loop in (links-end (looped-end (L .inv) (omega arith)) _ (c .before .before .set-start .ensures), omega (arith, L .inv .state .high))
@@ -55,16 +31,8 @@ settle-spec =
     tie.close
     (tie.spec
     Inv-loop
-    μ-loop
-    links-requires
-    loop-holds
-    add-word
-    word-requires
-    cast-a
-    visit-requires
-    add-i
-    loop-less
-    loop-again
-    set-start-requires
-    same-length
+    μ-loop (λ c κs. search needs)
+    loop-holds (λ c. search needs) (λ c κs. search needs) (λ c. search needs)
+    visit-requires (λ c. search needs) (λ c. search needs)
+    loop-again (λ c κs. search needs) (λ c. search needs)
     returns)

@@ -20,12 +20,6 @@ loop-holds c = holding-none (c .before .pre .0)
 hold-requires : tie.Need-hold-requires Inv-loop μ-loop
 hold-requires c κs = let L = c .before .before .loop in (L .inv .sized, (omega arith, rw (same-section (L .inv .state .rest) 0) (c .before .before .before .before .pre .1 _ (omega arith))))
 
-add-i : tie.Need-add-i Inv-loop μ-loop
-add-i c = search needs
-
-loop-less : tie.Need-loop-less Inv-loop μ-loop
-loop-less c = search needs
-
 loop-again : tie.Need-loop-again Inv-loop μ-loop
 loop-again c = let L = c .before .before .before .before .before .loop in holding-more (L .inv) (omega arith) (search needs) (c .before .before .hold .ensures)
 
@@ -42,9 +36,7 @@ hold-all-spec =
     Inv-loop
     μ-loop
     loop-holds
-    hold-requires
-    add-i
-    loop-less
+    hold-requires (λ c. search needs) (λ c. search needs)
     loop-again
     same-length
     returns)

@@ -18,26 +18,11 @@ abbrev μ-loop : tie.MeasureT-loop
 loop-holds : tie.Need-loop-holds Inv-loop μ-loop
 loop-holds c = looped-none (c .before .pre) (listed-none _)
 
-add-set-card : tie.Need-add-set-card Inv-loop μ-loop
-add-set-card c = search needs
-
-cast-set-card : tie.Need-cast-set-card Inv-loop μ-loop
-cast-set-card c = search needs
-
 set-card-requires : tie.Need-set-card-requires Inv-loop μ-loop
 set-card-requires c κs = (c .before .before .loop .inv .sized, omega arith)
 
-add-c : tie.Need-add-c Inv-loop μ-loop
-add-c c = search needs
-
-loop-less : tie.Need-loop-less Inv-loop μ-loop
-loop-less c = search needs
-
 loop-again : tie.Need-loop-again Inv-loop μ-loop
 loop-again c = let L = c .before .before .before .before .before .loop in looped-more (L .inv) (omega arith) (search needs) (listed-more _ _ _ _ (L .inv .state) (omega (arith, cards-words (L .inv .sized))) (c .before .before .set-card .ensures))
-
-add-result : tie.Need-add-result Inv-loop μ-loop
-add-result c = search needs
 
 same-length : tie.Need-same-length Inv-loop μ-loop
 same-length c = c .before .loop .inv .same
@@ -51,13 +36,8 @@ list-all-spec =
     (tie.spec
     Inv-loop
     μ-loop
-    loop-holds
-    add-set-card
-    cast-set-card
-    set-card-requires
-    add-c
-    loop-less
-    loop-again
-    add-result
+    loop-holds (λ c. search needs) (λ c. search needs)
+    set-card-requires (λ c. search needs) (λ c. search needs)
+    loop-again (λ c. search needs)
     same-length
     returns)

@@ -20,20 +20,8 @@ abbrev μ-loop : tie.MeasureT-loop
 loop-holds : tie.Need-loop-holds Inv-loop μ-loop
 loop-holds c = opening-none (c .before .pre .0)
 
-mul-open-word : tie.Need-mul-open-word Inv-loop μ-loop
-mul-open-word c = search needs
-
-add-open-word : tie.Need-add-open-word Inv-loop μ-loop
-add-open-word c = search needs
-
 open-word-requires : tie.Need-open-word-requires Inv-loop μ-loop
 open-word-requires c κs = (c .before .before .loop .inv .sized, omega arith)
-
-add-i : tie.Need-add-i Inv-loop μ-loop
-add-i c = search needs
-
-loop-less : tie.Need-loop-less Inv-loop μ-loop
-loop-less c = search needs
 
 loop-again : tie.Need-loop-again Inv-loop μ-loop
 loop-again c = let L = c .before .before .before .before .before .loop in opening-more (L .inv) (omega arith) (search needs) (card-word width _ _ (L .inv .state) (c .before .before .open-word .ensures))
@@ -50,12 +38,8 @@ open-card-spec =
     (tie.spec
     Inv-loop
     μ-loop
-    loop-holds
-    mul-open-word
-    add-open-word
-    open-word-requires
-    add-i
-    loop-less
+    loop-holds (λ c. search needs) (λ c. search needs)
+    open-word-requires (λ c. search needs) (λ c. search needs)
     loop-again
     same-length
     returns)

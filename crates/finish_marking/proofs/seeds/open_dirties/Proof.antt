@@ -22,12 +22,6 @@ loop-holds c = opening-none (c .before .pre)
 open-dirty-requires : tie.Need-open-dirty-requires Inv-loop μ-loop
 open-dirty-requires c κs = (c .before .before .loop .inv .sized, omega arith)
 
-add-c : tie.Need-add-c Inv-loop μ-loop
-add-c c = search needs
-
-loop-less : tie.Need-loop-less Inv-loop μ-loop
-loop-less c = search needs
-
 loop-again : tie.Need-loop-again Inv-loop μ-loop
 loop-again c = let L = c .before .before .before .before .before .loop in opening-more (L .inv) (omega arith) (search needs) (dirty-as (L .inv .state) (c .before .before .open-dirty .ensures))
 
@@ -44,9 +38,7 @@ open-dirties-spec =
     Inv-loop
     μ-loop
     loop-holds
-    open-dirty-requires
-    add-c
-    loop-less
+    open-dirty-requires (λ c. search needs) (λ c. search needs)
     loop-again
     same-length
     returns)

@@ -21,12 +21,6 @@ loop-holds c = opening-none (c .before .pre .0)
 open-entry-requires : tie.Need-open-entry-requires Inv-loop μ-loop
 open-entry-requires c κs = let L = c .before .before .loop in (L .inv .sized, (omega arith, λ h. rw (same-section (L .inv .state .rest) 1) (c .before .before .before .before .pre .1 _ (omega arith) h)))
 
-add-i : tie.Need-add-i Inv-loop μ-loop
-add-i c = search needs
-
-loop-less : tie.Need-loop-less Inv-loop μ-loop
-loop-less c = search needs
-
 loop-again : tie.Need-loop-again Inv-loop μ-loop
 loop-again c = let L = c .before .before .before .before .before .loop in opening-more (L .inv) (omega arith) (search needs) (entry-as (L .inv .state) (c .before .before .open-entry .ensures))
 
@@ -43,9 +37,7 @@ open-entries-spec =
     Inv-loop
     μ-loop
     loop-holds
-    open-entry-requires
-    add-i
-    loop-less
+    open-entry-requires (λ c. search needs) (λ c. search needs)
     loop-again
     same-length
     returns)

@@ -22,12 +22,6 @@ loop-holds c = opening-none (c .before .pre .0)
 open-hand-requires : tie.Need-open-hand-requires Inv-loop μ-loop
 open-hand-requires c κs = let L = c .before .before .loop in (L .inv .sized, (omega arith, rw (same-section (L .inv .state .rest) 2) (c .before .before .before .before .pre .1 _ (omega arith))))
 
-add-t : tie.Need-add-t Inv-loop μ-loop
-add-t c = search needs
-
-loop-less : tie.Need-loop-less Inv-loop μ-loop
-loop-less c = search needs
-
 loop-again : tie.Need-loop-again Inv-loop μ-loop
 loop-again c = let L = c .before .before .before .before .before .loop in opening-more (L .inv) (omega arith) (search needs) (hand-as (L .inv .state) (c .before .before .open-hand .ensures))
 
@@ -44,9 +38,7 @@ open-hands-spec =
     Inv-loop
     μ-loop
     loop-holds
-    open-hand-requires
-    add-t
-    loop-less
+    open-hand-requires (λ c. search needs) (λ c. search needs)
     loop-again
     same-length
     returns)
