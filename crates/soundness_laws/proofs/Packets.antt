@@ -18,15 +18,11 @@ use Rattle.soundness_laws.specs.Sets.{setWords, packetEntries, AddedOnce
 use Rattle.soundness_laws.specs.Tests.{packetOkAt, entryOkAt, Packed, entryMarked}
 use Rattle.soundness_laws.proofs.Checks.{test-inside, all-append}
 use Rattle.soundness_laws.proofs.Sets.{once-none, once-one, once-append}
-use Rattle.model.specs.Cases.{ok}
-use Rattle.model.specs.Steps.{after}
 use Rattle.image_laws.specs.Sized.{Sized}
 use Rattle.image_laws.proofs.Bits.{mark-past}
 use Rattle.image_laws.proofs.Parts.{all-cong, all-none, all-first, zero-stretch}
 use Rattle.image_laws.proofs.Places.{word-in}
 use Rattle.image_laws.proofs.Sections.{granules-image}
-use lib.Pow.{high}
-use Rattle.model.specs.Examples.{at}
 use Rattle.model.specs.Rows.{below}
 use Rattle.image_laws.proofs.Lengths.{sized-width, packets-words}
 

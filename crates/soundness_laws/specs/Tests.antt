@@ -7,6 +7,7 @@ use lib.Dec.{eqb, ltb}
 use lib.ListN.{take, drop}
 use Rattle.model.specs.Base.{all, every, distinct, eachPiece, zeroes}
 use Rattle.model.specs.Image.{Image, granules, word, isStart, marked, links, link, count, entry, entries, scanned}
+use Rattle.image_laws.specs.Digits.{startBit}
 use Rattle.model.specs.Undamaged.{piece, zeroGranule, filled, nilOrStart, linksOk, regOk, playerOk, cardOk, generalOk, markOk, entryOk, packetOk, tracerOk, heldAt, heldOnce}
 use Rattle.model.specs.Steps.{run}
 
@@ -23,7 +24,7 @@ module _ (m : Image) where
   -- how many of the n granules from a on are starts
   unfoldable pub startsIn : ℕ → ℕ → ℕ
   startsIn a zero = 0
-  startsIn a (suc n) = startsIn a n + cond (isStart m (a + n)) 1 0
+  startsIn a (suc n) = startsIn a n + startBit m (a + n)
 
   unfoldable pub linkOk : ℕ → ℕ → Bool
   linkOk g i = nilOrStart m (link m g i)
