@@ -8,7 +8,7 @@ use native.Mathlib.Decide.{ℕ-discrete}
 use lib.Dec.{ltb, eqb, lit<, leb}
 use borrow.Author.Tests.{ltb-true, lt-ltb, eq-eqb, ne-eqb}
 use Rattle.model.specs.Base.{best, every, any, some, testBit, withBit, nth}
-use Rattle.model.specs.Image.{Image, count, input, output, entries}
+use Rattle.model.specs.Image.{Image, count, input, output}
 use Rattle.model.specs.Collect.{held, emptiest, hasEntries, fullest}
 use Rattle.model.proofs.Laws.{best-ok, every-use, false≢}
 use Rattle.model.proofs.Bits.{withBit-same, withBit-other}

@@ -18,7 +18,6 @@ use Rattle.tracers_laws.specs.Tracer.{Tracer, tracerAt, withInput, withOutput, 
 use Rattle.tracers_laws.proofs.Tracer.{input-written, input-output-written}
 use Rattle.collector_laws.specs.Outcome.{doneUnless}
 use Rattle.collector_laws.proofs.Pool.{input-few, output-few}
-use Rattle.model.specs.Rows.{below}
 
 -- ---- the state that was read
 

@@ -2,7 +2,6 @@
 use mathlib.Core.Bool.{Bool, true, false}
 use Rattle.model.specs.Image.{Image}
 use Rattle.request_laws.specs.Answer.{done}
-use Rattle.model.specs.Steps.{Done}
 use Rattle.model.specs.Steps as steps
 
 -- nothing to do (true), or image m becomes m′

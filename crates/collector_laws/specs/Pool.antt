@@ -5,7 +5,7 @@ use mathlib.Core.List.{[], _∷_}
 use Prim.Native.Nat.{ℕ, zero, suc, _-_, _<_}
 use lib.Dec.{leb, eqb}
 use Rattle.model.specs.Base.{withBit, some}
-use Rattle.model.specs.Image.{Image, count, input, output, entries}
+use Rattle.model.specs.Image.{Image, count, input, output}
 use Rattle.collector_laws.specs.declared.Choice.{Choice}
 use Rattle.theory.specs.Fields.{bound}
 

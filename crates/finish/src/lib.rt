@@ -3,23 +3,27 @@ ghost use mathlib.Core.Path.{_≡_};
 ghost use mathlib.Core.Bool.{true};
 ghost use Rattle.model.specs.Undamaged.{sound};
 ghost use Rattle.model.specs.Finish.{finishStep};
-ghost use Rattle.image.specs.Sized.{Sized, narrow};
-ghost use Rattle.finish.specs.Ending.{finished};
+ghost use Rattle.model.specs.Image.{imageOf};
+ghost use Rattle.image_laws.specs.Sized.{Sized};
+ghost use Rattle.image.specs.Layout.{width};
+ghost use Rattle.finish_laws.specs.Ending.{finished};
+use image::layout::Word;
 
 pub mod ending; // ending.rt: the end of a finish
 pub mod freed; // freed.rt: the granules freed
 pub mod gaps; // gaps.rt: the sweep
+pub mod step; // step.rt: kind 13, the finish as a step
 
 // The value: granules freed.
-pub fn finish(im: &mut [u16], k: usize) -> u16
-    requires { ⌜ Sized k (now im) ⌝ }
-    requires { ⌜ sound (narrow k (now im)) ≡ true ⌝ }
-    ensures { λ r. ⌜ finished r (narrow k (now (im .exit))) ≡ finishStep (narrow k (now (im .entry))) ⌝ }
+pub fn finish(im: &mut [Word], k: usize) -> Word
+    requires { ⌜ Sized width k (now im) ⌝ }
+    requires { ⌜ sound (imageOf width k (now im)) ≡ true ⌝ }
+    ensures { λ r. ⌜ finished r (imageOf width k (now (im .exit))) ≡ finishStep (imageOf width k (now (im .entry))) ⌝ }
 {
     finish_marking::mark_found(im, k);
     let f = freed::count_freed(im, k);
     gaps::sweep_all(im, k);
     ending::keep_starts(im, k);
     ending::end_cycle(im, k);
-    f as u16
+    f as Word
 }

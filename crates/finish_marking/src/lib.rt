@@ -2,17 +2,20 @@
 ghost use mathlib.Core.Path.{_≡_};
 ghost use mathlib.Core.Bool.{true};
 ghost use Rattle.model.specs.Undamaged.{sound};
-ghost use Rattle.image.specs.Sized.{Sized, narrow};
-ghost use Rattle.finish_marking.specs.Seeds.{KeptMarked};
+ghost use Rattle.model.specs.Image.{imageOf};
+ghost use Rattle.image_laws.specs.Sized.{Sized};
+ghost use Rattle.image.specs.Layout.{width};
+ghost use Rattle.finish_marking_laws.specs.Seeds.{KeptMarked};
+use image::layout::Word;
 
 pub mod follow; // follow.rt: links followed from pending objects on, with the cards as a work list
 pub mod seeds; // seeds.rt: the objects whose links are followed first
 
 // Marks all that a finish keeps: the seeds become pending, then their links are followed.
-pub fn mark_found(im: &mut [u16], k: usize)
-    requires { ⌜ Sized k (now im) ⌝ }
-    requires { ⌜ sound (narrow k (now im)) ≡ true ⌝ }
-    ensures { λ _. ⌜ KeptMarked (narrow k (now (im .entry))) (narrow k (now (im .exit))) ⌝ }
+pub fn mark_found(im: &mut [Word], k: usize)
+    requires { ⌜ Sized width k (now im) ⌝ }
+    requires { ⌜ sound (imageOf width k (now im)) ≡ true ⌝ }
+    ensures { λ _. ⌜ KeptMarked (imageOf width k (now (im .entry))) (imageOf width k (now (im .exit))) ⌝ }
 {
     seeds::open_entries(im, k);
     seeds::open_hands(im, k);

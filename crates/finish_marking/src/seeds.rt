@@ -3,17 +3,21 @@
 ghost use mathlib.Core.Path.{_≡_};
 ghost use Prim.Native.Nat.{ℕ, _+_, _*_, _/_, _%_, _≤_, _<_};
 ghost use Rattle.model.specs.Base.{nth};
-ghost use Rattle.image.specs.Sized.{Sized, narrow};
-ghost use Rattle.finish_marking.specs.Mark.{markBit};
-ghost use Rattle.finish_marking.specs.Seeds.{Bared, Opened, Same, WordAt, CardAt, EntryAt, HandAt, DirtyAt, HeldAt, Upto, EntriesIn, HandsIn, RegsIn, ListedAll};
+ghost use Rattle.model.specs.Image.{imageOf};
+ghost use Rattle.image_laws.specs.Sized.{Sized};
+ghost use Rattle.image_laws.specs.Digits.{markBit};
+ghost use Rattle.image.specs.Layout.{width};
+ghost use Rattle.finish_marking_laws.specs.Seeds.{Bared, Opened, Refers, WordAt, CardAt, EnteredAt, HandAt, DirtyAt, HeldAt, Upto, EntriesIn, HandsIn, RegsIn, ListedAll};
+use image::layout::BITS;
+use image::layout::Word;
 
 // ---- what is due
 
 // The object a, if it is one, loses its start bit.
-pub fn open_one(im: &mut [u16], k: usize, a: usize)
-    requires { ⌜ Sized k (now im) ⌝ }
+pub fn open_one(im: &mut [Word], k: usize, a: usize)
+    requires { ⌜ Sized width k (now im) ⌝ }
     requires { ⌜ a < 64 * k ⌝ }
-    ensures { λ _. ⌜ Bared (narrow k (now (im .entry))) (narrow k (now (im .exit))) (Same a) ⌝ }
+    ensures { λ _. ⌜ Bared (imageOf width k (now (im .entry))) (imageOf width k (now (im .exit))) (Refers a) ⌝ }
 {
     if a == 0 {
         return;
@@ -21,51 +25,51 @@ pub fn open_one(im: &mut [u16], k: usize, a: usize)
     image::bits::clear_start(im, k, a);
 }
 
-// The marked granules of word w lose their start bits.
-pub fn open_word(im: &mut [u16], k: usize, w: usize)
-    requires { ⌜ Sized k (now im) ⌝ }
-    requires { ⌜ w < 4 * k ⌝ }
-    ensures { λ _. ⌜ Bared (narrow k (now (im .entry))) (narrow k (now (im .exit))) (WordAt (markBit (narrow k (now (im .entry)))) w) ⌝ }
+// The marked granules of bit word i lose their start bits.
+pub fn open_word(im: &mut [Word], k: usize, i: usize)
+    requires { ⌜ Sized width k (now im) ⌝ }
+    requires { ⌜ i < 64 * k / width ⌝ }
+    ensures { λ _. ⌜ Bared (imageOf width k (now (im .entry))) (imageOf width k (now (im .exit))) (WordAt width (markBit (imageOf width k (now (im .entry)))) i) ⌝ }
 {
-    let m = image::mark_word(im, k, w);
-    let s = image::start_word(im, k, w);
-    image::set_start_word(im, k, w, s & !m);
+    let m = image::sections::mark_word(im, k, i);
+    let s = image::sections::start_word(im, k, i);
+    image::sections::set_start_word(im, k, i, s & !m);
 }
 
 // The marked granules of card c lose their start bits.
-pub fn open_card(im: &mut [u16], k: usize, c: usize)
-    requires { ⌜ Sized k (now im) ⌝ }
+pub fn open_card(im: &mut [Word], k: usize, c: usize)
+    requires { ⌜ Sized width k (now im) ⌝ }
     requires { ⌜ c < k ⌝ }
-    ensures { λ _. ⌜ Bared (narrow k (now (im .entry))) (narrow k (now (im .exit))) (CardAt (markBit (narrow k (now (im .entry)))) c) ⌝ }
+    ensures { λ _. ⌜ Bared (imageOf width k (now (im .entry))) (imageOf width k (now (im .exit))) (CardAt (markBit (imageOf width k (now (im .entry)))) c) ⌝ }
 {
-    for i in 0..4 {
-        open_word(im, k, 4 * c + i);
+    for i in 0..64 / BITS {
+        open_word(im, k, 64 / BITS * c + i);
     }
 }
 
 // Word i of the packets, if it is an entry.
-pub fn open_entry(im: &mut [u16], k: usize, i: usize)
-    requires { ⌜ Sized k (now im) ⌝ }
+pub fn open_entry(im: &mut [Word], k: usize, i: usize)
+    requires { ⌜ Sized width k (now im) ⌝ }
     requires { ⌜ i < 1024 ⌝ }
-    requires { ⌜ (2 ≤ i % 32 → nth (narrow k (now im) .packets) i < 64 * k) ⌝ }
-    ensures { λ _. ⌜ Bared (narrow k (now (im .entry))) (narrow k (now (im .exit))) (EntryAt (narrow k (now (im .entry)) .packets) i) ⌝ }
+    requires { ⌜ (2 ≤ i % 32 → nth (imageOf width k (now im) .packets) i < 64 * k) ⌝ }
+    ensures { λ _. ⌜ Bared (imageOf width k (now (im .entry))) (imageOf width k (now (im .exit))) (EnteredAt (imageOf width k (now (im .entry)) .packets) i) ⌝ }
 {
     if i % 32 < 2 {
         return;
     }
-    let a = image::packet_word(im, k, i) as usize;
+    let a = image::sections::packet_word(im, k, i) as usize;
     open_one(im, k, a);
 }
 
 // The object and the card in tracer t's hand.
-pub fn open_hand(im: &mut [u16], k: usize, t: usize)
-    requires { ⌜ Sized k (now im) ⌝ }
+pub fn open_hand(im: &mut [Word], k: usize, t: usize)
+    requires { ⌜ Sized width k (now im) ⌝ }
     requires { ⌜ t < 8 ⌝ }
-    requires { ⌜ (nth (narrow k (now im) .tracers) (8 * t + 2) < 64 * k) × (nth (narrow k (now im) .tracers) (8 * t + 4) ≤ k) ⌝ }
-    ensures { λ _. ⌜ Bared (narrow k (now (im .entry))) (narrow k (now (im .exit))) (HandAt (narrow k (now (im .entry)) .tracers) (markBit (narrow k (now (im .entry)))) t) ⌝ }
+    requires { ⌜ (nth (imageOf width k (now im) .tracers) (8 * t + 2) < 64 * k) × (nth (imageOf width k (now im) .tracers) (8 * t + 4) ≤ k) ⌝ }
+    ensures { λ _. ⌜ Bared (imageOf width k (now (im .entry))) (imageOf width k (now (im .exit))) (HandAt (imageOf width k (now (im .entry)) .tracers) (markBit (imageOf width k (now (im .entry)))) t) ⌝ }
 {
-    let c = image::tracer_word(im, k, 8 * t + 4) as usize;
-    let a = image::tracer_word(im, k, 8 * t + 2) as usize;
+    let c = image::sections::tracer_word(im, k, 8 * t + 4) as usize;
+    let a = image::sections::tracer_word(im, k, 8 * t + 2) as usize;
     open_one(im, k, a);
     if c == 0 {
         return;
@@ -74,32 +78,26 @@ pub fn open_hand(im: &mut [u16], k: usize, t: usize)
 }
 
 // Card c, if it is dirty.
-pub fn open_dirty(im: &mut [u16], k: usize, c: usize)
-    requires { ⌜ Sized k (now im) ⌝ }
+pub fn open_dirty(im: &mut [Word], k: usize, c: usize)
+    requires { ⌜ Sized width k (now im) ⌝ }
     requires { ⌜ c < k ⌝ }
-    ensures { λ _. ⌜ Bared (narrow k (now (im .entry))) (narrow k (now (im .exit))) (DirtyAt (narrow k (now (im .entry)) .cards) (markBit (narrow k (now (im .entry)))) c) ⌝ }
+    ensures { λ _. ⌜ Bared (imageOf width k (now (im .entry))) (imageOf width k (now (im .exit))) (DirtyAt (imageOf width k (now (im .entry)) .cards) (markBit (imageOf width k (now (im .entry)))) c) ⌝ }
 {
-    let v = image::card(im, k, c);
-    if v == 1 {
+    if image::cards::is_dirty(im, k, c) {
         open_card(im, k, c);
-        return;
-    }
-    if v == 3 {
-        open_card(im, k, c);
-        return;
     }
 }
 
 // ---- what registers hold
 
 // The object in word i of the registers, if it is one and not marked.
-pub fn hold(im: &mut [u16], k: usize, i: usize)
-    requires { ⌜ Sized k (now im) ⌝ }
+pub fn hold(im: &mut [Word], k: usize, i: usize)
+    requires { ⌜ Sized width k (now im) ⌝ }
     requires { ⌜ i < 256 ⌝ }
-    requires { ⌜ nth (narrow k (now im) .regs) i < 64 * k ⌝ }
-    ensures { λ _. ⌜ Opened (narrow k (now (im .entry))) (narrow k (now (im .exit))) (HeldAt (narrow k (now (im .entry)) .regs) (markBit (narrow k (now (im .entry)))) i) ⌝ }
+    requires { ⌜ nth (imageOf width k (now im) .regs) i < 64 * k ⌝ }
+    ensures { λ _. ⌜ Opened (imageOf width k (now (im .entry))) (imageOf width k (now (im .exit))) (HeldAt (imageOf width k (now (im .entry)) .regs) (markBit (imageOf width k (now (im .entry)))) i) ⌝ }
 {
-    let a = image::reg_word(im, k, i) as usize;
+    let a = image::sections::reg_word(im, k, i) as usize;
     if a == 0 {
         return;
     }
@@ -112,39 +110,39 @@ pub fn hold(im: &mut [u16], k: usize, i: usize)
 
 // ---- all of them
 
-pub fn open_entries(im: &mut [u16], k: usize)
-    requires { ⌜ Sized k (now im) ⌝ }
-    requires { ⌜ EntriesIn k (narrow k (now im) .packets) ⌝ }
-    ensures { λ _. ⌜ Bared (narrow k (now (im .entry))) (narrow k (now (im .exit))) (Upto (EntryAt (narrow k (now (im .entry)) .packets)) 1024) ⌝ }
+pub fn open_entries(im: &mut [Word], k: usize)
+    requires { ⌜ Sized width k (now im) ⌝ }
+    requires { ⌜ EntriesIn k (imageOf width k (now im) .packets) ⌝ }
+    ensures { λ _. ⌜ Bared (imageOf width k (now (im .entry))) (imageOf width k (now (im .exit))) (Upto (EnteredAt (imageOf width k (now (im .entry)) .packets)) 1024) ⌝ }
 {
     for i in 0..1024 {
         open_entry(im, k, i);
     }
 }
 
-pub fn open_hands(im: &mut [u16], k: usize)
-    requires { ⌜ Sized k (now im) ⌝ }
-    requires { ⌜ HandsIn k (narrow k (now im) .tracers) ⌝ }
-    ensures { λ _. ⌜ Bared (narrow k (now (im .entry))) (narrow k (now (im .exit))) (Upto (HandAt (narrow k (now (im .entry)) .tracers) (markBit (narrow k (now (im .entry))))) 8) ⌝ }
+pub fn open_hands(im: &mut [Word], k: usize)
+    requires { ⌜ Sized width k (now im) ⌝ }
+    requires { ⌜ HandsIn k (imageOf width k (now im) .tracers) ⌝ }
+    ensures { λ _. ⌜ Bared (imageOf width k (now (im .entry))) (imageOf width k (now (im .exit))) (Upto (HandAt (imageOf width k (now (im .entry)) .tracers) (markBit (imageOf width k (now (im .entry))))) 8) ⌝ }
 {
     for t in 0..8 {
         open_hand(im, k, t);
     }
 }
 
-pub fn open_dirties(im: &mut [u16], k: usize)
-    requires { ⌜ Sized k (now im) ⌝ }
-    ensures { λ _. ⌜ Bared (narrow k (now (im .entry))) (narrow k (now (im .exit))) (Upto (DirtyAt (narrow k (now (im .entry)) .cards) (markBit (narrow k (now (im .entry))))) k) ⌝ }
+pub fn open_dirties(im: &mut [Word], k: usize)
+    requires { ⌜ Sized width k (now im) ⌝ }
+    ensures { λ _. ⌜ Bared (imageOf width k (now (im .entry))) (imageOf width k (now (im .exit))) (Upto (DirtyAt (imageOf width k (now (im .entry)) .cards) (markBit (imageOf width k (now (im .entry))))) k) ⌝ }
 {
     for c in 0..k {
         open_dirty(im, k, c);
     }
 }
 
-pub fn hold_all(im: &mut [u16], k: usize)
-    requires { ⌜ Sized k (now im) ⌝ }
-    requires { ⌜ RegsIn k (narrow k (now im) .regs) ⌝ }
-    ensures { λ _. ⌜ Opened (narrow k (now (im .entry))) (narrow k (now (im .exit))) (Upto (HeldAt (narrow k (now (im .entry)) .regs) (markBit (narrow k (now (im .entry))))) 256) ⌝ }
+pub fn hold_all(im: &mut [Word], k: usize)
+    requires { ⌜ Sized width k (now im) ⌝ }
+    requires { ⌜ RegsIn k (imageOf width k (now im) .regs) ⌝ }
+    ensures { λ _. ⌜ Opened (imageOf width k (now (im .entry))) (imageOf width k (now (im .exit))) (Upto (HeldAt (imageOf width k (now (im .entry)) .regs) (markBit (imageOf width k (now (im .entry))))) 256) ⌝ }
 {
     for i in 0..256 {
         hold(im, k, i);
@@ -152,12 +150,12 @@ pub fn hold_all(im: &mut [u16], k: usize)
 }
 
 // Every card is listed, the last first; gives the head of the list.
-pub fn list_all(im: &mut [u16], k: usize) -> usize
-    requires { ⌜ Sized k (now im) ⌝ }
-    ensures { λ r. ⌜ ListedAll k (narrow k (now (im .entry))) (narrow k (now (im .exit))) r ⌝ }
+pub fn list_all(im: &mut [Word], k: usize) -> usize
+    requires { ⌜ Sized width k (now im) ⌝ }
+    ensures { λ r. ⌜ ListedAll k (imageOf width k (now (im .entry))) (imageOf width k (now (im .exit))) r ⌝ }
 {
     for c in 0..k {
-        image::set_card(im, k, c, (c + 1) as u16);
+        image::sections::set_card(im, k, c, (c + 1) as Word);
     }
     k + 1
 }

@@ -16,8 +16,8 @@ use Rattle.image_laws.specs.Digits.{markBit}
 
 -- ---- what the loops need
 
-pub entries-in : (k : ℕ) (m : Image) → 1 ≤ k → Fit k m → EntriesIn k (m .packets)
-entries-in k m hk f i hi h = go (decLt (i % 32 - 2) (nth (m .packets) (32 * (i / 32))))
+pub entries-in : {k : ℕ} {m : Image} → 1 ≤ k → Fit k m → EntriesIn k (m .packets)
+entries-in {k} {m} hk f i hi h = go (decLt (i % 32 - 2) (nth (m .packets) (32 * (i / 32))))
   where
     e : 32 * (i / 32) + 2 + (i % 32 - 2) ≡ i
     e = omega arith
@@ -26,15 +26,15 @@ entries-in k m hk f i hi h = go (decLt (i % 32 - 2) (nth (m .packets) (32 * (i /
     go (yes l) = rw e at (f .entries (i / 32) (i % 32 - 2) (omega arith) l .0)
     go (no l) = let z : nth (m .packets) i ≡ 0 = rw e at (f .past (i / 32) (i % 32 - 2) (omega arith) (omega arith) (omega arith)) in omega arith
 
-pub hands-in : (k : ℕ) (m : Image) → 1 ≤ k → Fit k m → HandsIn k (m .tracers)
-hands-in k m hk f t ht = (go (nth (m .tracers) (8 * t + 2)) refl, f .handCards t ht)
+pub hands-in : {k : ℕ} {m : Image} → 1 ≤ k → Fit k m → HandsIn k (m .tracers)
+hands-in {k} {m} hk f t ht = (go (nth (m .tracers) (8 * t + 2)) refl, f .handCards t ht)
   where
     go : (v : ℕ) → nth (m .tracers) (8 * t + 2) ≡ v → nth (m .tracers) (8 * t + 2) < 64 * k
     go zero e = omega arith
     go (suc v) e = f .hands t ht (λ z. absurd (omega arith)) .0
 
-pub regs-in : (k : ℕ) (m : Image) → 1 ≤ k → Fit k m → RegsIn k (m .regs)
-regs-in k m hk f i hi = go (nth (m .regs) i) refl
+pub regs-in : {k : ℕ} {m : Image} → 1 ≤ k → Fit k m → RegsIn k (m .regs)
+regs-in {k} {m} hk f i hi = go (nth (m .regs) i) refl
   where
     go : (v : ℕ) → nth (m .regs) i ≡ v → nth (m .regs) i < 64 * k
     go zero e = omega arith
@@ -54,7 +54,7 @@ Dirties k m g = Upto (DirtyAt (m .cards) (markBit m)) k g
 abbrev pub Dues : ℕ → Image → ℕ → Type 0
 Dues k m g = (Entries m g ⊎ Hands m g) ⊎ Dirties k m g
 
-module _ (k : ℕ) (m m1 m2 m3 : Image) (a : Bared m m1 (Entries m)) (b : Bared m1 m2 (Hands m1)) (c : Bared m2 m3 (Dirties k m2)) where
+module _ {k : ℕ} {m m1 m2 m3 : Image} (a : Bared m m1 (Entries m)) (b : Bared m1 m2 (Hands m1)) (c : Bared m2 m3 (Dirties k m2)) where
   b' : Bared m1 m2 (Hands m)
   b' = bared-along m1 m2 (λ (l : ℕ → ℕ). Upto (HandAt (m .tracers) l) 8) (a .marks) (bared-along m1 m2 (λ (l : List ℕ). Upto (HandAt l (markBit m1)) 8) (same-section (a .rest) 2) b)
 

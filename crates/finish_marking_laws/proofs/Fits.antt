@@ -1,26 +1,27 @@
 -- What the marking needs of an image: a sound one has it.
 use mathlib.Core.Path.{_≡_, refl, subst}
-use mathlib.Core.Logic.{inl, inr, ⊎-elim}
+use mathlib.Core.Logic.{⊎-elim}
 use mathlib.Core.Bool.{true}
 use mathlib.Core.List.{List}
 use Prim.Native.Nat.{ℕ, _+_, _*_, _<_, _≤_}
 use native.Mathlib.Omega.{arith}
 use Rattle.model.specs.Base.{nth, bit}
-use Rattle.model.specs.Image.{Image, granules, word, isStart, marked, links, link, imageOf}
+use Rattle.model.specs.Image.{Image, granules, isStart, marked, links, link, imageOf}
 use Rattle.model.specs.Undamaged.{sound}
-use Rattle.theory.specs.Lines.{Pair, none, one, Lines, NilOr, Start, InHand, CardInHand}
+use Rattle.theory.specs.Lines.{Pair, none, one, Lines, InHand, CardInHand}
 use Rattle.theory.proofs.heap.Walk.{object-at}
 use Rattle.theory.proofs.lines.Judged.{sound-use}
 use Rattle.theory.proofs.lines.Sizes.{fits-sizes}
-use Rattle.theory.proofs.heap.Facts.{heap-filled-of}
+use Rattle.theory.proofs.heap.Facts.{heap-filled-of, link-value, start-of}
 use Rattle.finish_marking_laws.specs.Follow.{objectBit, World}
 use Rattle.image_laws.specs.Digits.{digit, markBit, startBit}
 use Rattle.image_laws.specs.Sized.{Sized}
-use Rattle.image_laws.proofs.Digits.{digit-two, digit-on, digit-off, on-digit}
+use Rattle.image_laws.proofs.Digits.{digit-two, digit-le, digit-on, digit-off, on-digit}
 use Rattle.image_laws.proofs.Lengths.{cards-image}
 use Rattle.image_laws.proofs.Sections.{image-fits}
 
 pub record Fit (k : ℕ) (m : Image) : Type 0 where
+  pub number : m .k ≡ k
   pub world : World k m
   pub zeroth : markBit m 0 ≡ 0
   pub marks : (g : ℕ) → markBit m g ≡ 1 → (g < 64 * k) × (startBit m g ≡ 1)
@@ -40,15 +41,8 @@ module _ (m : Image) (o : Lines m) where
   object-start g e = ⊎-elim (λ z. on-digit _ (omega arith)) (λ z. on-digit _ (mark-start g z .1)) (digit-two (marked m g))
 
   target : (g i : ℕ) → objectBit m g ≡ 1 → i < links m g → (link m g i ≡ 0 → ⊥) → (link m g i < 64 * m .k) × (objectBit m (link m g i) ≡ 1)
-  unfolding links link word isStart
-  target g i e l n = go (o .heap-ok .links-ok g i (o .heap-ok .within g (object-start g e)) (object-start g e) l)
-    where
-      a : ℕ
-      a = nth (m .heap) (4 * g + (2 + i))
-
-      go : NilOr (Start m) (nth (m .heap) (4 * g + (2 + i))) → (nth (m .heap) (4 * g + (2 + i)) < 64 * m .k) × (objectBit m (nth (m .heap) (4 * g + (2 + i))) ≡ 1)
-      go (inl z) = absurd (n z)
-      go (inr r) = (r .0, ⊎-elim (λ z. omega (arith, digit-on (r .1))) (λ z. omega (arith, digit-on (r .1))) (digit-two (marked m (nth (m .heap) (4 * g + (2 + i))))))
+  unfolding isStart
+  target g i e l n = ⊎-elim (λ z. absurd (n z)) (λ r. (r .0, omega (arith, digit-on (r .1), digit-le (marked m (link m g i))))) (link-value o g i (start-of o g (object-start g e)) l)
 
   world : World (m .k) m
   unfolding granules
@@ -85,6 +79,7 @@ module _ (m : Image) (o : Lines m) where
   unfolding isStart
   lines-fit =
       record {
+        number = refl;
         world = world;
         zeroth = ⊎-elim (λ z. z) (λ z. absurd (omega (arith, mark-start 0 z, digit-off (o .heap-ok .unused)))) (digit-two (marked m 0));
         marks = mark-start;

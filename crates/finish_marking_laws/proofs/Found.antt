@@ -16,7 +16,11 @@ use Rattle.finish_marking_laws.proofs.seeds.Bared.{same-section}
 use Rattle.image_laws.specs.Digits.{markBit, startBit}
 use Rattle.image_laws.proofs.Digits.{digit-two, digit-on, digit-off, same-digit, on-digit, off-digit}
 
-module _ (k : ℕ) (m m3 m4 m5 : Image) (h : ℕ) (kk : m .k ≡ k) (f : Fit k m) (d : Bared m m3 (Dues k m)) (o : Opened m3 m4 (Upto (HeldAt (m3 .regs) (markBit m3)) 256)) (t : ListedAll k m4 m5 h) where
+module _ {k : ℕ} {m m3 m4 m5 : Image} {h : ℕ} (f : Fit k m) (d : Bared m m3 (Dues k m)) (o : Opened m3 m4 (Upto (HeldAt (m3 .regs) (markBit m3)) 256)) (t : ListedAll k m4 m5 h) where
+  -- made pending for a register, or left alone
+  abbrev HeldOrNot : ℕ → Type 0
+  HeldOrNot g = Upto (HeldAt (m3 .regs) (markBit m3)) 256 g ⊎ ((markBit m4 g ≡ markBit m3 g) × (startBit m4 g ≡ startBit m3 g))
+
   mark3 : (g : ℕ) → markBit m3 g ≡ markBit m g
   mark3 g = ap (λ (w : ℕ → ℕ). w g) (d .marks)
 
@@ -59,7 +63,7 @@ module _ (k : ℕ) (m m3 m4 m5 : Image) (h : ℕ) (kk : m .k ≡ k) (f : Fit k m
   marked-to : (g : ℕ) → (markBit m g ≡ 1) ⊎ Hold g → markBit m5 g ≡ 1
   marked-to g q = mark5 g ∙ go q (o .only g) (digit-two (marked m g))
     where
-      go : (markBit m g ≡ 1) ⊎ Hold g → Upto (HeldAt (m3 .regs) (markBit m3)) 256 g ⊎ ((markBit m4 g ≡ markBit m3 g) × (startBit m4 g ≡ startBit m3 g)) → (markBit m g ≡ 0) ⊎ (markBit m g ≡ 1) → markBit m4 g ≡ 1
+      go : (markBit m g ≡ 1) ⊎ Hold g → HeldOrNot g → (markBit m g ≡ 0) ⊎ (markBit m g ≡ 1) → markBit m4 g ≡ 1
       go q (inl r) z = o .has g r .is-marked
       go q (inr r) (inr z) = r .0 ∙ mark3 g ∙ z
       go (inl q) (inr r) (inl z) = absurd (omega arith)
@@ -69,7 +73,7 @@ module _ (k : ℕ) (m m3 m4 m5 : Image) (h : ℕ) (kk : m .k ≡ k) (f : Fit k m
   pending-from : (g : ℕ) → Pending m5 g → ((markBit m g ≡ 1) × Due m g) ⊎ (Hold g × (markBit m g ≡ 0))
   pending-from g q = go (o .only g) (d .only g)
     where
-      go : Upto (HeldAt (m3 .regs) (markBit m3)) 256 g ⊎ ((markBit m4 g ≡ markBit m3 g) × (startBit m4 g ≡ startBit m3 g)) → Dues k m g ⊎ (startBit m3 g ≡ startBit m g) → ((markBit m g ≡ 1) × Due m g) ⊎ (Hold g × (markBit m g ≡ 0))
+      go : HeldOrNot g → Dues k m g ⊎ (startBit m3 g ≡ startBit m g) → ((markBit m g ≡ 1) × Due m g) ⊎ (Hold g × (markBit m g ≡ 0))
       go (inl r) e = inr (from g r)
       go (inr r) (inl e) = inl (dues-due k m f g e)
       go (inr r) (inr e) = absurd (let x : markBit m g ≡ 1 = sym (mark3 g) ∙ sym (r .0) ∙ sym (mark5 g) ∙ q .is-marked in omega (arith, f .marks g x .1, start5 g, r .1, e, q .bare))
@@ -78,7 +82,7 @@ module _ (k : ℕ) (m m3 m4 m5 : Image) (h : ℕ) (kk : m .k ≡ k) (f : Fit k m
   pending-to g (inr q) = let p = o .has g (to g (q .0) (q .1)) in record { is-marked = mark5 g ∙ p .is-marked; bare = start5 g ∙ p .bare }
   pending-to g (inl q) = go (o .only g)
     where
-      go : Upto (HeldAt (m3 .regs) (markBit m3)) 256 g ⊎ ((markBit m4 g ≡ markBit m3 g) × (startBit m4 g ≡ startBit m3 g)) → Pending m5 g
+      go : HeldOrNot g → Pending m5 g
       go (inl r) = absurd (omega (arith, from g r .1, q .0))
       go (inr r) = record { is-marked = mark5 g ∙ r .0 ∙ mark3 g ∙ q .0; bare = start5 g ∙ r .1 ∙ d .has g (due-dues k m f g (q .0) (q .1)) }
 
@@ -86,7 +90,7 @@ module _ (k : ℕ) (m m3 m4 m5 : Image) (h : ℕ) (kk : m .k ≡ k) (f : Fit k m
   objects : (g : ℕ) → objectBit m5 g ≡ startBit m g
   objects g = rw (mark5 g, start5 g) (go (o .only g) (d .only g))
     where
-      go : Upto (HeldAt (m3 .regs) (markBit m3)) 256 g ⊎ ((markBit m4 g ≡ markBit m3 g) × (startBit m4 g ≡ startBit m3 g)) → Dues k m g ⊎ (startBit m3 g ≡ startBit m g) → max (startBit m4 g) (markBit m4 g) ≡ startBit m g
+      go : HeldOrNot g → Dues k m g ⊎ (startBit m3 g ≡ startBit m g) → max (startBit m4 g) (markBit m4 g) ≡ startBit m g
       go (inl r) e = omega (arith, o .has g r .is-marked, o .has g r .bare, hold-start g (from g r .0))
       go (inr r) (inl e) = let x = dues-due k m f g e in omega (arith, r .0, r .1, mark3 g, x .0, d .has g e, f .marks g (x .0) .1)
       go (inr r) (inr e) = ⊎-elim (λ u. omega (arith, r .0, r .1, mark3 g, e, u)) (λ u. omega (arith, r .0, r .1, mark3 g, e, u, f .marks g u .1)) (digit-two (marked m g))
@@ -122,7 +126,7 @@ module _ (k : ℕ) (m m3 m4 m5 : Image) (h : ℕ) (kk : m .k ≡ k) (f : Fit k m
   unfolding granules
   reach-found (seed g i q l e n) =
       ⊎-elim
-      (λ p. found-due g i (rw kk (f .marks g (p .0) .0)) (on-digit _ (p .0)) (p .1) (rw (links5 g) at l) (sym (link5 g i) ∙ e) n)
+      (λ p. found-due g i (rw (f .number) (f .marks g (p .0) .0)) (on-digit _ (p .0)) (p .1) (rw (links5 g) at l) (sym (link5 g i) ∙ e) n)
       (λ p. found-link g i (found-held g (p .0)) (off-digit _ (p .1)) (rw (links5 g) at l) (sym (link5 g i) ∙ e) n)
       (pending-from g q)
   reach-found (follow g i r u l e n) = found-link g i (reach-found r) (off-digit _ (unmarked g u (digit-two (marked m g)))) (rw (links5 g) at l) (sym (link5 g i) ∙ e) n

@@ -26,146 +26,42 @@ const T: usize = 8;
 
 const N: usize = VALUES;
 
-const LIMITS: [usize; 60] = [
-    N,
-    N,
-    N,
-    N, // no kind
-    P,
-    R,
-    N,
-    N, // new
-    P,
-    R,
-    R,
-    N, // load
-    P,
-    R,
-    N,
-    R, // store
-    P,
-    U,
-    U,
-    U, // barrier
-    P,
-    R,
-    P,
-    R, // hand
-    P,
-    R,
-    U,
-    U, // drop
-    P,
-    R,
-    N,
-    U, // read
-    P,
-    R,
-    N,
-    N, // write
-    U,
-    U,
-    U,
-    U, // begin
-    T,
-    P,
-    U,
-    U, // scan
-    T,
-    U,
-    U,
-    U, // trace
-    T,
-    U,
-    U,
-    U, // clean
-    U,
-    U,
-    U,
-    U, // finish
-    U,
-    N,
-    U,
-    U, // due
-];
+// The limits of each field by kind, from 0 on: none, new, load, store, barrier, hand, drop, read, write, begin, scan, trace, clean, finish, due.
+const WHO: [usize; 15] = [N, P, P, P, P, P, P, P, P, U, T, T, T, U, U];
 
-// 1 where the field is a player who must owe nothing.
-const DEBTS: [u8; 60] = [
-    0,
-    0,
-    0,
-    0, // no kind
-    1,
-    0,
-    0,
-    0, // new
-    1,
-    0,
-    0,
-    0, // load
-    1,
-    0,
-    0,
-    0, // store
-    0,
-    0,
-    0,
-    0, // barrier
-    1,
-    0,
-    1,
-    0, // hand
-    1,
-    0,
-    0,
-    0, // drop
-    1,
-    0,
-    0,
-    0, // read
-    1,
-    0,
-    0,
-    0, // write
-    0,
-    0,
-    0,
-    0, // begin
-    0,
-    0,
-    0,
-    0, // scan
-    0,
-    0,
-    0,
-    0, // trace
-    0,
-    0,
-    0,
-    0, // clean
-    0,
-    0,
-    0,
-    0, // finish
-    0,
-    0,
-    0,
-    0, // due
-];
+const A: [usize; 15] = [N, R, R, R, U, R, R, R, R, U, P, U, U, U, N];
 
-// In a store of k cards, which a field that names a card stays below; no kind has one yet.
+const B: [usize; 15] = [N, N, R, N, U, P, U, N, N, U, U, U, U, U, U];
+
+const C: [usize; 15] = [N, N, N, R, U, R, U, U, N, U, U, U, U, U, U];
+
+// 1 where the field is a player who must owe nothing; a and c never are.
+const WHO_OWES_NONE: [u8; 15] = [0, 1, 1, 1, 0, 1, 1, 1, 1, 0, 0, 0, 0, 0, 0];
+
+const B_OWES_NONE: [u8; 15] = [0, 0, 0, 0, 0, 1, 0, 0, 0, 0, 0, 0, 0, 0, 0];
+
+// Field i (who, a, b, c) of kind n, in a store of k cards, which a field that names a card stays below; no kind has one yet.
 fn limit(k: usize, n: usize, i: usize) -> usize
     requires { ⌜ (n < 15) × (i < 4) ⌝ }
     ensures { λ r. ⌜ r ≡ boundAt width k (kindOf n) i ⌝ }
 {
-    LIMITS[4 * n + i]
+    match i {
+        0 => WHO[n],
+        1 => A[n],
+        2 => B[n],
+        _ => C[n],
+    }
 }
 
 fn asks_debt(n: usize, i: usize) -> bool
     requires { ⌜ (n < 15) × (i < 4) ⌝ }
     ensures { λ r. ⌜ r ≡ asksDebt (kindOf n) i ⌝ }
 {
-    DEBTS[4 * n + i] == 1
+    match i {
+        0 => WHO_OWES_NONE[n] == 1,
+        2 => B_OWES_NONE[n] == 1,
+        _ => false,
+    }
 }
 
 // An unused field is not 0.

@@ -1,7 +1,7 @@
 -- A request as the model's record, the range of its fields, and what numbers 3 to 5 say of a record.
 use mathlib.Core.Bool.{Bool, true, false, cond, _&&_}
 use mathlib.Core.List.{List}
-use Prim.Native.Nat.{ℕ, _/_, _%_, _^_, _<_}
+use Prim.Native.Nat.{ℕ, _^_, _<_}
 use Rattle.model.specs.Base.{table}
 use Rattle.model.specs.Image.{Image}
 use Rattle.model.specs.Records.{Step, Kind, kindOf}
@@ -39,14 +39,14 @@ unfoldable pub asksDebt : Kind → ℕ → Bool
 unfolding rowOf isPlayer roleAt
 asksDebt n i = (rowOf n) .unowing && isPlayer (roleAt n i)
 
--- a row of four for each kind's number from 0 on: limits of fields, and 1 for a player who must owe nothing
-unfoldable pub limits : ℕ → ℕ → List ℕ
-limits w k = table 60 (λ j. boundAt w k (kindOf (j / 4)) (j % 4))
+-- what a table has for field i of each kind's number from 0 on: limits, and 1 for a player who must owe nothing
+unfoldable pub limits : ℕ → ℕ → ℕ → List ℕ
+limits w k i = table 15 (λ n. boundAt w k (kindOf n) i)
 
-unfoldable pub debts : List ℕ
-debts = table 60 (λ j. cond (asksDebt (kindOf (j / 4)) (j % 4)) 1 0)
+unfoldable pub debtors : ℕ → List ℕ
+debtors i = table 15 (λ n. cond (asksDebt (kindOf n) i) 1 0)
 
 -- opens what computes the two
 unfoldable pub tables-open : ℕ
-unfolding table kindOf boundAt asksDebt limits debts
+unfolding table kindOf boundAt asksDebt limits debtors
 tables-open = 0

@@ -1,24 +1,22 @@
 use borrow.Author.Needs.{needs}
-use Rattle.finish_marking.proofs.Fits.{fit}
-use Rattle.finish_marking.proofs.Found.{entries-in, hands-in, regs-in, all-due, all-listed, world5, marks-in, all-kept}
-use Rattle.finish_marking.proofs.Lengths.{narrow-k}
-use Rattle.finish_marking.proofs.Loops.{same-regs, same-tracers}
+use Rattle.finish_marking_laws.proofs.Dues.{entries-in, hands-in, regs-in, all-due}
+use Rattle.finish_marking_laws.proofs.Fits.{sound-fit}
+use Rattle.finish_marking_laws.proofs.Found.{world5, marks-in, all-kept}
+use Rattle.finish_marking_laws.proofs.seeds.Bared.{same-section}
+use Rattle.finish_marking_laws.proofs.seeds.Listing.{all-listed}
 use Rattle.finish_marking.proofs.mark_found.Statement.{statement}
 use Rattle.finish_marking.proofs.mark_found.Tie as tie
 
 open-entries-requires : tie.Need-open-entries-requires
 open-entries-requires c κs =
     let S = c .before .before in
-    (search needs, entries-in _ _ (S .pre .0 .low) (fit _ _ (S .pre .0) (S .pre .1)))
+    (search needs, entries-in (S .pre .0 .low) (sound-fit (S .pre .0) (S .pre .1)))
 
 open-hands-requires : tie.Need-open-hands-requires
 open-hands-requires c κs =
     let E = c .before .before .before in
     let S = E .before .before .before in
-    (search needs, rw (same-tracers (E .open-entries .ensures)) (hands-in _ _ (S .pre .0 .low) (fit _ _ (S .pre .0) (S .pre .1))))
-
-open-dirties-requires : tie.Need-open-dirties-requires
-open-dirties-requires c κs = search needs
+    (search needs, rw (same-section (E .open-entries .ensures .rest) 2) (hands-in (S .pre .0 .low) (sound-fit (S .pre .0) (S .pre .1))))
 
 hold-all-requires : tie.Need-hold-all-requires
 hold-all-requires c κs =
@@ -26,11 +24,8 @@ hold-all-requires c κs =
     let H = D .before .before .before .before in
     let E = H .before .before .before .before in
     let S = E .before .before .before in
-    let d = all-due _ _ _ _ _ (E .open-entries .ensures) (H .open-hands .ensures) (D .open-dirties .ensures) in
-    (search needs, rw (same-regs d) (regs-in _ _ (S .pre .0 .low) (fit _ _ (S .pre .0) (S .pre .1))))
-
-list-all-requires : tie.Need-list-all-requires
-list-all-requires c κs = search needs
+    let d = all-due (E .open-entries .ensures) (H .open-hands .ensures) (D .open-dirties .ensures) in
+    (search needs, rw (same-section (d .rest) 0) (regs-in (S .pre .0 .low) (sound-fit (S .pre .0) (S .pre .1))))
 
 mark-all-requires : tie.Need-mark-all-requires
 mark-all-requires c κs =
@@ -40,17 +35,14 @@ mark-all-requires c κs =
     let H = D .before .before .before .before in
     let E = H .before .before .before .before in
     let S = E .before .before .before in
-    let d = all-due _ _ _ _ _ (E .open-entries .ensures) (H .open-hands .ensures) (D .open-dirties .ensures) in
-    let f = fit _ _ (S .pre .0) (S .pre .1) in (
+    let d = all-due (E .open-entries .ensures) (H .open-hands .ensures) (D .open-dirties .ensures) in
+    let f = sound-fit (S .pre .0) (S .pre .1) in (
       search needs,
       (
-        world5 _ _ _ _ _ _ (narrow-k _ _) f d (O .hold-all .ensures) (L .list-all .ensures),
-        all-listed _ _ _ _ (marks-in _ _ _ _ _ _ (narrow-k _ _) f d (O .hold-all .ensures) (L .list-all .ensures)) (L .list-all .ensures),
+        world5 f d (O .hold-all .ensures) (L .list-all .ensures),
+        all-listed (marks-in f d (O .hold-all .ensures) (L .list-all .ensures)) (L .list-all .ensures),
       ),
     )
-
-same-length : tie.Need-same-length
-same-length c = search needs
 
 returns : tie.Need-returns
 returns c =
@@ -61,19 +53,16 @@ returns c =
     let H = D .before .before .before .before in
     let E = H .before .before .before .before in
     let S = E .before .before .before in
-    let d = all-due _ _ _ _ _ (E .open-entries .ensures) (H .open-hands .ensures) (D .open-dirties .ensures) in
-    let f = fit _ _ (S .pre .0) (S .pre .1) in
-    all-kept _ _ _ _ _ _ (narrow-k _ _) f d (O .hold-all .ensures) (L .list-all .ensures) _ (M .mark-all .ensures)
+    let d = all-due (E .open-entries .ensures) (H .open-hands .ensures) (D .open-dirties .ensures) in
+    let f = sound-fit (S .pre .0) (S .pre .1) in
+    all-kept f d (O .hold-all .ensures) (L .list-all .ensures) _ (M .mark-all .ensures)
 
 pub mark-found-spec : {M : Type 1} → statement M
 mark-found-spec =
     tie.close
     (tie.spec
     open-entries-requires
-    open-hands-requires
-    open-dirties-requires
-    hold-all-requires
-    list-all-requires
-    mark-all-requires
-    same-length
+    open-hands-requires (λ c κs. search needs)
+    hold-all-requires (λ c κs. search needs)
+    mark-all-requires (λ c. search needs)
     returns)

@@ -13,13 +13,11 @@ use Rattle.finish_marking_laws.specs.Follow.{Pending, Headed, headed, pe
 use Rattle.finish_marking_laws.proofs.follow.Bits.{Shape, image-shape}
 use Rattle.finish_marking_laws.proofs.follow.Grown.{same-links, same-link, Marking}
 use Rattle.finish_marking_laws.proofs.follow.Measure.{workLeft}
-use Rattle.finish_marking_laws.proofs.follow.Turns.{turn-keeps, marking-done}
+use Rattle.finish_marking_laws.proofs.follow.Turns.{turn-keeps, marking-done, head-in, head-of}
 use Rattle.finish_marking_laws.proofs.follow.Visits.{Visit, visit-cases, past, on, new}
-use Rattle.finish_marking_laws.proofs.follow.Worklist.{HeadTaken, head-taken}
 use Rattle.image_laws.specs.Bits.{clearStart}
 use Rattle.image_laws.specs.Sized.{Sized}
 use Rattle.image_laws.proofs.Lengths.{sized-as}
-use Rattle.image_laws.proofs.Words.{nth-in}
 
 -- ---- a visit leaves the heap alone
 
@@ -92,23 +90,20 @@ begins k m h s w t = record {
   listed = t;
 }
 
-turn-ready : (k : ℕ) (m₀ m : Image) (h : ℕ) → Marking k m₀ m h → (h ≡ 1 → ⊥) → TurnReady k m h
-turn-ready k m₀ m h w n = record { low = t .above; high = omega (arith, nth-in (m .cards) (h - 2) (t .on), w .grown .shape .cards); links-in = inside }
+turn-ready : {k : ℕ} {m₀ m : Image} {h : ℕ} → Marking k m₀ m h → (h ≡ 1 → ⊥) → TurnReady k m h
+turn-ready {k} {m₀} {m} {h} w n = record { low = head-of w n .above; high = head-in w n; links-in = inside }
   where
-    t : HeadTaken (m .cards) h
-    t = head-taken (m .cards) (w .listed .order) h (w .listed .chained) (w .listed .once) n
-
     o : (g : ℕ) → Pending m g → objectBit m₀ g ≡ 1
     o g q = omega (arith, w .grown .same g, q .is-marked, q .bare)
 
-    to : (g i : ℕ) → Pending m g → i < links m₀ g → (a : ℕ) → a ≡ link m₀ g i → (1 ≤ k) → a < 64 * k
-    to g i q l zero e p = omega arith
-    to g i q l (suc a) e p = rw e (w .world .target g i (o g q) l (λ z. absurd (omega arith)) .0)
+    to : (g i : ℕ) → Pending m g → i < links m₀ g → (a : ℕ) → a ≡ link m₀ g i → a < 64 * k
+    to g i q l zero e = omega (arith, head-in w n)
+    to g i q l (suc a) e = rw e (w .world .target g i (o g q) l (λ z. absurd (omega arith)) .0)
 
     inside : (g : ℕ) → Pending m g → LinksIn k m g
     inside g q = record {
       inside = rw (same-links m₀ m (w .grown .heap) g) (w .world .inside g (o g q));
-      target = λ i l. rw (same-link m₀ m (w .grown .heap) g i) (to g i q (rw (same-links m₀ m (w .grown .heap) g) at l) (link m₀ g i) refl (omega (arith, nth-in (m .cards) (h - 2) (t .on), w .grown .shape .cards)));
+      target = λ i l. rw (same-link m₀ m (w .grown .heap) g i) (to g i q (rw (same-links m₀ m (w .grown .heap) g) at l) (link m₀ g i) refl);
     }
 
 pub record TurnLoop (w k : ℕ) (im₀ im : List ℕ) (h : ℕ) : Type 0 where
@@ -122,7 +117,7 @@ turns-none w k im h z u t = record { sized = z; same = refl; marking = begins k 
 module _ {w k : ℕ} {im₀ im : List ℕ} {h : ℕ} (t : TurnLoop w k im₀ im h) where
   module _ (n : h ≡ 1 → ⊥) where
     pub turns-ready : TurnReady k (imageOf w k im) h
-    turns-ready = turn-ready k (imageOf w k im₀) (imageOf w k im) h (t .marking) n
+    turns-ready = turn-ready (t .marking) n
 
     module _ (h' : ℕ) (im' : List ℕ) (e : Turn k (imageOf w k im) h (headed h' (imageOf w k im'))) where
       pub turns-more : length im' ≡ length im → TurnLoop w k im₀ im' h'

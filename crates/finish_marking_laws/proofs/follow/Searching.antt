@@ -1,7 +1,7 @@
 -- The pending objects of a bit word of w bits, and the search for one on a card, bit word by bit word.
 use mathlib.Core.Path.{_≡_, ap, _∙_}
 use mathlib.Core.Logic.{_⊎_}
-use Prim.Native.Nat.{ℕ, _+_, _*_, _-_, _/_, _%_, _^_, _<_, _≤_, min}
+use Prim.Native.Nat.{ℕ, _+_, _*_, _-_, _/_, _^_, _<_, _≤_, min}
 use native.Mathlib.Decide.{decLt}
 use native.Mathlib.Nat.{mul-suc}
 use native.Mathlib.Numerals.{add-one}
@@ -12,8 +12,8 @@ use Rattle.model.specs.Base.{nth}
 use Rattle.model.specs.Image.{Image, isStart, marked}
 use Rattle.image_laws.specs.Digits.{bitOf, markBit, startBit}
 use Rattle.image_laws.proofs.Digits.{digit-le, digit-on, bit-none, bit-and, bit-not, mark-digit, start-digit}
-use Rattle.image_laws.proofs.Places.{place-word, place-bit, words-begin, words-end, bit-on-card}
-use Rattle.image_laws.proofs.Trailing.{trailing-lowest}
+use Rattle.image_laws.proofs.Places.{by-width, place-word, place-bit, words-begin, words-end, bit-on-card}
+use Rattle.image_laws.proofs.Trailing.{Lowest, trailing-within}
 use Rattle.finish_marking_laws.specs.Follow.{Pending, PendingWord, NextPending}
 
 -- marks x without starts s, whose complement is y
@@ -34,6 +34,10 @@ pending-word w m e i x s y ex es h = record { some = λ j l q. yes j l (digit-on
 
     no : (j : ℕ) → j < w → bitAnd x y ≡ 0 → Pending m (w * i + j) → ⊥
     no j l q p = let z : bitOf (bitAnd x y) j ≡ 0 = rw q (bit-none j) in omega (arith, bits j l, p .is-marked, p .bare)
+
+-- its lowest bit, counted in a word of 64 bits
+pub pending-lowest : (w x : ℕ) → (w ≡ 16) ⊎ (w ≡ 32) → x < 2 ^ w → (x ≡ 0 → ⊥) → Lowest w x (trailingZeros 64 x)
+pending-lowest w x o = by-width (λ w. x < 2 ^ w → (x ≡ 0 → ⊥) → Lowest w x (trailingZeros 64 x)) (trailing-within 16 48 x) (trailing-within 32 32 x) o
 
 -- ---- the bit words of card c before word i have no pending object
 
@@ -59,11 +63,11 @@ module _ {w : ℕ} {m : Image} {c e i : ℕ} (t : Searching w m c e i) where
             let s : w * i + (g - w * i) ≡ g = omega arith in
             b .none (g - w * i) (omega arith) z (rw s q)
 
-    pub searching-found : (k : ℕ) → c < k → x < 2 ^ w → (x ≡ 0 → ⊥) → NextPending k m c (w * i + trailingZeros w x)
+    pub searching-found : (k : ℕ) → c < k → x < 2 ^ w → (x ≡ 0 → ⊥) → NextPending k m c (w * i + trailingZeros 64 x)
     searching-found k hc hx n =
-        let j = trailing-lowest w x hx n in
-        let on : (w * i + trailingZeros w x) / 64 ≡ c = bit-on-card w c i (t .width) (trailingZeros w x) (j .within) (t .low) (omega (arith, t .end)) in
-        record { found = λ _. (b .some (trailingZeros w x) (j .within) (j .is-set), on); none = λ h. absurd (omega arith) }
+        let j = pending-lowest w x (t .width) hx n in
+        let on : (w * i + trailingZeros 64 x) / 64 ≡ c = bit-on-card w c i (t .width) (trailingZeros 64 x) (j .within) (t .low) (omega (arith, t .end)) in
+        record { found = λ _. (b .some (trailingZeros 64 x) (j .within) (j .is-set), on); none = λ h. absurd (omega arith) }
 
   pub searching-end : (k : ℕ) → e ≤ i → NextPending k m c (64 * k)
   searching-end k l = record {

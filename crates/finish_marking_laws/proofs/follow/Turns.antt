@@ -112,25 +112,23 @@ settle-turn k m₀ m h g w hg q =
     rw (same-links m₀ m (w .grown .heap) g)
     (settle-last k m₀ m g hg (visits m h g (links m₀ g)) (through k m₀ m h g w q (links m₀ g) (omega arith)))
 
+module _ {k : ℕ} {m₀ m : Image} {h : ℕ} (w : Marking k m₀ m h) (n : h ≡ 1 → ⊥) where
+  pub head-of : HeadTaken (m .cards) h
+  head-of = head-taken (m .cards) (w .listed .order) h (w .listed .chained) (w .listed .once) n
+
+  pub head-in : h - 2 < k
+  head-in = omega (arith, nth-in (m .cards) (h - 2) (head-of .on), w .grown .shape .cards)
+
 leave-turn : (k : ℕ) (m₀ m : Image) (h : ℕ) → Marking k m₀ m h → (h ≡ 1 → ⊥) → ((g : ℕ) → g / 64 ≡ h - 2 → Pending m g → ⊥) → TurnKept k m₀ m (unlisted m h)
 unfolding unlisted workLeft
 leave-turn k m₀ m h w n empty-card = record {
   marking = record {
     world = w .world;
     grown = grown-cards k m₀ m (h - 2) 0 (w .grown);
-    listed = list;
+    listed = left-list k m h (head-of w n) (w .listed) empty-card;
   };
-  less = rw (card-weights k m (h - 2) 0) (omega (arith, list-off k m (h - 2) 0 hk (w .grown .shape .cards) (t .on) refl));
+  less = rw (card-weights k m (h - 2) 0) (omega (arith, list-off k m (h - 2) 0 (head-in w n) (w .grown .shape .cards) (head-of w n .on) refl));
 }
-  where
-    t : HeadTaken (m .cards) h
-    t = head-taken (m .cards) (w .listed .order) h (w .listed .chained) (w .listed .once) n
-
-    hk : h - 2 < k
-    hk = omega (arith, nth-in (m .cards) (h - 2) (t .on), w .grown .shape .cards)
-
-    list : Listed k (setState m (h - 2) 0) (cardWord m (h - 2))
-    list = left-list k m h t (w .listed) empty-card
 
 pub turn-keeps : (k : ℕ) (m₀ m : Image) (h : ℕ) {p : Headed} → Marking k m₀ m h → (h ≡ 1 → ⊥) → Turn k m h p → TurnKept k m₀ m p
 turn-keeps k m₀ m h w n (settle g hg q e) = rw e (settle-turn k m₀ m h g w hg q)

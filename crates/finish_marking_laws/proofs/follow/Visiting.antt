@@ -87,59 +87,46 @@ module _ (k : ℕ) (m m' : Image) (h a : ℕ) (t : Listed k m h) (p : Pended m m
       here g q (no n) = rw (nth-put-other (m .cards) (a / 64) (g / 64) h n) (⊎-elim (λ e. absurd (n (ap (λ x. x / 64) e))) (λ r. t .holds g r) (pend-pending m m' a p g q))
 
 module _ (k : ℕ) (m₀ m : Image) (h a : ℕ) (w : Marking k m₀ m h) (f : (a ≡ 0 → ⊥) → Reach m₀ a × (a < 64 * k) × (objectBit m a ≡ 1)) where
+  module _ (n : a ≡ 0 → ⊥) (u : markBit m a ≡ 0) where
+    inside : a < 64 * k
+    inside = f n .1
+
+    bits : Pended m (pend m a) a
+    bits = pended k m a (w .grown .shape) inside
+
+    grown : Grown k m₀ (pend m a)
+    grown = grown-pend k m₀ m (pend m a) a (w .grown) bits (pend-shape k m a (w .grown .shape)) (pend-frame m a .0) (pend-frame m a .2) u (f n .2) (f n .0)
+
   visit-any : {p : Headed} → Visit m h a p → Visited k m₀ m a p
   unfolding workLeft
-  visit-any (past e) = record {
-    marking = w;
-    now-marked = λ n. ⊎-elim (λ z. absurd (n z)) (λ z. z) e;
-    grow = λ g. omega arith;
-    pending = λ g q. q;
-    less = omega arith;
-  }
-  visit-any (on n u o) = record {
-    marking = record { world = w .world; grown = grown; listed = listed-on k m (pend m a) h a (w .listed) p (pend-frame m a .1) o };
-    now-marked = λ _. p .mark;
-    grow = pend-grow m (pend m a) a p;
-    pending = pend-keeps m (pend m a) a p;
-    less = rw (pend-list k m a) (omega (arith, weights-pend (64 * k) m (pend m a) a (r .1) p u));
-  }
-    where
-      r : Reach m₀ a × (a < 64 * k) × (objectBit m a ≡ 1)
-      r = f n
-
-      p : Pended m (pend m a) a
-      p = pended k m a (w .grown .shape) (r .1)
-
-      grown : Grown k m₀ (pend m a)
-      grown = grown-pend k m₀ m (pend m a) a (w .grown) p (pend-shape k m a (w .grown .shape)) (pend-frame m a .0) (pend-frame m a .2) u (r .2) (r .0)
-  visit-any (new n u z) = record {
-    marking = record {
-      world = w .world;
-      grown = grown-cards k m₀ (pend m a) (a / 64) h grown;
-      listed = listed-new k m (pend m a) h a (w .listed) p (pend-frame m a .1) (w .grown .shape .cards) (omega (arith, r .1)) z;
-    };
-    now-marked = λ _. p' .mark;
-    grow = pend-grow m (setState (pend m a) (a / 64) h) a p';
-    pending = pend-keeps m (setState (pend m a) (a / 64) h) a p';
-    less =
-        rw (card-weights k (pend m a) (a / 64) h, list-on k (pend m a) (a / 64) h (omega (arith, r .1)) (rw (pend-frame m a .1) (w .grown .shape .cards)) (rw (pend-frame m a .1) z) hl, pend-list k m a)
-        (omega (arith, weights-pend (64 * k) m (pend m a) a (r .1) p u));
-  }
-    where
-      r : Reach m₀ a × (a < 64 * k) × (objectBit m a ≡ 1)
-      r = f n
-
-      p : Pended m (pend m a) a
-      p = pended k m a (w .grown .shape) (r .1)
-
-      p' : Pended m (setState (pend m a) (a / 64) h) a
-      p' = card-bits m (pend m a) a (a / 64) h p
-
-      hl : 1 ≤ h
-      hl = low (m .cards) (w .listed .order) h (w .listed .chained) (w .listed .once)
-
-      grown : Grown k m₀ (pend m a)
-      grown = grown-pend k m₀ m (pend m a) a (w .grown) p (pend-shape k m a (w .grown .shape)) (pend-frame m a .0) (pend-frame m a .2) u (r .2) (r .0)
+  visit-any (past e) = record { marking = w; now-marked = λ n. ⊎-elim (λ z. absurd (n z)) (λ z. z) e; grow = λ g. omega arith; pending = λ g q. q; less = omega arith }
+  visit-any (on n u o) =
+      let p : Pended m (pend m a) a = bits n u in
+      record {
+        marking = record { world = w .world; grown = grown n u; listed = listed-on k m (pend m a) h a (w .listed) p (pend-frame m a .1) o };
+        now-marked = λ _. p .mark;
+        grow = pend-grow m (pend m a) a p;
+        pending = pend-keeps m (pend m a) a p;
+        less = rw (pend-list k m a) (omega (arith, weights-pend (64 * k) m (pend m a) a (inside n u) p u));
+      }
+  visit-any (new n u z) =
+      let p : Pended m (pend m a) a = bits n u in
+      let p' : Pended m (setState (pend m a) (a / 64) h) a = card-bits m (pend m a) a (a / 64) h p in
+      let hl : 1 ≤ h = low (m .cards) (w .listed .order) h (w .listed .chained) (w .listed .once) in
+      let hc : a / 64 < k = omega (arith, inside n u) in
+      record {
+        marking = record {
+          world = w .world;
+          grown = grown-cards k m₀ (pend m a) (a / 64) h (grown n u);
+          listed = listed-new k m (pend m a) h a (w .listed) p (pend-frame m a .1) (w .grown .shape .cards) hc z;
+        };
+        now-marked = λ _. p' .mark;
+        grow = pend-grow m (setState (pend m a) (a / 64) h) a p';
+        pending = pend-keeps m (setState (pend m a) (a / 64) h) a p';
+        less =
+            rw (card-weights k (pend m a) (a / 64) h, list-on k (pend m a) (a / 64) h hc (rw (pend-frame m a .1) (w .grown .shape .cards)) (rw (pend-frame m a .1) z) hl, pend-list k m a)
+            (omega (arith, weights-pend (64 * k) m (pend m a) a (inside n u) p u));
+      }
 
   pub visit-keeps : Visited k m₀ m a (visited m h a)
   visit-keeps = visit-any (visit-cases m h a)

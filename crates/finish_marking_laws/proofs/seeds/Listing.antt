@@ -42,8 +42,8 @@ listed-end {k} {m} {m'} t l = record { heap = t .heap; starts = t .starts; marks
 
 -- ---- all cards are a work list
 
-pub all-listed : (k : ℕ) (m m' : Image) (h : ℕ) → ((g : ℕ) → markBit m g ≡ 1 → g < 64 * k) → ListedAll k m m' h → Listed k m' h
-all-listed k m m' h s t = rw (t .head) (record {
+pub all-listed : {k : ℕ} {m m' : Image} {h : ℕ} → ((g : ℕ) → markBit m g ≡ 1 → g < 64 * k) → ListedAll k m m' h → Listed k m' h
+all-listed {k} {m} {m'} {h} s t = rw (t .head) (record {
   order = cardsDown k;
   chained = cardsDown-chained (m' .cards) k (t .words);
   once = λ c. once c (decLt c k);

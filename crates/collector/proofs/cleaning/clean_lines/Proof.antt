@@ -2,7 +2,6 @@ use borrow.Author.Needs.{needs}
 use Rattle.collector_laws.proofs.Cleaning.{dirty-in, clean-hand-line, clean-card-line, clean-dirty-line, clean-no-line}
 use Rattle.collector_laws.proofs.Tracing.{hand-held}
 use native.Mathlib.Omega.{arith}
-use Rattle.model.specs.Examples.{left}
 use Rattle.collector.proofs.cleaning.clean_lines.Statement.{statement}
 use Rattle.collector.proofs.cleaning.clean_lines.Tie as tie
 

@@ -21,7 +21,7 @@ unfolding choice
 loop-holds c = (omega arith, refl)
 
 loop-again : tie.Need-loop-again Inv-loop μ-loop
-loop-again c = let L = c .before .before .before .before .before in (omega arith, choice-more greater _ _ 0 (L .loop .p) _ _ _ _ (L .loop .inv .1) (in-pool _ _ _ _ (L .before .held-packets .ensures) (c .before .before .in-pool .ensures)) (c .before .before .before .count .ensures) (c .chosen .ensures))
+loop-again c = (omega arith, search (choice-more, in-pool))
 
 returns : tie.Need-returns Inv-loop μ-loop
 returns c = search fullest-choice

@@ -2,7 +2,6 @@ use borrow.Author.Needs.{needs}
 use Rattle.collector_laws.proofs.Pool.{output-few}
 use Rattle.collector_laws.proofs.Reaching.{emptiest-few, back-places, take-new, take-same}
 use native.Mathlib.Omega.{arith}
-use Rattle.model.specs.Collect.{emptiest}
 use Rattle.collector.proofs.reaching.take_output.Statement.{statement}
 use Rattle.collector.proofs.reaching.take_output.Tie as tie
 

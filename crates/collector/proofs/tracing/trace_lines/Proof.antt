@@ -1,6 +1,5 @@
 use borrow.Author.Needs.{needs}
 use Rattle.collector_laws.proofs.Tracing.{hand-held, held-input, entries-packet, entries-count, trace-hand-line, trace-input-line, input-packet, input-is}
-use Rattle.model.specs.Examples.{left}
 use mathlib.Core.Path.{sym, _∙_}
 use Rattle.collector.proofs.tracing.trace_lines.Statement.{statement}
 use Rattle.collector.proofs.tracing.trace_lines.Tie as tie

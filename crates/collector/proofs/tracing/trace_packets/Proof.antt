@@ -1,7 +1,6 @@
 use borrow.Author.Needs.{needs}
 use Rattle.collector_laws.proofs.Tracing.{held-output, fullest-few, trace-pool-line, trace-output-line, trace-no-line}
 use native.Mathlib.Omega.{arith}
-use Rattle.model.specs.Collect.{fullest}
 use Rattle.collector.proofs.tracing.trace_packets.Statement.{statement}
 use Rattle.collector.proofs.tracing.trace_packets.Tie as tie
 

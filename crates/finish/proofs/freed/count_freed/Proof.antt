@@ -1,4 +1,6 @@
-use Rattle.finish.proofs.Ends.{Counting, counting-none, counting-more, counting-end}
+use Rattle.image.specs.Layout.{width}
+use Rattle.model.specs.Image.{imageOf}
+use Rattle.finish_laws.proofs.Freed.{FreedCounting, counting-none, counting-more, counting-end}
 use Prim.Native.Nat.{_-_}
 use native.Mathlib.Omega.{arith}
 use borrow.Author.Needs.{needs}
@@ -6,13 +8,10 @@ use Rattle.finish.proofs.freed.count_freed.Statement.{statement}
 use Rattle.finish.proofs.freed.count_freed.Tie as tie
 
 abbrev Inv-loop : tie.InvT-loop
-Inv-loop im k f₀ h₀ h-end f h = Counting k im h-end f h
+Inv-loop im k f₀ h₀ h-end f h = FreedCounting k (imageOf width k im) h-end f h
 
 abbrev μ-loop : tie.MeasureT-loop
 μ-loop im k f₀ h₀ h-end f h = h-end - h
-
-mul-h-end : tie.Need-mul-h-end Inv-loop μ-loop
-mul-h-end c = search needs
 
 loop-holds : tie.Need-loop-holds Inv-loop μ-loop
 loop-holds c = counting-none _ _
@@ -26,9 +25,6 @@ add-f c = omega (arith, c .before .before .loop .inv .small, c .before .before .
 add-h : tie.Need-add-h Inv-loop μ-loop
 add-h c = omega (arith, c .before .before .loop .inv .top)
 
-loop-less : tie.Need-loop-less Inv-loop μ-loop
-loop-less c = search needs
-
 loop-again : tie.Need-loop-again Inv-loop μ-loop
 loop-again c = counting-more _ _ _ _ _ _ (c .before .before .loop .inv) (omega arith) (c .goes-at .ensures .0) (c .goes-at .ensures .1)
 
@@ -40,12 +36,10 @@ count-freed-spec =
     tie.close
     (tie.spec
     Inv-loop
-    μ-loop
-    mul-h-end
+    μ-loop (λ c. search needs)
     loop-holds
     goes-at-requires
     add-f
-    add-h
-    loop-less
+    add-h (λ c. search needs)
     loop-again
     returns)

@@ -1,77 +1,47 @@
-use Rattle.finish_marking.proofs.Linking.{Searching, searching-none, searching-more, searching-found, searching-end}
-use Rattle.finish_marking.proofs.WordBits.{trailing}
-use Rattle.image.specs.Sized.{narrow}
+use Rattle.model.specs.Image.{imageOf}
+use Rattle.image.specs.Layout.{width}
+use Rattle.image_laws.proofs.Lengths.{sized-width}
+use Rattle.finish_marking_laws.proofs.follow.Searching.{Searching, searching-none, searching-more, searching-found, searching-end, pending-lowest}
 use Prim.Native.Nat.{_-_}
+use mathlib.Core.Path.{refl}
 use native.Mathlib.Omega.{arith}
 use borrow.Author.Needs.{needs}
 use Rattle.finish_marking.proofs.follow.next_pending.Statement.{statement}
 use Rattle.finish_marking.proofs.follow.next_pending.Tie as tie
 
 abbrev Inv-loop : tie.InvT-loop
-Inv-loop im k c w₀ e w = Searching k (narrow k im) c e w
+Inv-loop im k c i₀ e i = Searching width (imageOf width k im) c e i
 
 abbrev μ-loop : tie.MeasureT-loop
-μ-loop im k c w₀ e w = e - w
-
-mul-w : tie.Need-mul-w Inv-loop μ-loop
-mul-w c = search needs
-
-mul-e : tie.Need-mul-e Inv-loop μ-loop
-mul-e c = search needs
-
-add-e : tie.Need-add-e Inv-loop μ-loop
-add-e c = search needs
+μ-loop im k c i₀ e i = e - i
 
 loop-holds : tie.Need-loop-holds Inv-loop μ-loop
-loop-holds c = search searching-none
+loop-holds c = searching-none width _ _ _ _ (sized-width (c .before .pre .0)) refl refl
 
-bare-word-requires : tie.Need-bare-word-requires Inv-loop μ-loop
-bare-word-requires c κs = search needs
-
-cast-j : tie.Need-cast-j Inv-loop μ-loop
-cast-j c = omega (arith, trailing (c .before .bare-word .result) (omega arith) (c .if1 .taken))
-
-mul-result : tie.Need-mul-result Inv-loop μ-loop
-mul-result c = search needs
+cast-j-2 : tie.Need-cast-j-2 Inv-loop μ-loop
+cast-j-2 c = omega (arith, pending-lowest width (c .before .pending-word .result) (c .before .before .before .loop .inv .width) (omega arith) (c .if1 .taken) .within)
 
 add-result : tie.Need-add-result Inv-loop μ-loop
-add-result c = omega (arith, trailing (c .before .bare-word .result) (omega arith) (c .if1 .taken))
+add-result c = omega (arith, pending-lowest width (c .before .pending-word .result) (c .before .before .before .loop .inv .width) (omega arith) (c .if1 .taken) .within)
 
 returns : tie.Need-returns Inv-loop μ-loop
-returns c = search searching-found
-
-add-w : tie.Need-add-w Inv-loop μ-loop
-add-w c = search needs
-
-loop-less : tie.Need-loop-less Inv-loop μ-loop
-loop-less c = search needs
+returns c = searching-found (c .before .before .before .loop .inv) (c .before .pending-word .ensures) (c .before .before .loop-test .taken) _ (omega arith) (omega arith) (c .if1 .taken)
 
 loop-again : tie.Need-loop-again Inv-loop μ-loop
 loop-again c = search searching-more
 
-mul-result-2 : tie.Need-mul-result-2 Inv-loop μ-loop
-mul-result-2 c = search needs
-
 returns-2 : tie.Need-returns-2 Inv-loop μ-loop
-returns-2 c = search searching-end
+returns-2 c = searching-end (c .before .loop .inv) _ (omega arith)
 
 pub next-pending-spec : {M : Type 1} → statement M
 next-pending-spec =
     tie.close
     (tie.spec
     Inv-loop
-    μ-loop
-    mul-w
-    mul-e
-    add-e
-    loop-holds
-    bare-word-requires
-    cast-j
-    mul-result
+    μ-loop (λ c. search needs) (λ c. search needs) (λ c. search needs)
+    loop-holds (λ c κs. search needs) (λ c. search needs)
+    cast-j-2 (λ c. search needs)
     add-result
-    returns
-    add-w
-    loop-less
-    loop-again
-    mul-result-2
+    returns (λ c. search needs) (λ c. search needs)
+    loop-again (λ c. search needs)
     returns-2)

@@ -1,8 +1,9 @@
-use Rattle.finish_marking.specs.Mark.{markBit}
-use Rattle.finish_marking.specs.Seeds.{DirtyAt}
-use Rattle.finish_marking.proofs.Due.{Opening, opening-none, opening-more, opening-end}
-use Rattle.finish_marking.proofs.Loops.{dirty-as}
-use Rattle.image.specs.Sized.{narrow}
+use Rattle.model.specs.Image.{imageOf}
+use Rattle.image.specs.Layout.{width}
+use Rattle.image_laws.specs.Digits.{markBit}
+use Rattle.image_laws.proofs.Loops.{looped-end}
+use Rattle.finish_marking_laws.specs.Seeds.{DirtyAt}
+use Rattle.finish_marking_laws.proofs.seeds.Bared.{dirty-as, Opening, opening-none, opening-more}
 use Prim.Native.Nat.{_-_}
 use native.Mathlib.Omega.{arith}
 use borrow.Author.Needs.{needs}
@@ -10,31 +11,25 @@ use Rattle.finish_marking.proofs.seeds.open_dirties.Statement.{statemen
 use Rattle.finish_marking.proofs.seeds.open_dirties.Tie as tie
 
 abbrev Inv-loop : tie.InvT-loop
-Inv-loop im₀ k c₀ im c = Opening k im₀ (DirtyAt (narrow k im₀ .cards) (markBit (narrow k im₀))) k im c
+Inv-loop im₀ k c₀ im c = Opening width k k (DirtyAt (imageOf width k im₀ .cards) (markBit (imageOf width k im₀))) im₀ im c
 
 abbrev μ-loop : tie.MeasureT-loop
 μ-loop im₀ k c₀ im c = k - c
 
 loop-holds : tie.Need-loop-holds Inv-loop μ-loop
-loop-holds c = opening-none _ _ _ _ (c .before .pre)
+loop-holds c = opening-none (c .before .pre)
 
 open-dirty-requires : tie.Need-open-dirty-requires Inv-loop μ-loop
 open-dirty-requires c κs = (c .before .before .loop .inv .sized, omega arith)
 
-add-c : tie.Need-add-c Inv-loop μ-loop
-add-c c = search needs
-
-loop-less : tie.Need-loop-less Inv-loop μ-loop
-loop-less c = search needs
-
 loop-again : tie.Need-loop-again Inv-loop μ-loop
-loop-again c = let L = c .before .before .before .before .before .loop in opening-more _ _ _ _ _ _ (L .inv) (omega arith) _ (search needs) (dirty-as _ _ _ _ _ (L .inv .bared) (c .before .before .open-dirty .ensures))
+loop-again c = let L = c .before .before .before .before .before .loop in opening-more (L .inv) (omega arith) (search needs) (dirty-as (L .inv .state) (c .before .before .open-dirty .ensures))
 
 same-length : tie.Need-same-length Inv-loop μ-loop
 same-length c = c .before .loop .inv .same
 
 returns : tie.Need-returns Inv-loop μ-loop
-returns c = opening-end _ _ _ _ _ _ (c .before .loop .inv) (omega arith)
+returns c = looped-end (c .before .loop .inv) (omega arith)
 
 pub open-dirties-spec : {M : Type 1} → statement M
 open-dirties-spec =
@@ -43,9 +38,7 @@ open-dirties-spec =
     Inv-loop
     μ-loop
     loop-holds
-    open-dirty-requires
-    add-c
-    loop-less
+    open-dirty-requires (λ c. search needs) (λ c. search needs)
     loop-again
     same-length
     returns)

@@ -1,4 +1,3 @@
--- the object in the register
 use borrow.Author.Needs.{needs}
 use Rattle.model.specs.Image.{imageOf}
 use Rattle.model.specs.Rows.{rows-open}
@@ -15,6 +14,7 @@ use native.Mathlib.Omega.{arith}
 use Rattle.mutator.proofs.links.load.Statement.{statement}
 use Rattle.mutator.proofs.links.load.Tie as tie
 
+-- the object in the register
 object : (c : tie.Else1) → let A = c .before .before .before .before .args in ObjectAt (imageOf width (A .k) (A .im .now)) (c .before .reg .result)
 object c = reg-object _ _ _ (c .before .before .before .before .pre .1 .0) _ _ (c .before .reg .ensures) (c .if1 .left)
 

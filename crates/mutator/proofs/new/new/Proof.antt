@@ -1,4 +1,3 @@
--- the run found
 use borrow.Author.Needs.{needs}
 use Rattle.model.specs.Image.{imageOf}
 use Rattle.image.specs.Layout.{width}
@@ -9,6 +8,7 @@ use native.Mathlib.Omega.{arith}
 use Rattle.mutator.proofs.new.new.Statement.{statement}
 use Rattle.mutator.proofs.new.new.Tie as tie
 
+-- the run found
 room : (c : tie.Else4) → let A = c .before .before .before .before .before .before .before .args in RunFor (A .k) (imageOf width (A .k) (A .im .now)) (A .b) (c .before .find-room .result .run) (c .before .find-room .result .before)
 room c = run-for _ _ _ (c .before .before .before .before .before .before .before .pre .1 .0) _ _ _ (omega arith) (c .before .find-room .ensures) (c .if4 .left)
 

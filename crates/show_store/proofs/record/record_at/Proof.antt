@@ -1,7 +1,7 @@
 use borrow.Author.Needs.{needs}
-use Rattle.show_store.proofs.Records.{record-is}
+use Rattle.model.specs.Records.{recordBytes}
+use Rattle.show_store_laws.proofs.Record.{record-is}
 use native.Mathlib.Omega.{arith}
-use lib.Pow.{field}
 use Rattle.show_store.proofs.record.record_at.Statement.{statement}
 use Rattle.show_store.proofs.record.record_at.Tie as tie
 use Rattle.show_store.proofs.record.record_at.Reads as reads
@@ -9,40 +9,8 @@ use Rattle.show_store.proofs.record.record_at.Lts as lts
 use Rattle.show_store.proofs.record.field.Reads as field-reads
 use Rattle.show_store.proofs.record.wide.Reads as wide-reads
 
-shared-slice-read-wide : tie.Need-shared-slice-read-wide
-shared-slice-read-wide c = search needs
-
-wide-requires : tie.Need-wide-requires
-wide-requires c κs = search needs
-
-add-wide : tie.Need-add-wide
-add-wide c = search needs
-
-shared-slice-read-wide-2 : tie.Need-shared-slice-read-wide-2
-shared-slice-read-wide-2 c = search needs
-
-wide-requires-2 : tie.Need-wide-requires-2
-wide-requires-2 c κs = search needs
-
-add-field : tie.Need-add-field
-add-field c = search needs
-
-field-requires : tie.Need-field-requires
-field-requires c κs = search needs
-
-add-field-2 : tie.Need-add-field-2
-add-field-2 c = search needs
-
-field-requires-2 : tie.Need-field-requires-2
-field-requires-2 c κs = search needs
-
-add-field-3 : tie.Need-add-field-3
-add-field-3 c = search needs
-
-field-requires-3 : tie.Need-field-requires-3
-field-requires-3 c κs = search needs
-
 returns : tie.Need-returns
+unfolding recordBytes
 returns c =
     let A = c .before .before .before .before .before .before .before .before .args in
     let x = c .before .before .before .before .before .wide .ensures in
@@ -55,16 +23,5 @@ returns c =
 pub record-at-spec : {M : Type 1} → statement M
 record-at-spec =
     tie.close
-    (tie.spec
-    shared-slice-read-wide
-    wide-requires
-    add-wide
-    shared-slice-read-wide-2
-    wide-requires-2
-    add-field
-    field-requires
-    add-field-2
-    field-requires-2
-    add-field-3
-    field-requires-3
+    (tie.spec (λ c. search needs) (λ c κs. search needs) (λ c. search needs) (λ c. search needs) (λ c κs. search needs) (λ c. search needs) (λ c κs. search needs) (λ c. search needs) (λ c κs. search needs) (λ c. search needs) (λ c κs. search needs)
     returns)

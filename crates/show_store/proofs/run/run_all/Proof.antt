@@ -1,4 +1,6 @@
-use Rattle.show_store.proofs.Ran.{Ran, ran-none, ran-more, ran-end}
+use Rattle.image.specs.Layout.{width}
+use Rattle.model.specs.Records.{recordBytes}
+use Rattle.show_store_laws.proofs.Run.{Ran, ran-none, ran-more, ran-end}
 use Prim.Native.Nat.{_-_}
 use native.Mathlib.Omega.{arith}
 use borrow.Author.Needs.{needs}
@@ -7,7 +9,7 @@ use Rattle.show_store.proofs.run.run_all.Statement.{statement}
 use Rattle.show_store.proofs.run.run_all.Tie as tie
 
 abbrev Inv-loop : tie.InvT-loop
-Inv-loop im₀ k steps answers₀ n i₀ im answers i = Ran k im₀ steps answers₀ n im answers i
+Inv-loop im₀ k steps answers₀ n i₀ im answers i = Ran width k im₀ steps answers₀ n im answers i
 
 abbrev μ-loop : tie.MeasureT-loop
 μ-loop im₀ k steps answers₀ n i₀ im answers i = n - i
@@ -34,12 +36,13 @@ same-length-2 : tie.Need-same-length-2 Inv-loop μ-loop
 same-length-2 c = c .before .loop .inv .long
 
 returns : tie.Need-returns Inv-loop μ-loop
+unfolding recordBytes
 returns c =
     let A = c .before .before .before .before .before .args in
     let L = c .before .loop in
     let e : L .i ≡ A .n = omega arith in
-    ran-end (A .k) (A .im .now) (A .steps .now) (A .answers .now) (A .n) (L .im) (L .answers)
-    (subst (λ j. Ran (A .k) (A .im .now) (A .steps .now) (A .answers .now) (A .n) (L .im) (L .answers) j) e (L .inv)) (omega arith) (omega arith)
+    ran-end width (A .k) (A .im .now) (A .steps .now) (A .answers .now) (A .n) (L .im) (L .answers)
+    (subst (λ j. Ran width (A .k) (A .im .now) (A .steps .now) (A .answers .now) (A .n) (L .im) (L .answers) j) e (L .inv)) (omega arith) (omega arith)
 
 pub run-all-spec : {M : Type 1} → statement M
 run-all-spec =

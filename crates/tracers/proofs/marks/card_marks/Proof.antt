@@ -17,10 +17,10 @@ loop-holds : tie.Need-loop-holds Inv-loop μ-loop
 loop-holds c = (omega arith, marks-none _ _ _)
 
 loop-again : tie.Need-loop-again Inv-loop μ-loop
-loop-again c = let L = c .before .before .loop in let A = c .before .before .before .before .args in (omega arith, marks-more width (A .k) (A .im .now) (search needs) (A .c) (L .i) (L .marks) (L .inv .1) (omega arith) _ (c .mark-word .ensures) (omega arith))
+loop-again c = (omega arith, search marks-more)
 
 returns : tie.Need-returns Inv-loop μ-loop
-returns c = let L = c .before .loop in marks-all width _ _ (search needs) _ _ _ (L .inv .1) (omega arith)
+returns c = search marks-all
 
 pub card-marks-spec : {M : Type 1} → statement M
 card-marks-spec =

@@ -8,7 +8,7 @@ use Rattle.tracers.proofs.marks.next_marked.Statement.{statement}
 use Rattle.tracers.proofs.marks.next_marked.Tie as tie
 
 returns : tie.Need-returns
-returns c = next-past _ _ _ (omega arith)
+returns c = search next-past
 
 returns-2 : tie.Need-returns-2
 returns-2 c = let A = c .before .before .before .before .args in next-none _ _ (A .from) _ _ (omega arith) (omega arith) (c .before .card-marks .ensures) refl (c .if2 .taken)

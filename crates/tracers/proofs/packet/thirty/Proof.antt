@@ -22,7 +22,7 @@ loop-again c =
     )
 
 returns : tie.Need-returns Inv-loop μ-loop
-returns c = alike-done _ (c .before .loop .e) (c .before .loop .j) _ (c .before .loop .inv .1) (c .before .loop .inv .2) (omega arith) (omega arith)
+returns c = search alike-done
 
 pub thirty-spec : {M : Type 1} → statement M
 thirty-spec =

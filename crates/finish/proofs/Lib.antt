@@ -1,6 +1,0 @@
-pub mod Fold
-pub mod Counted
-pub mod Lists
-pub mod Down
-pub mod Ends
-pub mod Whole

@@ -1,0 +1,23 @@
+// Kind 13: the finish as a step. Its fields are tested before.
+ghost use mathlib.Core.Path.{_≡_};
+ghost use Rattle.model.specs.Image.{imageOf};
+ghost use Rattle.model.specs.Steps.{step};
+ghost use Rattle.theory.specs.Lines.{Sound};
+ghost use Rattle.image_laws.specs.Sized.{Sized};
+ghost use Rattle.image.specs.Layout.{width};
+ghost use Rattle.request_laws.specs.Answer.{asked};
+ghost use Rattle.request.specs.Answer.{doneOf};
+use image::layout::Word;
+use request::answer::Answer;
+
+pub fn finish(im: &mut [Word], k: usize) -> Answer
+    requires { ⌜ Sized width k (now im) ⌝ }
+    requires { ⌜ Sound (imageOf width k (now im)) ⌝ }
+    ensures { λ r. ⌜ doneOf r (imageOf width k (now (im .exit))) ≡ step (imageOf width k (now (im .entry))) (asked 13 0 0 0 0) ⌝ }
+{
+    if image::sections::running(im, k) == 0 {
+        return Answer::WrongPhase;
+    }
+    let freed = crate::finish(im, k);
+    Answer::Done(freed)
+}

@@ -1,0 +1,196 @@
+-- A finish as the code does it is the model's: marking, sweep and end together, on every sound image.
+use mathlib.Core.Path.{_≡_, refl, sym, ap, subst, fun-ext, _∙_}
+use mathlib.Core.Bool.{Bool, true, false}
+use mathlib.Core.List.{List, _++_}
+use Prim.Native.Nat.{ℕ, _+_, _*_, _<_, _^_}
+use native.Mathlib.Omega.{arith}
+use lib.ListN.{length, getD, set, take, drop, length-drop}
+use lib.Seq.{set-comm}
+use Rattle.model.specs.Base.{nth, put, zeros, bit, addBits}
+use Rattle.model.specs.Image.{Image, granules, isStart, marked, firstRun, imageOf, withHeap, withStarts, withMarks, withPackets, withTracers, withPlayers, withGeneral, setFirstRun, words}
+use Rattle.model.specs.Undamaged.{sound}
+use Rattle.model.specs.Finish.{Kept, kept-marked, kept-found, keptSet, Swept, sweptWords, firstOf, sweep, finishWith, finishStep}
+use Rattle.model.proofs.Words.{Fits, parts-words, words-fit}
+use Rattle.theory.specs.Lines.{Lines}
+use Rattle.theory.proofs.lines.Sizes.{fits-sizes}
+use Rattle.model.proofs.Sited.{Sited, sited}
+use Rattle.model.proofs.Found.{found-start, set-kept, kept-set}
+use Rattle.theory.specs.Heap.{Filled, HeapFilled}
+use Rattle.theory.proofs.heap.Facts.{heap-filled-of}
+use Rattle.model.proofs.Laws.{same-test}
+use Rattle.finish_laws.specs.Ending.{StartsKept, scannedOffTo, ended, finished}
+use Rattle.finish_laws.specs.Freed.{goes, freedBelow}
+use Rattle.finish_laws.specs.Gaps.{sweptAll}
+use Rattle.finish_laws.proofs.Ending.{off-to-all}
+use Rattle.finish_laws.proofs.Freed.{freed-counted, freed-small}
+use Rattle.finish_laws.proofs.gaps.Pieces.{withSweep, swept-all}
+use Rattle.image_laws.specs.Sized.{Sized}
+use Rattle.image_laws.proofs.Lengths.{width-image, cards-image, sized-width, starts-words, marks-words, cards-words}
+use Rattle.image_laws.proofs.Places.{granules-small}
+use Rattle.image_laws.proofs.Sections.{image-fits, granules-image}
+use Rattle.image_laws.proofs.Words.{zero-words, bit-words}
+use Rattle.finish_marking_laws.specs.Seeds.{KeptMarked}
+use Rattle.finish_marking_laws.proofs.Fits.{sound-lines}
+use Rattle.finish_marking_laws.proofs.seeds.Bared.{same-section}
+
+-- ---- what is marked is the computed set
+
+pub sited-of : (m : Image) → Fits m → sound m ≡ true → Sited m
+sited-of m f e = rw (parts-words m f) at (sited (m .width) (words m) (words-fit m f) (rw (parts-words m f) e))
+
+module _ (m m1 : Image) (s : Sited m) (o : Lines m) (q : KeptMarked m m1) where
+  kept-start : (g : ℕ) → Kept m g → isStart m g ≡ true
+  kept-start g (kept-marked h) = unfold isStart in (o .marks-ok .on-starts g (unfold marked in h)) .1
+  kept-start g (kept-found h) = found-start m s h .1
+
+  marks-kept : (g : ℕ) → marked m1 g ≡ getD (keptSet m) g false
+  marks-kept g = same-test _ _ (λ h. let r = q .only g h in kept-set m s g (kept-start g r) r) (λ h. q .all g (set-kept m s g h .1))
+
+  marks-starts : (g : ℕ) → marked m1 g ≡ true → isStart m1 g ≡ true
+  marks-starts g h = q .starts g ∙ kept-start g (q .only g h)
+
+-- ---- images by their fields
+
+same-fields : {w w' k k' : ℕ} {h h' s s' m m' c c' r r' p p' t t' u u' g g' : List ℕ} → w ≡ w' → k ≡ k' → h ≡ h' → s ≡ s' → m ≡ m' → c ≡ c' → r ≡ r' → p ≡ p' → t ≡ t' → u ≡ u' → g ≡ g'
+    → _≡_ {A = Image}
+    (record { width = w; k = k; heap = h; starts = s; marks = m; cards = c; regs = r; packets = p; tracers = t; players = u; general = g })
+    (record { width = w'; k = k'; heap = h'; starts = s'; marks = m'; cards = c'; regs = r'; packets = p'; tracers = t'; players = u'; general = g' })
+same-fields a b c d e f g h i j k =
+    λ x. record { width = a x; k = b x; heap = c x; starts = d x; marks = e x; cards = f x; regs = g x; packets = h x; tracers = i x; players = j x; general = k x }
+
+-- the fields after the sweep and the end
+ended-fields : (m : Image) (hs : List ℕ) (f : ℕ) → let i = withSweep m hs f in
+    ended (withStarts i (i .marks)) ≡ record {
+      width = m .width;
+      k = m .k;
+      heap = hs;
+      starts = m .marks;
+      marks = zeros (m .marks);
+      cards = m .cards;
+      regs = m .regs;
+      packets = zeros (m .packets);
+      tracers = zeros (m .tracers);
+      players = scannedOffTo (m .players) 16;
+      general = put (put (m .general) 1 f) 0 0;
+    }
+unfolding ended withSweep setFirstRun withHeap withStarts withMarks withPackets withTracers withPlayers withGeneral
+ended-fields m hs f = refl
+
+same-zeros : (l r : List ℕ) → length l ≡ length r → zeros l ≡ zeros r
+unfolding zeros
+same-zeros l r e = rw e
+
+-- ---- the whole
+
+module _ {w k : ℕ} {ws ws1 : List ℕ} (z : Sized w k ws) (z1 : Sized w k ws1) (e : sound (imageOf w k ws) ≡ true) (q : KeptMarked (imageOf w k ws) (imageOf w k ws1)) where
+  abbrev m : Image
+  m = imageOf w k ws
+
+  abbrev m1 : Image
+  m1 = imageOf w k ws1
+
+  abbrev is-kept : ℕ → Bool
+  is-kept g = getD (keptSet m) g false
+
+  same-set : (g : ℕ) → marked m1 g ≡ is-kept g
+  same-set = marks-kept m m1 (sited-of m (image-fits z) e) (sound-lines z e) q
+
+  -- the sweep over what is kept, and over the marks
+  kept-sweep : Swept
+  kept-sweep = sweep (isStart m) is-kept (granules m) 1 (drop 4 (m .heap))
+
+  marks-sweep : Swept
+  marks-sweep = sweep (isStart m1) (marked m1) (granules m) 1 (drop 4 (m1 .heap))
+
+  same-sweep : marks-sweep ≡ kept-sweep
+  unfolding kept-sweep marks-sweep
+  same-sweep =
+      ap (λ (st : ℕ → Bool). sweep st (marked m1) (granules m) 1 (drop 4 (m1 .heap))) (fun-ext (q .starts))
+      ∙ ap (λ (kp : ℕ → Bool). sweep (isStart m) kp (granules m) 1 (drop 4 (m1 .heap))) (fun-ext same-set)
+      ∙ ap (λ (hs : List ℕ). sweep (isStart m) is-kept (granules m) 1 (drop 4 hs)) (q .heap)
+
+  heap-filled : HeapFilled m
+  heap-filled = heap-filled-of (sound-lines z e)
+
+  filled : Filled (isStart m1) 1 (drop 4 (m1 .heap)) (firstRun m) false
+  filled =
+      subst (λ (st : ℕ → Bool). Filled st 1 (drop 4 (m1 .heap)) (firstRun m) false) (sym (fun-ext (q .starts)))
+      (subst (λ (hs : List ℕ). Filled (isStart m) 1 (drop 4 hs) (firstRun m) false) (sym (q .heap)) (heap-filled .heap-filled))
+
+  long : length (m1 .heap) ≡ 4 * (64 * k)
+  long = rw (cards-image w k ws1) at (fits-sizes m1 (image-fits z1) .heap-size)
+
+  behind : 4 + length (drop 4 (m1 .heap)) ≡ 4 * (64 * k)
+  behind = omega (arith, length-drop 4 (m1 .heap), long, z .low)
+
+  enough : length (drop 4 (m1 .heap)) < 4 * granules m
+  enough = omega (arith, behind, granules-image w k ws)
+
+  kept : (g : ℕ) → marked m1 g ≡ true → isStart m1 g ≡ true
+  kept = marks-starts m m1 (sited-of m (image-fits z) e) (sound-lines z e) q
+
+  swept-image : sweptAll k m1 ≡ withSweep m1 (take 4 (m1 .heap) ++ sweptWords marks-sweep) (firstOf 1 marks-sweep)
+  unfolding marks-sweep
+  swept-image = swept-all k m1 (z .low) long (omega (arith, fits-sizes m1 (image-fits z1) .general-size)) kept (granules m) filled enough behind
+
+  -- ---- the value
+
+  nothing-first : freedBelow m1 1 ≡ 0
+  unfolding freedBelow goes
+  nothing-first = rw (none (isStart m1 0) refl)
+    where
+      none : (b : Bool) → isStart m1 0 ≡ b → isStart m1 0 ≡ false
+      none true h = absurd (omega (arith, heap-filled .start-range 0 (sym (q .starts 0) ∙ h)))
+      none false h = h
+
+  freed-is : freedBelow m1 (64 * k) ≡ marks-sweep .freed
+  unfolding marks-sweep
+  freed-is = freed-counted m1 kept (64 * k) (granules m) filled enough behind refl ∙ omega (arith, nothing-first)
+
+  pub freed-fits : freedBelow m1 (64 * k) < 2 ^ w
+  unfolding marks-sweep
+  freed-fits = omega (arith, freed-is, freed-small m1 kept (granules m) filled enough, behind, granules-small w k (sized-width z) (z .high))
+
+  -- ---- the sections
+
+  starts-is : ((i : ℕ) → nth (m1 .marks) i < 2 ^ w) → m1 .marks ≡ addBits (m .width) is-kept (granules m) (zeros (m .starts))
+  starts-is small =
+      bit-words w k (sized-width z) is-kept (m1 .marks) (marks-words z1) small bits (m .starts) (starts-words z)
+      ∙ rw (granules-image w k ws, width-image w k ws)
+    where
+      bits : (g : ℕ) → g < 64 * k → bit w (m1 .marks) g ≡ is-kept g
+      bits g h =
+          let r : bit (m1 .width) (m1 .marks) g ≡ is-kept g = unfold marked in same-set g in
+          rw (width-image w k ws1) at r
+
+  general-is : put (put (m1 .general) 1 (firstOf 1 marks-sweep)) 0 0 ≡ put (put (m .general) 0 0) 1 (firstOf 1 kept-sweep)
+  unfolding put
+  general-is = set-comm (m1 .general) 1 0 (firstOf 1 marks-sweep) 0 (omega arith) ∙ ap (λ (r : Swept). set (set (m1 .general) 0 0) 1 (firstOf 1 r)) same-sweep ∙ ap (λ (l : List ℕ). set (set l 0 0) 1 (firstOf 1 kept-sweep)) (same-section (q .rest) 4)
+
+  pub finish-whole : (f : ℕ) (m2 m3 m4 : Image) → f ≡ freedBelow m1 (64 * k) → m2 ≡ sweptAll k m1 → StartsKept w m2 m3 → m4 ≡ ended m3 → finished f m4 ≡ finishStep m
+  unfolding finishStep finishWith kept-sweep
+  finish-whole f m2 m3 m4 ef e2 s e4 = λ x. record { image = image-is x; value = (ef ∙ freed-is ∙ ap (λ (r : Swept). r .freed) same-sweep) x }
+    where
+      whole : m2 ≡ withSweep m1 (take 4 (m1 .heap) ++ sweptWords marks-sweep) (firstOf 1 marks-sweep)
+      whole = e2 ∙ swept-image
+
+      same-marks : m2 .marks ≡ m1 .marks
+      same-marks = ap (λ (i : Image). i .marks) whole ∙ unfold withSweep setFirstRun withHeap withGeneral in refl
+
+      image-is : m4 ≡ finishWith m (keptSet m) .image
+      image-is =
+          e4 ∙ ap ended (s .image)
+          ∙ ap (λ (i : Image). ended (withStarts i (i .marks))) whole
+          ∙ ended-fields m1 (take 4 (m1 .heap) ++ sweptWords marks-sweep) (firstOf 1 marks-sweep)
+          ∙ same-fields
+          (width-image w k ws1 ∙ sym (width-image w k ws))
+          (cards-image w k ws1 ∙ sym (cards-image w k ws))
+          (ap (λ (hs : List ℕ). take 4 hs ++ sweptWords marks-sweep) (q .heap) ∙ ap (λ (r : Swept). take 4 (m .heap) ++ sweptWords r) same-sweep)
+          (starts-is (λ i. rw same-marks at (s .small i)))
+          (same-zeros _ _ (marks-words z1 ∙ sym (marks-words z)))
+          (zero-words _ _ (cards-words z1 ∙ sym (cards-words z)) (q .cards))
+          (same-section (q .rest) 0)
+          (ap zeros (same-section (q .rest) 1))
+          (ap zeros (same-section (q .rest) 2))
+          (ap (λ (l : List ℕ). scannedOffTo l 16) (same-section (q .rest) 3) ∙ off-to-all (m .players) 16 (fits-sizes m (image-fits z) .players-size))
+          general-is

@@ -1,0 +1,5 @@
+pub mod gaps
+pub mod Freed
+pub mod Ending
+pub mod Finish
+pub mod Step

@@ -1,0 +1,3 @@
+-- The sweep.
+pub mod Code
+pub mod Pieces

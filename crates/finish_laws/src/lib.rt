@@ -1,0 +1,1 @@
+// The laws of a finish, for images of any width.

@@ -1,0 +1,11 @@
+use borrow.Author.Needs.{needs}
+use Rattle.model.specs.Batch.{freshOf}
+use Rattle.show_store.proofs.fresh.Statement.{statement}
+use Rattle.show_store.proofs.fresh.Tie as tie
+
+returns : tie.Need-returns
+unfolding freshOf
+returns c = search needs
+
+pub fresh-spec : {M : Type 1} → statement M
+fresh-spec = tie.close (tie.spec (λ c κs. search needs) (λ c. search needs) returns)

@@ -1,0 +1,11 @@
+use borrow.Author.Needs.{needs}
+use Rattle.model.specs.Batch.{judgeOf}
+use Rattle.show_store.proofs.judge.Statement.{statement}
+use Rattle.show_store.proofs.judge.Tie as tie
+
+returns : tie.Need-returns
+unfolding judgeOf
+returns c = search needs
+
+pub judge-spec : {M : Type 1} → statement M
+judge-spec = tie.close (tie.spec (λ c κs. search needs) returns)
