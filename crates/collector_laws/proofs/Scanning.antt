@@ -11,7 +11,7 @@ use Rattle.model.specs.Image.{Image, reg, scanned, setScanned}
 use Rattle.model.specs.Collect.{reach, reachAll, scanPlayer}
 use Rattle.theory.specs.Lines.{NilOr, Start, Lines}
 use Rattle.theory.proofs.heap.Facts.{reg-value}
-use Rattle.theory.proofs.steps.Reaching.{Reached, reach-does}
+use Rattle.theory.proofs.steps.Reaching.{ReachedOnce, reach-does}
 use Rattle.collector_laws.specs.Outcome.{doneUnless}
 use Rattle.model.specs.Examples.{at}
 use Rattle.request_laws.specs.Answer.{done}
@@ -37,7 +37,7 @@ module _ (m : Image) (t p r : ℕ) (n : Image) (o : Scanning m t p r n) where
     scan-reg = rw e (reg-value (o .lines) p r)
 
     module _ (ht : t < 8) (hp : p < 16) (hr : r < 16) (n′ : Image) (f : n′ ≡ reach n t g) where
-      reached : Reached n g (reach n t g)
+      reached : ReachedOnce n g (reach n t g)
       reached = reach-does n (o .lines) t g ht scan-reg
 
       next : reachAll n t (take (16 - r) (drop (16 * p + r) (m .regs))) ≡ reachAll n′ t (take (16 - (r + 1)) (drop (16 * p + (r + 1)) (m .regs)))

@@ -15,9 +15,9 @@ use Rattle.image_laws.proofs.Sections.{words-image}
 
 -- a slice of zeros with the run's length and the first free run written
 module _ (w k : ℕ) (ws zs us vs : List ℕ) where
-  pub fresh-words : Sized w k ws → length vs ≡ length ws → zs ≡ replicate (length ws) 0 → imageOf w k us ≡ setWord (imageOf w k zs) 1 0 (64 * k - 1) → imageOf w k vs ≡ setFirstRun (imageOf w k us) 1 → vs ≡ freshStore w k
+  pub fresh-written : Sized w k ws → length vs ≡ length ws → zs ≡ replicate (length ws) 0 → imageOf w k us ≡ setWord (imageOf w k zs) 1 0 (64 * k - 1) → imageOf w k vs ≡ setFirstRun (imageOf w k us) 1 → vs ≡ freshStore w k
   unfolding freshStore
-  fresh-words y l e f g = sym (words-image (record { low = y .low; high = y .high; long = l ∙ y .long })) ∙ rw (g, f, e, y .long)
+  fresh-written y l e f g = sym (words-image (record { low = y .low; high = y .high; long = l ∙ y .long })) ∙ rw (g, f, e, y .long)
 
 module _ (w : ℕ) (ws : List ℕ) (s : Extent) (e : s ≡ extentOf w (length ws)) where
   pub fresh-misfit : s ≡ Misfit → madeOf 1 ws ≡ freshAt w ws

@@ -56,7 +56,7 @@ table-make a zero f i h e = absurd (omega arith)
 table-make a (suc n) f zero h e = List·Memᴰ·head (sym e)
 table-make a (suc n) f (suc i) h e = List·Memᴰ·tail (table-make a n (λ j. f (suc j)) i (le-of-suc-le-suc h) e)
 
--- a table read at a place; past its end it has the default
+-- a table read at a place-of; past its end it has the default
 pub table-below : (n : ℕ) (f : ℕ → Bool) (i : ℕ) → i < n → getD (table n f) i false ≡ f i
 unfolding table
 table-below zero f i h = absurd (omega arith)
@@ -69,11 +69,11 @@ table-in zero f i e = false≢ e
 table-in (suc n) f zero e = omega arith
 table-in (suc n) f (suc i) e = suc-le-suc (table-in n (λ j. f (suc j)) i e)
 
--- members of a list by place
-pub place : (a : ℕ) (l : List ℕ) → Mem a l → (i : ℕ) × (i < length l) × (nth l i ≡ a)
+-- members of a list by place-of
+pub place-of : (a : ℕ) (l : List ℕ) → Mem a l → (i : ℕ) × (i < length l) × (nth l i ≡ a)
 unfolding nth
-place a (x ∷ l) (List·Memᴰ·head e) = (0, omega arith, sym e)
-place a (x ∷ l) (List·Memᴰ·tail h) = let r = place a l h in (suc (r .0), suc-le-suc (r .1), r .2)
+place-of a (x ∷ l) (List·Memᴰ·head e) = (0, omega arith, sym e)
+place-of a (x ∷ l) (List·Memᴰ·tail h) = let r = place-of a l h in (suc (r .0), suc-le-suc (r .1), r .2)
 
 placed : (a : ℕ) (l : List ℕ) (i : ℕ) → i < length l → nth l i ≡ a → Mem a l
 unfolding nth
@@ -177,7 +177,7 @@ seed-use m s a h = go (List·Memᴰ·append-cases (nonNil (m .regs)) h)
     go : Mem a (nonNil (m .regs)) ⊎ Mem a (dueFrom m (granules m)) → Found m a
     go (inl k) =
         let n = nonNil-use a (m .regs) k in
-        let r = place a (m .regs) (n .0) in
+        let r = place-of a (m .regs) (n .0) in
         let split : 16 * (r .0 / 16) + r .0 % 16 ≡ r .0 = omega arith in
         found-reg (r .0 / 16) (r .0 % 16) (omega (arith, s .regs-length)) (omega arith) (ap (nth (m .regs)) split ∙ r .2) (n .1)
     go (inr k) =

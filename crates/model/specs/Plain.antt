@@ -7,7 +7,7 @@ use lib.Dec.{leb, eqb}
 use Rattle.model.specs.Base.{some, first}
 use Rattle.model.specs.Image.{Image, size, links, link, level, reg, owed}
 use Rattle.model.specs.Records.{Step, Kind, new, load, store, barrier, handOver, dropReg, read, write, kindOf}
-use Rattle.model.specs.Rows.{rowOf, is, forKind, isPlayer, fields, atPlace}
+use Rattle.model.specs.Rows.{rowOf, is, forKind, isPlayer, fields, atTarget}
 use Rattle.model.specs.Steps.{Event, unnamed, offDesk, badSize}
 
 -- ---- the state
@@ -103,8 +103,8 @@ module _ (q : PlainStore) (s : Step) where
 
   -- 6
   unfoldable pub plainNoObject : Kind → Bool
-  unfolding rowOf atPlace
-  plainNoObject n = let nil : ℕ → ℕ → Bool = λ r i. isNil (holding r) in atPlace s nil nil ((rowOf n) .place)
+  unfolding rowOf atTarget
+  plainNoObject n = let nil : ℕ → ℕ → Bool = λ r i. isNil (holding r) in atTarget s nil nil ((rowOf n) .target)
 
   -- the number of level words of an object
   unfoldable pub plainLevels : Object → ℕ
@@ -112,8 +112,8 @@ module _ (q : PlainStore) (s : Step) where
 
   -- 7
   unfoldable pub plainPastEnd : Kind → Bool
-  unfolding rowOf atPlace
-  plainPastEnd n = atPlace s (λ r i. leb (q .linkCount (holding r)) i) (λ r i. leb (plainLevels (holding r)) i) ((rowOf n) .place)
+  unfolding rowOf atTarget
+  plainPastEnd n = atTarget s (λ r i. leb (q .linkCount (holding r)) i) (λ r i. leb (plainLevels (holding r)) i) ((rowOf n) .target)
 
   -- 11
   unfoldable pub plainNothing : Kind → Bool

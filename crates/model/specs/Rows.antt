@@ -1,4 +1,4 @@
--- The kinds, a row for each: what its fields are, and what it asks for. A kind more is a row here, and a line in `act`.
+-- The kinds, a kindRow for each: what its fields are, and what it asks for. A kind more is a kindRow here, and a line in `act`.
 use mathlib.Core.Bool.{Bool, true, false}
 use mathlib.Core.List.{List, [], _∷_}
 use Prim.Native.Nat.{ℕ}
@@ -15,44 +15,44 @@ pub data Field : Type 0 where
   inA inB inC : Field
 
 -- the link or level word that a kind goes to: the field that is the object's register, and the field that says which word
-pub data Place : Type 0 where
-  nowhere : Place
-  linkAt levelAt : Field → Field → Place
+pub data Target : Type 0 where
+  nowhere : Target
+  linkAt levelAt : Field → Field → Target
 
 pub data Phase : Type 0 where
   anyPhase noCycle inCycle : Phase
 
 -- the kind's number, or 0; the roles of its fields; whether its players must owe nothing; where it goes; in which phase
-pub record Row : Type 0 where
+pub record KindRow : Type 0 where
   pub code : ℕ
   pub who : Role
   pub a : Role
   pub b : Role
   pub c : Role
   pub unowing : Bool
-  pub place : Place
+  pub target : Target
   pub phase : Phase
 
-unfoldable pub row : ℕ → Role → Role → Role → Role → Bool → Place → Phase → Row
-row n w a b c u p h = record { code = n; who = w; a = a; b = b; c = c; unowing = u; place = p; phase = h }
+unfoldable pub kindRow : ℕ → Role → Role → Role → Role → Bool → Target → Phase → KindRow
+kindRow n w a b c u p h = record { code = n; who = w; a = a; b = b; c = c; unowing = u; target = p; phase = h }
 
-unfoldable pub rowOf : Kind → Row
-unfolding row
-rowOf new = row 1 player register number number true nowhere anyPhase
-rowOf load = row 2 player register register number true (linkAt inB inC) anyPhase
-rowOf store = row 3 player register number register true (linkAt inA inB) anyPhase
-rowOf barrier = row 4 player unused unused unused false nowhere anyPhase
-rowOf handOver = row 5 player register player register true nowhere anyPhase
-rowOf dropReg = row 6 player register unused unused true nowhere anyPhase
-rowOf read = row 7 player register number unused true (levelAt inA inB) anyPhase
-rowOf write = row 8 player register number number true (levelAt inA inB) anyPhase
-rowOf begin = row 9 unused unused unused unused false nowhere noCycle
-rowOf scan = row 10 tracer player unused unused false nowhere inCycle
-rowOf trace = row 11 tracer unused unused unused false nowhere inCycle
-rowOf clean = row 12 tracer unused unused unused false nowhere inCycle
-rowOf finish = row 13 unused unused unused unused false nowhere inCycle
-rowOf isDue = row 14 unused number unused unused false nowhere anyPhase
-rowOf unknown = row 0 number number number number false nowhere anyPhase
+unfoldable pub rowOf : Kind → KindRow
+unfolding kindRow
+rowOf new = kindRow 1 player register number number true nowhere anyPhase
+rowOf load = kindRow 2 player register register number true (linkAt inB inC) anyPhase
+rowOf store = kindRow 3 player register number register true (linkAt inA inB) anyPhase
+rowOf barrier = kindRow 4 player unused unused unused false nowhere anyPhase
+rowOf handOver = kindRow 5 player register player register true nowhere anyPhase
+rowOf dropReg = kindRow 6 player register unused unused true nowhere anyPhase
+rowOf read = kindRow 7 player register number unused true (levelAt inA inB) anyPhase
+rowOf write = kindRow 8 player register number number true (levelAt inA inB) anyPhase
+rowOf begin = kindRow 9 unused unused unused unused false nowhere noCycle
+rowOf scan = kindRow 10 tracer player unused unused false nowhere inCycle
+rowOf trace = kindRow 11 tracer unused unused unused false nowhere inCycle
+rowOf clean = kindRow 12 tracer unused unused unused false nowhere inCycle
+rowOf finish = kindRow 13 unused unused unused unused false nowhere inCycle
+rowOf isDue = kindRow 14 unused number unused unused false nowhere anyPhase
+rowOf unknown = kindRow 0 number number number number false nowhere anyPhase
 
 -- ---- one kind and another
 
@@ -99,11 +99,11 @@ unfoldable pub reaches : Limit → ℕ → Bool
 reaches noLimit x = false
 reaches (below l) x = leb l x
 
--- ---- a record by its kind's row
+-- ---- a record by its kind's kindRow
 
 module _ (s : Step) where
   -- a test of each field by its role
-  unfoldable pub fields : (Role → ℕ → Bool) → Row → List Bool
+  unfoldable pub fields : (Role → ℕ → Bool) → KindRow → List Bool
   fields f r = f (r .who) (s .who) ∷ f (r .a) (s .a) ∷ f (r .b) (s .b) ∷ f (r .c) (s .c) ∷ []
 
   unfoldable pub fieldOf : Field → ℕ
@@ -112,13 +112,13 @@ module _ (s : Step) where
   fieldOf inC = s .c
 
   -- a test of the object's register and the word's index, by what the word is; none passes where the kind goes nowhere
-  unfoldable pub atPlace : (link level : ℕ → ℕ → Bool) → Place → Bool
+  unfoldable pub atTarget : (link level : ℕ → ℕ → Bool) → Target → Bool
   unfolding fieldOf
-  atPlace l v nowhere = false
-  atPlace l v (linkAt r i) = l (fieldOf r) (fieldOf i)
-  atPlace l v (levelAt r i) = v (fieldOf r) (fieldOf i)
+  atTarget l v nowhere = false
+  atTarget l v (linkAt r i) = l (fieldOf r) (fieldOf i)
+  atTarget l v (levelAt r i) = v (fieldOf r) (fieldOf i)
 
 -- opens all of these
 unfoldable pub rows-open : ℕ
-unfolding row rowOf is forKind isUnused isPlayer limit reaches fields fieldOf atPlace
+unfolding kindRow rowOf is forKind isUnused isPlayer limit reaches fields fieldOf atTarget
 rows-open = 0

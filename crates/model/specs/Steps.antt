@@ -6,7 +6,7 @@ use lib.Dec.{leb, ltb, eqb}
 use Rattle.model.specs.Base.{some, first}
 use Rattle.model.specs.Image.{Image, links, link, levels, level, reg, owed, scanned, running, setWord, setReg, setOwed, dirtyCard}
 use Rattle.model.specs.Records.{Step, Kind, new, load, store, barrier, handOver, dropReg, read, write, begin, scan, trace, clean, finish, isDue, unknown, kindOf}
-use Rattle.model.specs.Rows.{Phase, anyPhase, noCycle, inCycle, rowOf, is, forKind, isUnused, isPlayer, limit, reaches, fields, atPlace, rows-open}
+use Rattle.model.specs.Rows.{Phase, anyPhase, noCycle, inCycle, rowOf, is, forKind, isUnused, isPlayer, limit, reaches, fields, atTarget, rows-open}
 use Rattle.model.specs.Mutate.{roomFor, newObject, freeGranules}
 use Rattle.model.specs.Collect.{beginCycle, scanPlayer, traceLine, traceStep, cleanLine, cleanStep}
 use Rattle.model.specs.Finish.{Finish, finishStep}
@@ -57,13 +57,13 @@ module _ (m : Image) (s : Step) where
 
   -- 6 no object: "the object register of kinds 2, 3, 7, 8 is nil"
   unfoldable pub noObject : Kind → Bool
-  unfolding rowOf atPlace
-  noObject n = let nil : ℕ → ℕ → Bool = λ r i. eqb (object r) 0 in atPlace s nil nil ((rowOf n) .place)
+  unfolding rowOf atTarget
+  noObject n = let nil : ℕ → ℕ → Bool = λ r i. eqb (object r) 0 in atTarget s nil nil ((rowOf n) .target)
 
   -- 7 past the end: "no such link or level word"
   unfoldable pub pastEnd : Kind → Bool
-  unfolding rowOf atPlace
-  pastEnd n = atPlace s (λ r i. leb (links m (object r)) i) (λ r i. leb (levels m (object r)) i) ((rowOf n) .place)
+  unfolding rowOf atTarget
+  pastEnd n = atTarget s (λ r i. leb (links m (object r)) i) (λ r i. leb (levels m (object r)) i) ((rowOf n) .target)
 
   -- 9 no room: "no b neighbouring granules free"
   unfoldable pub noRoom : Kind → Bool

@@ -9,7 +9,7 @@ use lib.Dec.{leb, eqb}
 use borrow.Author.Tests.{le-leb, lt-leb, eq-eqb, ne-eqb}
 use Rattle.model.specs.Image.{Image, imageOf, isStart, links, levels, reg}
 use Rattle.model.specs.Records.{Step, Kind}
-use Rattle.model.specs.Rows.{Place, rowOf, atPlace}
+use Rattle.model.specs.Rows.{Target, rowOf, atTarget}
 use Rattle.model.specs.Steps.{object, noObject, pastEnd, badSize, noRoom, wrongPhase, nothingToDo, act, step}
 use Rattle.theory.specs.Heap.{ObjectAt}
 use Rattle.theory.specs.Lines.{Start, Sound}
@@ -24,17 +24,17 @@ use Rattle.mutator_laws.specs.Objects.{Means, means-link, means-level}
 -- ---- the word that a record means
 
 module _ {m : Image} {s : Step} where
-  none-by : {x : Place} {g l i : ℕ} → Means m s x g l i → atPlace s (λ r j. eqb (object m s r) 0) (λ r j. eqb (object m s r) 0) x ≡ eqb g 0
-  unfolding atPlace object
+  none-by : {x : Target} {g l i : ℕ} → Means m s x g l i → atTarget s (λ r j. eqb (object m s r) 0) (λ r j. eqb (object m s r) 0) x ≡ eqb g 0
+  unfolding atTarget object
   none-by (means-link e f h) = rw e
   none-by (means-level e f h) = rw e
 
-  past-by : {x : Place} {g l i : ℕ} → Means m s x g l i → atPlace s (λ r j. leb (links m (object m s r)) j) (λ r j. leb (levels m (object m s r)) j) x ≡ leb l i
-  unfolding atPlace object
+  past-by : {x : Target} {g l i : ℕ} → Means m s x g l i → atTarget s (λ r j. leb (links m (object m s r)) j) (λ r j. leb (levels m (object m s r)) j) x ≡ leb l i
+  unfolding atTarget object
   past-by (means-link e f h) = rw (f, e, h)
   past-by (means-level e f h) = rw (f, e, h)
 
-  module _ {n : Kind} {g l i : ℕ} (q : Passed m s n) (t : Means m s ((rowOf n) .place) g l i) where
+  module _ {n : Kind} {g l i : ℕ} (q : Passed m s n) (t : Means m s ((rowOf n) .target) g l i) where
     pub object-nil : g ≡ 0 → done 6 0 m ≡ step m s
     unfolding noObject
     object-nil z = number-6 q (none-by t ∙ eq-eqb g 0 z)

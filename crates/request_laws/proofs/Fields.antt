@@ -179,6 +179,6 @@ module _ (m : Image) (s : Step) {x : Admission} (f : x ≡ admissionOf m s) wher
   unfolding admissionOf
   refused-owing e = let q = said-owing _ _ _ (sym f ∙ e) in number-5 m s (kindOf (s .kind)) refl (q .0) (q .1) (q .2)
 
-  pub admitted : x ≡ Admitted → Passed m s (kindOf (s .kind))
+  pub admitted-passes : x ≡ Admitted → Passed m s (kindOf (s .kind))
   unfolding admissionOf
-  admitted e = let q = said-admitted _ _ _ (sym f ∙ e) in record { is-kind = refl; named = q .0; on-desk = q .1; none-owed = q .2 }
+  admitted-passes e = let q = said-admitted _ _ _ (sym f ∙ e) in record { is-kind = refl; named = q .0; on-desk = q .1; none-owed = q .2 }

@@ -50,96 +50,96 @@ module _ (w : ℕ) {m : Image} (r : Request) (v : InRange w r) (q : Passed m (re
   unfolding kindOf boundAt roleAt fieldAt requested
   new-fields e = ((below-at 1 e 0 (omega arith) 15 refl, below-at 1 e 1 (omega arith) 15 refl), paid-at 1 e 0 (omega arith) refl refl)
 
-  pub new-step : r .kind ≡ 1 → (d : steps.Done) → d ≡ step m (asked 1 (r .who) (r .a) (r .b) (r .c)) → d ≡ step m (requested r)
-  new-step e d = by-kind m r 1 (r .who) (r .a) (r .b) (r .c) d e refl refl refl refl
+  pub new-dispatched : r .kind ≡ 1 → (d : steps.Done) → d ≡ step m (asked 1 (r .who) (r .a) (r .b) (r .c)) → d ≡ step m (requested r)
+  new-dispatched e d = by-kind m r 1 (r .who) (r .a) (r .b) (r .c) d e refl refl refl refl
 
   pub load-fields : r .kind ≡ 2 → ((r .who < 16) × (r .a < 16) × (r .b < 16)) × (owed m (r .who) ≡ 0)
   unfolding kindOf boundAt roleAt fieldAt requested
   load-fields e = ((below-at 2 e 0 (omega arith) 15 refl, below-at 2 e 1 (omega arith) 15 refl, below-at 2 e 2 (omega arith) 15 refl), paid-at 2 e 0 (omega arith) refl refl)
 
-  pub load-step : r .kind ≡ 2 → (d : steps.Done) → d ≡ step m (asked 2 (r .who) (r .a) (r .b) (r .c)) → d ≡ step m (requested r)
-  load-step e d = by-kind m r 2 (r .who) (r .a) (r .b) (r .c) d e refl refl refl refl
+  pub load-dispatched : r .kind ≡ 2 → (d : steps.Done) → d ≡ step m (asked 2 (r .who) (r .a) (r .b) (r .c)) → d ≡ step m (requested r)
+  load-dispatched e d = by-kind m r 2 (r .who) (r .a) (r .b) (r .c) d e refl refl refl refl
 
   pub store-fields : r .kind ≡ 3 → ((r .who < 16) × (r .a < 16) × (r .c < 16)) × (owed m (r .who) ≡ 0)
   unfolding kindOf boundAt roleAt fieldAt requested
   store-fields e = ((below-at 3 e 0 (omega arith) 15 refl, below-at 3 e 1 (omega arith) 15 refl, below-at 3 e 3 (omega arith) 15 refl), paid-at 3 e 0 (omega arith) refl refl)
 
-  pub store-step : r .kind ≡ 3 → (d : steps.Done) → d ≡ step m (asked 3 (r .who) (r .a) (r .b) (r .c)) → d ≡ step m (requested r)
-  store-step e d = by-kind m r 3 (r .who) (r .a) (r .b) (r .c) d e refl refl refl refl
+  pub store-dispatched : r .kind ≡ 3 → (d : steps.Done) → d ≡ step m (asked 3 (r .who) (r .a) (r .b) (r .c)) → d ≡ step m (requested r)
+  store-dispatched e d = by-kind m r 3 (r .who) (r .a) (r .b) (r .c) d e refl refl refl refl
 
   pub barrier-fields : r .kind ≡ 4 → r .who < 16
   unfolding kindOf boundAt roleAt fieldAt requested
   barrier-fields e = below-at 4 e 0 (omega arith) 15 refl
 
-  pub barrier-step : r .kind ≡ 4 → (d : steps.Done) → d ≡ step m (asked 4 (r .who) 0 0 0) → d ≡ step m (requested r)
+  pub barrier-dispatched : r .kind ≡ 4 → (d : steps.Done) → d ≡ step m (asked 4 (r .who) 0 0 0) → d ≡ step m (requested r)
   unfolding kindOf boundAt roleAt fieldAt requested
-  barrier-step e d = by-kind m r 4 (r .who) 0 0 0 d e refl (zero-at 4 e 1 (omega arith) refl) (zero-at 4 e 2 (omega arith) refl) (zero-at 4 e 3 (omega arith) refl)
+  barrier-dispatched e d = by-kind m r 4 (r .who) 0 0 0 d e refl (zero-at 4 e 1 (omega arith) refl) (zero-at 4 e 2 (omega arith) refl) (zero-at 4 e 3 (omega arith) refl)
 
   pub hand-fields : r .kind ≡ 5 → ((r .who < 16) × (r .a < 16) × (r .b < 16) × (r .c < 16)) × ((owed m (r .who) ≡ 0) × (owed m (r .b) ≡ 0))
   unfolding kindOf boundAt roleAt fieldAt requested
   hand-fields e = ((below-at 5 e 0 (omega arith) 15 refl, below-at 5 e 1 (omega arith) 15 refl, below-at 5 e 2 (omega arith) 15 refl, below-at 5 e 3 (omega arith) 15 refl), (paid-at 5 e 0 (omega arith) refl refl, paid-at 5 e 2 (omega arith) refl refl))
 
-  pub hand-step : r .kind ≡ 5 → (d : steps.Done) → d ≡ step m (asked 5 (r .who) (r .a) (r .b) (r .c)) → d ≡ step m (requested r)
-  hand-step e d = by-kind m r 5 (r .who) (r .a) (r .b) (r .c) d e refl refl refl refl
+  pub hand-dispatched : r .kind ≡ 5 → (d : steps.Done) → d ≡ step m (asked 5 (r .who) (r .a) (r .b) (r .c)) → d ≡ step m (requested r)
+  hand-dispatched e d = by-kind m r 5 (r .who) (r .a) (r .b) (r .c) d e refl refl refl refl
 
   pub drop-fields : r .kind ≡ 6 → ((r .who < 16) × (r .a < 16)) × (owed m (r .who) ≡ 0)
   unfolding kindOf boundAt roleAt fieldAt requested
   drop-fields e = ((below-at 6 e 0 (omega arith) 15 refl, below-at 6 e 1 (omega arith) 15 refl), paid-at 6 e 0 (omega arith) refl refl)
 
-  pub drop-step : r .kind ≡ 6 → (d : steps.Done) → d ≡ step m (asked 6 (r .who) (r .a) 0 0) → d ≡ step m (requested r)
+  pub drop-dispatched : r .kind ≡ 6 → (d : steps.Done) → d ≡ step m (asked 6 (r .who) (r .a) 0 0) → d ≡ step m (requested r)
   unfolding kindOf boundAt roleAt fieldAt requested
-  drop-step e d = by-kind m r 6 (r .who) (r .a) 0 0 d e refl refl (zero-at 6 e 2 (omega arith) refl) (zero-at 6 e 3 (omega arith) refl)
+  drop-dispatched e d = by-kind m r 6 (r .who) (r .a) 0 0 d e refl refl (zero-at 6 e 2 (omega arith) refl) (zero-at 6 e 3 (omega arith) refl)
 
   pub read-fields : r .kind ≡ 7 → ((r .who < 16) × (r .a < 16)) × (owed m (r .who) ≡ 0)
   unfolding kindOf boundAt roleAt fieldAt requested
   read-fields e = ((below-at 7 e 0 (omega arith) 15 refl, below-at 7 e 1 (omega arith) 15 refl), paid-at 7 e 0 (omega arith) refl refl)
 
-  pub read-step : r .kind ≡ 7 → (d : steps.Done) → d ≡ step m (asked 7 (r .who) (r .a) (r .b) 0) → d ≡ step m (requested r)
+  pub read-dispatched : r .kind ≡ 7 → (d : steps.Done) → d ≡ step m (asked 7 (r .who) (r .a) (r .b) 0) → d ≡ step m (requested r)
   unfolding kindOf boundAt roleAt fieldAt requested
-  read-step e d = by-kind m r 7 (r .who) (r .a) (r .b) 0 d e refl refl refl (zero-at 7 e 3 (omega arith) refl)
+  read-dispatched e d = by-kind m r 7 (r .who) (r .a) (r .b) 0 d e refl refl refl (zero-at 7 e 3 (omega arith) refl)
 
   pub write-fields : r .kind ≡ 8 → ((r .who < 16) × (r .a < 16)) × (owed m (r .who) ≡ 0)
   unfolding kindOf boundAt roleAt fieldAt requested
   write-fields e = ((below-at 8 e 0 (omega arith) 15 refl, below-at 8 e 1 (omega arith) 15 refl), paid-at 8 e 0 (omega arith) refl refl)
 
-  pub write-step : r .kind ≡ 8 → (d : steps.Done) → d ≡ step m (asked 8 (r .who) (r .a) (r .b) (r .c)) → d ≡ step m (requested r)
-  write-step e d = by-kind m r 8 (r .who) (r .a) (r .b) (r .c) d e refl refl refl refl
+  pub write-dispatched : r .kind ≡ 8 → (d : steps.Done) → d ≡ step m (asked 8 (r .who) (r .a) (r .b) (r .c)) → d ≡ step m (requested r)
+  write-dispatched e d = by-kind m r 8 (r .who) (r .a) (r .b) (r .c) d e refl refl refl refl
 
-  pub begin-step : r .kind ≡ 9 → (d : steps.Done) → d ≡ step m (asked 9 0 0 0 0) → d ≡ step m (requested r)
+  pub begin-dispatched : r .kind ≡ 9 → (d : steps.Done) → d ≡ step m (asked 9 0 0 0 0) → d ≡ step m (requested r)
   unfolding kindOf boundAt roleAt fieldAt requested
-  begin-step e d = by-kind m r 9 0 0 0 0 d e (zero-at 9 e 0 (omega arith) refl) (zero-at 9 e 1 (omega arith) refl) (zero-at 9 e 2 (omega arith) refl) (zero-at 9 e 3 (omega arith) refl)
+  begin-dispatched e d = by-kind m r 9 0 0 0 0 d e (zero-at 9 e 0 (omega arith) refl) (zero-at 9 e 1 (omega arith) refl) (zero-at 9 e 2 (omega arith) refl) (zero-at 9 e 3 (omega arith) refl)
 
   pub scan-fields : r .kind ≡ 10 → (r .who < 8) × (r .a < 16)
   unfolding kindOf boundAt roleAt fieldAt requested
   scan-fields e = (below-at 10 e 0 (omega arith) 7 refl, below-at 10 e 1 (omega arith) 15 refl)
 
-  pub scan-step : r .kind ≡ 10 → (d : steps.Done) → d ≡ step m (asked 10 (r .who) (r .a) 0 0) → d ≡ step m (requested r)
+  pub scan-dispatched : r .kind ≡ 10 → (d : steps.Done) → d ≡ step m (asked 10 (r .who) (r .a) 0 0) → d ≡ step m (requested r)
   unfolding kindOf boundAt roleAt fieldAt requested
-  scan-step e d = by-kind m r 10 (r .who) (r .a) 0 0 d e refl refl (zero-at 10 e 2 (omega arith) refl) (zero-at 10 e 3 (omega arith) refl)
+  scan-dispatched e d = by-kind m r 10 (r .who) (r .a) 0 0 d e refl refl (zero-at 10 e 2 (omega arith) refl) (zero-at 10 e 3 (omega arith) refl)
 
   pub trace-fields : r .kind ≡ 11 → r .who < 8
   unfolding kindOf boundAt roleAt fieldAt requested
   trace-fields e = below-at 11 e 0 (omega arith) 7 refl
 
-  pub trace-step : r .kind ≡ 11 → (d : steps.Done) → d ≡ step m (asked 11 (r .who) 0 0 0) → d ≡ step m (requested r)
+  pub trace-dispatched : r .kind ≡ 11 → (d : steps.Done) → d ≡ step m (asked 11 (r .who) 0 0 0) → d ≡ step m (requested r)
   unfolding kindOf boundAt roleAt fieldAt requested
-  trace-step e d = by-kind m r 11 (r .who) 0 0 0 d e refl (zero-at 11 e 1 (omega arith) refl) (zero-at 11 e 2 (omega arith) refl) (zero-at 11 e 3 (omega arith) refl)
+  trace-dispatched e d = by-kind m r 11 (r .who) 0 0 0 d e refl (zero-at 11 e 1 (omega arith) refl) (zero-at 11 e 2 (omega arith) refl) (zero-at 11 e 3 (omega arith) refl)
 
   pub clean-fields : r .kind ≡ 12 → r .who < 8
   unfolding kindOf boundAt roleAt fieldAt requested
   clean-fields e = below-at 12 e 0 (omega arith) 7 refl
 
-  pub clean-step : r .kind ≡ 12 → (d : steps.Done) → d ≡ step m (asked 12 (r .who) 0 0 0) → d ≡ step m (requested r)
+  pub clean-dispatched : r .kind ≡ 12 → (d : steps.Done) → d ≡ step m (asked 12 (r .who) 0 0 0) → d ≡ step m (requested r)
   unfolding kindOf boundAt roleAt fieldAt requested
-  clean-step e d = by-kind m r 12 (r .who) 0 0 0 d e refl (zero-at 12 e 1 (omega arith) refl) (zero-at 12 e 2 (omega arith) refl) (zero-at 12 e 3 (omega arith) refl)
+  clean-dispatched e d = by-kind m r 12 (r .who) 0 0 0 d e refl (zero-at 12 e 1 (omega arith) refl) (zero-at 12 e 2 (omega arith) refl) (zero-at 12 e 3 (omega arith) refl)
 
-  pub finish-step : r .kind ≡ 13 → (d : steps.Done) → d ≡ step m (asked 13 0 0 0 0) → d ≡ step m (requested r)
+  pub finish-dispatched : r .kind ≡ 13 → (d : steps.Done) → d ≡ step m (asked 13 0 0 0 0) → d ≡ step m (requested r)
   unfolding kindOf boundAt roleAt fieldAt requested
-  finish-step e d = by-kind m r 13 0 0 0 0 d e (zero-at 13 e 0 (omega arith) refl) (zero-at 13 e 1 (omega arith) refl) (zero-at 13 e 2 (omega arith) refl) (zero-at 13 e 3 (omega arith) refl)
+  finish-dispatched e d = by-kind m r 13 0 0 0 0 d e (zero-at 13 e 0 (omega arith) refl) (zero-at 13 e 1 (omega arith) refl) (zero-at 13 e 2 (omega arith) refl) (zero-at 13 e 3 (omega arith) refl)
 
-  pub due-step : r .kind ≡ 14 → (d : steps.Done) → d ≡ step m (asked 14 0 (r .a) 0 0) → d ≡ step m (requested r)
+  pub due-dispatched : r .kind ≡ 14 → (d : steps.Done) → d ≡ step m (asked 14 0 (r .a) 0 0) → d ≡ step m (requested r)
   unfolding kindOf boundAt roleAt fieldAt requested
-  due-step e d = by-kind m r 14 0 (r .a) 0 0 d e (zero-at 14 e 0 (omega arith) refl) refl (zero-at 14 e 2 (omega arith) refl) (zero-at 14 e 3 (omega arith) refl)
+  due-dispatched e d = by-kind m r 14 0 (r .a) 0 0 d e (zero-at 14 e 0 (omega arith) refl) refl (zero-at 14 e 2 (omega arith) refl) (zero-at 14 e 3 (omega arith) refl)
 
 -- ---- a number that is no kind's
 

@@ -15,7 +15,7 @@ use Rattle.model.specs.Batch.{Batch, events, misfit, callNumber, batchWith, bat
 use Rattle.model.specs.Claim.{Lent, eventsOf, history, results, Claim}
 use Rattle.model.specs.Plain.{SameAnswers}
 use Rattle.model.proofs.Laws.{first-none}
-use Rattle.theory.specs.Events.{Linked, Steady, Stored}
+use Rattle.theory.specs.Events.{Successive, Steady, Stored}
 use Rattle.theory.proofs.cycle.Linked.{run-linked, linked-fine, done-ok, begin-numbers, finish-numbers, all-finish, unreached-freed}
 use Rattle.theory.proofs.steps.Steps.{run-append, run-ok}
 
@@ -97,5 +97,5 @@ module _ (w : ℕ) (Ok : Image → Type 0) (st : Steady Ok) (wd : Stored w Ok) w
       h : (ss : List Step) × (history w ws bs ≡ run (parts w ws) ss)
       h = history-run ws bs o
 
-      linked : Linked (parts w ws) (history w ws bs) (after (parts w ws) (run (parts w ws) (h .0)))
-      linked = subst (λ es. Linked (parts w ws) es (after (parts w ws) (run (parts w ws) (h .0)))) (sym (h .1)) (run-linked (parts w ws) (h .0))
+      linked : Successive (parts w ws) (history w ws bs) (after (parts w ws) (run (parts w ws) (h .0)))
+      linked = subst (λ es. Successive (parts w ws) es (after (parts w ws) (run (parts w ws) (h .0)))) (sym (h .1)) (run-linked (parts w ws) (h .0))

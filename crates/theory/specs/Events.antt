@@ -15,16 +15,16 @@ use Rattle.theory.specs.Finish.{FinishMade}
 -- ---- linked events
 
 -- events from image m to image n: each got the image that the one before left
-pub data Linked : Image → List Event → Image → Type 0 where
-  l-nil : {m : Image} → Linked m [] m
+pub data Successive : Image → List Event → Image → Type 0 where
+  l-nil : {m : Image} → Successive m [] m
   l-cons : {m n : Image} {es : List Event} (e : Event) → e .got ≡ m → e .done ≡ step (e .got) (e .request)
-      → Linked (e .done .image) es n → Linked m (e ∷ es) n
+      → Successive (e .done .image) es n → Successive m (e ∷ es) n
 
 -- events linked in two parts
 pub record Parted (m : Image) (es fs : List Event) (n : Image) : Type 0 where
   pub middle : Image
-  pub first-part : Linked m es middle
-  pub second-part : Linked middle fs n
+  pub first-part : Successive m es middle
+  pub second-part : Successive middle fs n
 
 -- ---- facts of one step, for images that are in order
 

@@ -4,7 +4,7 @@ use Prim.Native.Nat.{ℕ, _^_}
 use lib.ListN.{getD}
 use Rattle.model.specs.Base.{nth}
 use Rattle.model.specs.Records.{Step, Kind}
-use Rattle.model.specs.Rows.{Role, unused, player, tracer, register, number, Row, rowOf}
+use Rattle.model.specs.Rows.{Role, unused, player, tracer, register, number, KindRow, rowOf}
 
 -- field i: who, a, b or c
 unfoldable pub fieldAt : Step → ℕ → ℕ
@@ -13,7 +13,7 @@ fieldAt s i = nth (s .who ∷ s .a ∷ s .b ∷ s .c ∷ []) i
 
 unfoldable pub roleAt : Kind → ℕ → Role
 unfolding rowOf
-roleAt n i = let r : Row = rowOf n in getD (r .who ∷ r .a ∷ r .b ∷ r .c ∷ []) i number
+roleAt n i = let r : KindRow = rowOf n in getD (r .who ∷ r .a ∷ r .b ∷ r .c ∷ []) i number
 
 -- with words of w bits and k cards
 unfoldable pub bound : ℕ → ℕ → Role → ℕ

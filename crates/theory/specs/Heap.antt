@@ -9,7 +9,7 @@ use Rattle.model.specs.Image.{Image, granules, isStart, marked, size, links, li
 use Rattle.model.specs.Finish.{runTail}
 
 -- the words of an object of s granules behind its first word
-pub record Object (s : ℕ) (ws : List ℕ) : Type 0 where
+pub record ObjectPiece (s : ℕ) (ws : List ℕ) : Type 0 where
   pub long : suc (length ws) ≡ 4 * s
   pub few : s ≤ 1024
   pub links-fit : nth ws 0 ≤ 4 * s - 2
@@ -25,7 +25,7 @@ Bare st g s = (h : ℕ) → g < h → h < g + s → st h ≡ false
 -- pieces fill the granules from g on: the model's `fill`, one constructor a piece
 pub data Filled (st : ℕ → Bool) : ℕ → List ℕ → ℕ → Bool → Type 0 where
   f-end : {g : ℕ} {b : Bool} → Filled st g [] 0 b
-  f-object : {g next : ℕ} {b : Bool} (s : ℕ) (ws rest : List ℕ) → st g ≡ true → Object s ws → Bare st g s
+  f-object : {g next : ℕ} {b : Bool} (s : ℕ) (ws rest : List ℕ) → st g ≡ true → ObjectPiece s ws → Bare st g s
       → Filled st (g + s) rest next false → Filled st g ((s ∷ ws) ++ rest) next b
   f-run : {g : ℕ} (n next : ℕ) (rest : List ℕ) → st g ≡ false → Bare st g (suc n)
       → Filled st (g + suc n) rest next true → Filled st g (runWords n next ++ rest) g false

@@ -92,16 +92,16 @@ pub record InRun (m : Image) (y : ℕ) : Type 0 where
 -- ---- granules counted
 
 -- v 0 + v 1 + .. + v (n - 1)
-unfoldable pub total : (ℕ → ℕ) → ℕ → ℕ
-total v zero = 0
-total v (suc n) = total v n + v n
+unfoldable pub sumBelow : (ℕ → ℕ) → ℕ → ℕ
+sumBelow v zero = 0
+sumBelow v (suc n) = sumBelow v n + v n
 
 -- the granules of the objects that are starts in st
 abbrev pub sizes : (ℕ → Bool) → (ℕ → ℕ → ℕ) → ℕ → ℕ
 sizes st rd g = cond (st g) (rd g 0) 0
 
 unfoldable pub usedGranules : Image → ℕ
-usedGranules m = total (sizes (isStart m) (word m)) (granules m)
+usedGranules m = sumBelow (sizes (isStart m) (word m)) (granules m)
 
 -- granule y is in an object
 unfoldable pub inObject : Image → ℕ → Bool
@@ -109,4 +109,4 @@ inObject m y = any (suc y) (λ h. isStart m h && ltb y (h + size m h))
 
 -- the number of granules that are in no object, granule 0 among them
 unfoldable pub granulesOutside : Image → ℕ
-granulesOutside m = total (λ y. cond (inObject m y) 0 1) (granules m)
+granulesOutside m = sumBelow (λ y. cond (inObject m y) 0 1) (granules m)

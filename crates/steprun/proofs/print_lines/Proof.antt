@@ -13,9 +13,6 @@ Inv-loop steps answers n i₀ i = i ≤ n
 abbrev μ-loop : tie.MeasureT-loop
 μ-loop steps answers n i₀ i = n - i
 
-loop-holds : tie.Need-loop-holds Inv-loop μ-loop
-loop-holds c = search needs
-
 print-line-requires : tie.Need-print-line-requires Inv-loop μ-loop
 print-line-requires c κs = omega arith
 
@@ -28,10 +25,7 @@ loop-less c = omega arith
 loop-again : tie.Need-loop-again Inv-loop μ-loop
 loop-again c = omega arith
 
-returns : tie.Need-returns Inv-loop μ-loop
-returns c = search needs
-
 pub print-lines-spec : {M : Type 1} → statement M
 print-lines-spec =
     tie.close
-    (tie.spec Inv-loop μ-loop loop-holds print-line-requires add-i loop-less loop-again returns)
+    (tie.spec Inv-loop μ-loop (λ c. search needs) print-line-requires add-i loop-less loop-again (λ c. search needs))

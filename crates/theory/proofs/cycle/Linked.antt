@@ -1,4 +1,4 @@
--- Linked events: each is a step of an image in order; the parts b, c and d of the claim hold of them.
+-- Successive events: each is a step of an image in order; the parts b, c and d of the claim hold of them.
 use mathlib.Core.Path.{_≡_, refl, sym, ap, subst, _∙_}
 use mathlib.Core.Logic.{_⊎_, inl, inr}
 use mathlib.Core.Bool.{true, false, cond}
@@ -11,7 +11,7 @@ use Rattle.model.specs.Steps.{Event, accept, finishDone, act, step, run, after}
 use Rattle.model.specs.Claim.{Chain, Is, Accepted, anyField, Finishes}
 use Rattle.model.proofs.Laws.{bool-cases}
 use Rattle.theory.specs.Cycle.{Live, Since}
-use Rattle.theory.specs.Events.{Linked, l-nil, l-cons, Parted, Steady, Fine}
+use Rattle.theory.specs.Events.{Successive, l-nil, l-cons, Parted, Steady, Fine}
 use Rattle.theory.proofs.cycle.Live.{kept-live}
 use Rattle.theory.proofs.cycle.LiveSteps.{step-live}
 use Rattle.theory.proofs.finish.Finishes.{begin-number, finish-number, begin-live, finishes}
@@ -19,12 +19,12 @@ use Rattle.theory.proofs.steps.Steps.{accepted-image}
 
 -- ---- linked events
 
-linked-parted : (m : Image) (es fs : List Event) (n : Image) → Linked m (es ++ fs) n → Parted m es fs n
+linked-parted : (m : Image) (es fs : List Event) (n : Image) → Successive m (es ++ fs) n → Parted m es fs n
 linked-parted m [] fs n p = record { middle = m; first-part = l-nil; second-part = p }
 linked-parted m (e ∷ es) fs n (l-cons _ g d p) = let r = linked-parted (e .done .image) es fs n p in record { middle = r .middle; first-part = l-cons e g d (r .first-part); second-part = r .second-part }
 
 -- the events of a list of steps are linked
-pub run-linked : (m : Image) (ss : List Step) → Linked m (run m ss) (after m (run m ss))
+pub run-linked : (m : Image) (ss : List Step) → Successive m (run m ss) (after m (run m ss))
 unfolding run after
 run-linked m [] = l-nil
 run-linked m (s ∷ ss) = l-cons _ refl refl (run-linked ((step m s) .image) ss)
@@ -35,16 +35,16 @@ module _ (Ok : Image → Type 0) (st : Steady Ok) where
   pub done-ok : (e : Event) → Fine Ok e → Ok (e .done .image)
   done-ok e k = subst (λ d. Ok (d .image)) (sym (k .is-step)) (st .step-ok (e .got) (e .request) (k .got-ok))
 
-  pub linked-ok : {m n : Image} {es : List Event} → Linked m es n → Ok m → Ok n
+  pub linked-ok : {m n : Image} {es : List Event} → Successive m es n → Ok m → Ok n
   linked-ok l-nil o = o
   linked-ok (l-cons e g d p) o = linked-ok p (done-ok e (record { got-ok = subst Ok (sym g) o; is-step = d }))
 
-  pub linked-fine : {m n : Image} {es : List Event} → Linked m es n → Ok m → (e : Event) → List·Memᴰ e es → Fine Ok e
+  pub linked-fine : {m n : Image} {es : List Event} → Successive m es n → Ok m → (e : Event) → List·Memᴰ e es → Fine Ok e
   linked-fine (l-cons x g d p) o e (List·Memᴰ·head q) = subst (Fine Ok) (sym q) (record { got-ok = subst Ok (sym g) o; is-step = d })
   linked-fine (l-cons x g d p) o e (List·Memᴰ·tail k) = linked-fine p (done-ok x (record { got-ok = subst Ok (sym g) o; is-step = d })) e k
 
   -- what is live stays so while no finish is accepted
-  linked-live : {m n : Image} {es : List Event} → Linked m es n → Ok m → ((e : Event) → List·Memᴰ e es → Accepted finish e → ⊥) → (S : ℕ → Type 0) → Live S m → Live S n
+  linked-live : {m n : Image} {es : List Event} → Successive m es n → Ok m → ((e : Event) → List·Memᴰ e es → Accepted finish e → ⊥) → (S : ℕ → Type 0) → Live S m → Live S n
   linked-live l-nil o nf S v = v
   linked-live (l-cons e g d p) o nf S v =
       let k : Fine Ok e = record { got-ok = subst Ok (sym g) o; is-step = d } in
@@ -63,7 +63,7 @@ module _ (Ok : Image → Type 0) (st : Steady Ok) where
 
   -- ---- the parts of the claim, for linked events
 
-  module _ {m n : Image} {es : List Event} (p : Linked m es n) (o : Ok m) where
+  module _ {m n : Image} {es : List Event} (p : Successive m es n) (o : Ok m) where
     pub begin-numbers : (e : Event) → List·Memᴰ e es → Is begin e → e .done .number ≡ cond (anyField (e .request)) 3 (cond (eqb (running (e .got)) 1) 10 0)
     begin-numbers e k i = ap (λ r. r .number) ((linked-fine p o e k) .is-step) ∙ begin-number (e .got) (e .request) i
 
@@ -77,7 +77,7 @@ module _ (Ok : Image → Type 0) (st : Steady Ok) where
         → Accepted begin b → ((e : Event) → List·Memᴰ e mid → Accepted finish e → ⊥) → Accepted finish f
         → (g : ℕ) → isStart (b .got) g ≡ true → (Chain (b .got) g → ⊥)
         → (isStart (f .got) g ≡ true) × (isStart (f .done .image) g ≡ false)
-    unreached-freed b f before mid behind q ab nf af g sg un = at-begin (linked-parted m before (b ∷ (mid ++ (f ∷ behind))) n (subst (λ l. Linked m l n) q p))
+    unreached-freed b f before mid behind q ab nf af g sg un = at-begin (linked-parted m before (b ∷ (mid ++ (f ∷ behind))) n (subst (λ l. Successive m l n) q p))
       where
         Freed : Type 0
         Freed = (isStart (f .got) g ≡ true) × (isStart (f .done .image) g ≡ false)
@@ -97,13 +97,13 @@ module _ (Ok : Image → Type 0) (st : Steady Ok) where
             gone (inr t) = t
             gone (inl t) = absurd (reached (kept-live (Since (b .got)) (f .got) ((st .facts (f .got) (k .got-ok)) .proper) v g (((finish-event f k af) .only-kept g t) .1)))
 
-        at-finish : {x y : Image} → Linked x (f ∷ behind) y → Ok x → Live (Since (b .got)) x → Freed
+        at-finish : {x y : Image} → Successive x (f ∷ behind) y → Ok x → Live (Since (b .got)) x → Freed
         at-finish (l-cons _ h d r) ox v = dead (subst (Live (Since (b .got))) (sym h) v) (record { got-ok = subst Ok (sym h) ox; is-step = d })
 
         behind-begin : {x y : Image} → Parted x mid (f ∷ behind) y → Ok x → Live (Since (b .got)) x → Freed
         behind-begin r ox v = at-finish (r .second-part) (linked-ok (r .first-part) ox) (linked-live (r .first-part) ox nf (Since (b .got)) v)
 
-        from-begin : {x y : Image} → Linked x (b ∷ (mid ++ (f ∷ behind))) y → Ok x → Freed
+        from-begin : {x y : Image} → Successive x (b ∷ (mid ++ (f ∷ behind))) y → Ok x → Freed
         from-begin {y = y} (l-cons _ h d r) ox =
             let k : Fine Ok b = record { got-ok = subst Ok (sym h) ox; is-step = d } in
             let z : (step (b .got) (b .request)) .number ≡ 0 = sym (ap (λ r. r .number) d) ∙ ab .no-number in

@@ -12,9 +12,9 @@ use Rattle.model.specs.Records.{Step, Kind, new, load, store, barrier, handOver
 use Rattle.model.specs.Steps.{offDesk, object, noObject, pastEnd, refusal, accept, act, step}
 use Rattle.model.proofs.Laws.{some-false}
 use Rattle.model.proofs.Entries.{nth-take, nth-drop}
-use Rattle.model.proofs.Found.{place}
+use Rattle.model.proofs.Found.{place-of}
 use Rattle.theory.specs.Cycle.{Facts, Source, in-reg, in-link, is-marked, Carries, NoFinish, Live}
-use Rattle.theory.proofs.cycle.Quiet.{Next, quiet-refl, quiet-begin, quiet-scan, quiet-trace, quiet-clean}
+use Rattle.theory.proofs.cycle.Quiet.{NextSource, quiet-refl, quiet-begin, quiet-scan, quiet-trace, quiet-clean}
 use Rattle.theory.proofs.cycle.Carries.{quiet-carries, carries-silent, setReg-carries, setWord-carries, new-carries}
 use Rattle.theory.proofs.cycle.Live.{live-carried}
 use Rattle.theory.proofs.steps.Steps.{step-number, line, step-cases, not-above, good-size}
@@ -24,14 +24,14 @@ carries-refl : (m : Image) → Carries m m
 carries-refl m = quiet-carries m m (quiet-refl m)
 
 -- the link that a tracer reaches next is one of a marked object
-next-source : (m : Image) → Facts m → (t : ℕ) → t < 8 → Next (Source m) m t
+next-source : (m : Image) → Facts m → (t : ℕ) → t < 8 → NextSource (Source m) m t
 next-source m f t h hz nz = let r = f .hand-ok t h hz in in-link (hand m t) (nextLink m t) (is-marked (r .0)) (f .proper .mark-start _ (r .0)) (r .1) refl nz
 
 -- what a scan reaches is in registers
 scan-source : (m : Image) (p : ℕ) → p < 16 → (g : ℕ) → List·Memᴰ g (take 16 (drop (16 * p) (m .regs))) → (g ≡ 0 → ⊥) → Source m g
 unfolding reg
 scan-source m p hp g k nz =
-    let r = place g (take 16 (drop (16 * p) (m .regs))) k in
+    let r = place-of g (take 16 (drop (16 * p) (m .regs))) k in
     let h : r .0 < 16 = omega (arith, r .1, length-take 16 (drop (16 * p) (m .regs))) in
     in-reg p (r .0) hp h (sym (nth-drop (16 * p) (m .regs) (r .0)) ∙ (sym (nth-take 16 (drop (16 * p) (m .regs)) (r .0) h) ∙ r .2)) nz
 

@@ -22,8 +22,8 @@ abbrev pub silent : Image → (cs ps ts ls gs : List ℕ) → Image
 silent m cs ps ts ls gs = record { width = m .width; k = m .k; heap = m .heap; starts = m .starts; marks = m .marks; cards = cs; regs = m .regs; packets = ps; tracers = ts; players = ls; general = gs }
 
 -- the next link of the object in hand, if it is an object, passes
-abbrev pub Next : (ℕ → Type 0) → Image → ℕ → Type 0
-Next P m t = (hand m t ≡ 0 → ⊥) → (link m (hand m t) (nextLink m t) ≡ 0 → ⊥) → P (link m (hand m t) (nextLink m t))
+abbrev pub NextSource : (ℕ → Type 0) → Image → ℕ → Type 0
+NextSource P m t = (hand m t ≡ 0 → ⊥) → (link m (hand m t) (nextLink m t) ≡ 0 → ⊥) → P (link m (hand m t) (nextLink m t))
 
 module _ {P : ℕ → Type 0} where
   pub quiet-refl : (m : Image) → Quiet P m m
@@ -103,7 +103,7 @@ module _ {P : ℕ → Type 0} where
   unfolding takeObject
   quiet-take m t g = quiet-cond (eqb (links m g) 0) (quiet-refl m) (quiet-hand m t g 0)
 
-  quiet-traceHand : (m : Image) (t : ℕ) → Next P m t → (hand m t ≡ 0 → ⊥) → Quiet P m (traceHand m t)
+  quiet-traceHand : (m : Image) (t : ℕ) → NextSource P m t → (hand m t ≡ 0 → ⊥) → Quiet P m (traceHand m t)
   unfolding traceHand
   quiet-traceHand m t ok h =
       let q = quiet-reach m t (link m (hand m t) (nextLink m t)) (ok h) in
@@ -116,7 +116,7 @@ module _ {P : ℕ → Type 0} where
       quiet-pop : (p : ℕ) → Quiet P m (pop m p)
       quiet-pop p = unfold pop withPackets in quiet-silent m _ _ _ _
 
-  pub quiet-trace : (m : Image) (t : ℕ) → Next P m t → Quiet P m (traceStep m t)
+  pub quiet-trace : (m : Image) (t : ℕ) → NextSource P m t → Quiet P m (traceStep m t)
   unfolding traceStep traceLine tracePool traceOutput setTracer withTracers
   quiet-trace m t ok = go (traceLine m t) refl
     where
@@ -139,7 +139,7 @@ module _ {P : ℕ → Type 0} where
       go zero = unfold cleanTo putCard fields-open in quiet-silent m _ _ _ _
       go (suc g) = unfold cleanTo in quiet-trans (card (handCard m t) (suc g)) (quiet-take _ t g)
 
-  pub quiet-clean : (m : Image) (t : ℕ) → Next P m t → Quiet P m (cleanStep m t)
+  pub quiet-clean : (m : Image) (t : ℕ) → NextSource P m t → Quiet P m (cleanStep m t)
   unfolding cleanStep cleanLine takeCard putCard setTracer withTracers setState withCards
   quiet-clean m t ok = go (cleanLine m t) refl
     where

@@ -16,7 +16,7 @@ use Rattle.model.proofs.Bits.{no-bit}
 use Rattle.theory.specs.Cycle.{Facts}
 use Rattle.theory.specs.Lines.{NilOr, Start, Lines, Sound, Undamaged, HeapOk}
 use Rattle.theory.specs.Finish.{FinishMade}
-use Rattle.theory.proofs.heap.Facts.{heap-filled-of, heap-sized-of, laid-of, proper-of, some-card, link-value, start-of}
+use Rattle.theory.proofs.heap.Facts.{heap-filled-of, heap-sized-of, laid-of, proper-of, some-card, link-value, start-at}
 use Rattle.theory.proofs.finish.Finishes.{finishes}
 use Rattle.theory.proofs.lines.Judged.{counted-of}
 use Rattle.theory.proofs.finish.Replaced.{cleared-keeps}
@@ -82,7 +82,7 @@ module _ (m : Image) (u : Undamaged m) where
     link-kept : (i : ℕ) → i < links ((finishStep m) .image) g → NilOr (λ x. (x < 64 * m .k) × (isStart ((finishStep m) .image) x ≡ true)) (link ((finishStep m) .image) g i)
     link-kept i l =
         let l′ : i < links m g = rw count-stays at l in
-        let sg = start-of o g (was .0) in
+        let sg = start-at o g (was .0) in
         rw (link-stays i l′) (kept-nil (link m g i) (kept-link m (u .cover) g i (start-below m (laid-of o) g (was .0)) (was .1) l′) (link-value o g i sg l′))
 
   reg-kept : (i : ℕ) → NilOr (λ x. (x < 64 * m .k) × (isStart ((finishStep m) .image) x ≡ true)) (nth (m .regs) i)

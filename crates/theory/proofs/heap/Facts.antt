@@ -63,15 +63,15 @@ module _ {m : Image} (o : Lines m) where
   unfolding links link word
   link-value g i sg l = o .heap-ok .links-ok g i (sg .0) (sg .1) l
 
-  pub start-of : (g : ℕ) → isStart m g ≡ true → Start m g
+  pub start-at : (g : ℕ) → isStart m g ≡ true → Start m g
   unfolding isStart
-  start-of g e = (o .heap-ok .within g e, e)
+  start-at g e = (o .heap-ok .within g e, e)
 
   pub proper-of : Proper m
   unfolding isStart marked
   proper-of = record {
     reg-start = λ p r hp hr n. some-start (reg m p r) n (reg-value p r);
-    link-start = λ g i s l n. some-start (link m g i) n (link-value g i (start-of g s) l);
+    link-start = λ g i s l n. some-start (link m g i) n (link-value g i (start-at g s) l);
     mark-start = λ g k. o .marks-ok .on-starts g k .1;
   }
     where

@@ -10,7 +10,7 @@ use Rattle.model.specs.Image.{Image, granules, word, isStart}
 use Rattle.model.specs.Mutate.{freeFrom, freeGranules}
 use Rattle.model.specs.Finish.{runTail, Swept, swept, sweep, finishWith}
 use Rattle.theory.specs.Heap.{runWords, Bare, Filled, f-end, f-object, f-run, HeapFilled, HeapSized}
-use Rattle.theory.specs.Pieces.{Reads, Pieces, at-end, at-object, at-run, total, sizes, usedGranules}
+use Rattle.theory.specs.Pieces.{Reads, Pieces, at-end, at-object, at-run, sumBelow, sizes, usedGranules}
 use Rattle.theory.proofs.heap.Lists.{nth-head, length-run}
 use Rattle.theory.proofs.heap.Walk.{word-behind, object-at, no-start-zero}
 use Rattle.theory.proofs.finish.Sweep.{sweep-piece, not-kept}
@@ -19,18 +19,18 @@ use Rattle.theory.proofs.heap.Pieces.{reads-behind, front, image-pieces
 
 -- ---- sums
 
-pub total-ext : (v u : ℕ → ℕ) (n : ℕ) → ((g : ℕ) → g < n → v g ≡ u g) → total v n ≡ total u n
-unfolding total
+pub total-ext : (v u : ℕ → ℕ) (n : ℕ) → ((g : ℕ) → g < n → v g ≡ u g) → sumBelow v n ≡ sumBelow u n
+unfolding sumBelow
 total-ext v u zero f = refl
-total-ext v u (suc n) f = let a : total v n ≡ total u n = total-ext v u n (λ g h. f g (omega arith)) in let b : v n ≡ u n = f n (omega arith) in omega arith
+total-ext v u (suc n) f = let a : sumBelow v n ≡ sumBelow u n = total-ext v u n (λ g h. f g (omega arith)) in let b : v n ≡ u n = f n (omega arith) in omega arith
 
 -- past a piece of which only the first granule counts
-total-piece : (v : ℕ → ℕ) (x y : ℕ) → x < y → ((h : ℕ) → x < h → h < y → v h ≡ 0) → total v y ≡ total v x + v x
-unfolding total
+total-piece : (v : ℕ → ℕ) (x y : ℕ) → x < y → ((h : ℕ) → x < h → h < y → v h ≡ 0) → sumBelow v y ≡ sumBelow v x + v x
+unfolding sumBelow
 total-piece v x zero l f = absurd (omega arith)
 total-piece v x (suc y) l f = cs (λ k. total-piece v x y k (λ h p q. f h p (omega arith))) (ℕ-discrete x y)
   where
-    cs : (x < y → total v y ≡ total v x + v x) → Dec (x ≡ y) → total v y + v y ≡ total v x + v x
+    cs : (x < y → sumBelow v y ≡ sumBelow v x + v x) → Dec (x ≡ y) → sumBelow v y + v y ≡ sumBelow v x + v x
     cs ih (yes e) = rw e
     cs ih (no e) = let a = ih (omega arith) in omega (arith, a, f y (omega arith) (omega arith))
 
@@ -41,7 +41,7 @@ module _ (st : ℕ → Bool) (rd : ℕ → ℕ → ℕ) where
   sizes-yes : (g : ℕ) → st g ≡ true → sizes st rd g ≡ rd g 0
   sizes-yes g e = rw e
 
-  total-past : (x s : ℕ) → 1 ≤ s → Bare st x s → total (sizes st rd) (x + s) ≡ total (sizes st rd) x + sizes st rd x
+  total-past : (x s : ℕ) → 1 ≤ s → Bare st x s → sumBelow (sizes st rd) (x + s) ≡ sumBelow (sizes st rd) x + sizes st rd x
   total-past x s l ba = total-piece (sizes st rd) x (x + s) (omega arith) (λ h p q. sizes-no h (ba h p q))
 
 -- ---- the chain has every granule that no object has
@@ -53,7 +53,7 @@ chain-end m (suc n) = refl
 
 -- n runs are enough
 chain-count : (m : Image) {x next : ℕ} {b : Bool} (n : ℕ) → Pieces (isStart m) (word m) (granules m) x next b → 1 ≤ x → granules m ≤ x + n
-    → freeFrom m n next + total (sizes (isStart m) (word m)) (granules m) + x ≡ granules m + total (sizes (isStart m) (word m)) x
+    → freeFrom m n next + sumBelow (sizes (isStart m) (word m)) (granules m) + x ≡ granules m + sumBelow (sizes (isStart m) (word m)) x
 unfolding freeFrom
 chain-count m n at-end h l = omega (arith, chain-end m n)
 chain-count m {x} {next} n (at-object o p) h l =
@@ -65,8 +65,8 @@ chain-count m {x = suc x} (suc n) (at-run o p) h l =
     let ih = chain-count m n p (omega arith) (omega (arith, o .long)) in
     omega (arith, ih, total-past (isStart m) (word m) (suc x) (word m (suc x) 0) (o .long) (o .alone), sizes-no (isStart m) (word m) (suc x) (o .no-start))
 
-total-one : (st : ℕ → Bool) (rd : ℕ → ℕ → ℕ) → st 0 ≡ false → total (sizes st rd) 1 ≡ 0
-unfolding total
+total-one : (st : ℕ → Bool) (rd : ℕ → ℕ → ℕ) → st 0 ≡ false → sumBelow (sizes st rd) 1 ≡ 0
+unfolding sumBelow
 total-one st rd e = rw e
 
 -- every granule but granule 0 is in a run of the chain or in an object
@@ -78,7 +78,7 @@ free-count m o z = omega (arith, chain-count m (granules m) (image-pieces m o z)
 
 module _ (st keep : ℕ → Bool) (kept : (g : ℕ) → keep g ≡ true → st g ≡ true) (rd : ℕ → ℕ → ℕ) (e : ℕ) where
   abbrev Balance : ℕ → ℕ → Type 0
-  Balance g freed = freed + total (sizes keep rd) e + total (sizes st rd) g ≡ total (sizes st rd) e + total (sizes keep rd) g
+  Balance g freed = freed + sumBelow (sizes keep rd) e + sumBelow (sizes st rd) g ≡ sumBelow (sizes st rd) e + sumBelow (sizes keep rd) g
 
   bare-kept : (g s : ℕ) → Bare st g s → Bare keep g s
   bare-kept g s ba h p q = not-kept st keep kept h (ba h p q)
@@ -101,10 +101,10 @@ module _ (st keep : ℕ → Bool) (kept : (g : ℕ) → keep g ≡ true → st g
       w : rd g 0 ≡ s
       w = front st rd e g 0 ((s ∷ ws) ++ rest) a ∙ nth-head s (ws ++ rest)
 
-      all-past : total (sizes st rd) (g + s) ≡ total (sizes st rd) g + s
+      all-past : sumBelow (sizes st rd) (g + s) ≡ sumBelow (sizes st rd) g + s
       all-past = omega (arith, total-past st rd g s (omega (arith, o .long)) ba, sizes-yes st rd g t, w)
 
-      kept-past : total (sizes keep rd) (g + s) ≡ total (sizes keep rd) g + sizes keep rd g
+      kept-past : sumBelow (sizes keep rd) (g + s) ≡ sumBelow (sizes keep rd) g + sizes keep rd g
       kept-past = total-past keep rd g s (omega (arith, o .long)) (bare-kept g s ba)
 
       go : Balance (g + s) (r .freed) → (k : Bool) → keep g ≡ k → Balance g ((swept st g s (s ∷ ws) k r) .freed)
@@ -125,7 +125,7 @@ module _ (m : Image) (keep : List Bool) (o : HeapFilled m) (z : HeapSized m) (ke
   unfolding finishWith granules
   same-granules = refl
 
-  used-kept : usedGranules ((finishWith m keep) .image) ≡ total (sizes (λ g. getD keep g false) (word m)) (granules m)
+  used-kept : usedGranules ((finishWith m keep) .image) ≡ sumBelow (sizes (λ g. getD keep g false) (word m)) (granules m)
   unfolding usedGranules
   used-kept = rw same-granules (total-ext _ _ (granules m) (λ g h. rw (finish-starts m keep o z kept g) (same g (getD keep g false) refl)))
     where
@@ -154,5 +154,5 @@ module _ (m : Image) (keep : List Bool) (o : HeapFilled m) (z : HeapSized m) (ke
         total-one (λ g. getD keep g false) (word m) (not-kept (isStart m) (λ g. getD keep g false) kept 0 (no-start-zero o)),
       )
     where
-      all-used : usedGranules m ≡ total (sizes (isStart m) (word m)) (granules m)
+      all-used : usedGranules m ≡ sumBelow (sizes (isStart m) (word m)) (granules m)
       all-used = unfold usedGranules in refl

@@ -12,29 +12,29 @@ use Rattle.model.specs.Image.{Image, granules, word, isStart, size}
 use Rattle.model.specs.Mutate.{freeFrom, freeGranules}
 use Rattle.model.proofs.Laws.{bool-cases, and-split, and-join, any-use, any-make}
 use Rattle.theory.specs.Heap.{HeapFilled, HeapSized}
-use Rattle.theory.specs.Pieces.{at-end, at-object, at-run, PiecesIn, RunApart, Clear, total, inObject, granulesOutside}
+use Rattle.theory.specs.Pieces.{at-end, at-object, at-run, PiecesIn, RunApart, Clear, sumBelow, inObject, granulesOutside}
 use Rattle.theory.proofs.heap.Pieces.{image-pieces}
 use Rattle.theory.proofs.heap.Free.{chain-end}
 use Rattle.theory.proofs.heap.Unused.{clear-object, clear-run, run-apart, run-unused, clear-one}
 
 -- ---- sums over a piece
 
-total-same : (v : ℕ → ℕ) (a x y : ℕ) → x ≤ y → ((h : ℕ) → x ≤ h → h < y → v h ≡ a) → total v y + total (λ h. a) x ≡ total (λ h. a) y + total v x
-unfolding total
+total-same : (v : ℕ → ℕ) (a x y : ℕ) → x ≤ y → ((h : ℕ) → x ≤ h → h < y → v h ≡ a) → sumBelow v y + sumBelow (λ h. a) x ≡ sumBelow (λ h. a) y + sumBelow v x
+unfolding sumBelow
 total-same v a x zero l f = let z : x ≡ 0 = omega arith in rw z (omega arith)
 total-same v a x (suc y) l f = cs (λ k. total-same v a x y k (λ h p q. f h p (omega arith))) (ℕ-discrete x (suc y))
   where
-    cs : (x ≤ y → total v y + total (λ h. a) x ≡ total (λ h. a) y + total v x) → Dec (x ≡ suc y) → total v y + v y + total (λ h. a) x ≡ total (λ h. a) y + a + total v x
+    cs : (x ≤ y → sumBelow v y + sumBelow (λ h. a) x ≡ sumBelow (λ h. a) y + sumBelow v x) → Dec (x ≡ suc y) → sumBelow v y + v y + sumBelow (λ h. a) x ≡ sumBelow (λ h. a) y + a + sumBelow v x
     cs ih (yes e) = rw e (omega arith)
     cs ih (no e) = let k = ih (omega arith) in omega (arith, k, f y (omega arith) (omega arith))
 
-total-zero : (n : ℕ) → total (λ h. 0) n ≡ 0
-unfolding total
+total-zero : (n : ℕ) → sumBelow (λ h. 0) n ≡ 0
+unfolding sumBelow
 total-zero zero = refl
 total-zero (suc n) = omega (arith, total-zero n)
 
-total-one : (n : ℕ) → total (λ h. 1) n ≡ n
-unfolding total
+total-one : (n : ℕ) → sumBelow (λ h. 1) n ≡ n
+unfolding sumBelow
 total-one zero = refl
 total-one (suc n) = omega (arith, total-one n)
 
@@ -65,7 +65,7 @@ module _ (m : Image) where
   out-run : (r y : ℕ) → RunApart m r → r ≤ y → y < r + word m r 0 → out y ≡ 1
   out-run r y a l q = rw (none-inside y ((run-unused m r y a l q) .in-no-object))
 
-  chain-outside : {x next : ℕ} {b : Bool} (n : ℕ) → PiecesIn m x next b → 1 ≤ x → Clear m x → granules m ≤ x + n → total out (granules m) ≡ freeFrom m n next + total out x
+  chain-outside : {x next : ℕ} {b : Bool} (n : ℕ) → PiecesIn m x next b → 1 ≤ x → Clear m x → granules m ≤ x + n → sumBelow out (granules m) ≡ freeFrom m n next + sumBelow out x
   unfolding freeFrom
   chain-outside n at-end h c l = omega (arith, chain-end m n)
   chain-outside {x} n (at-object o p) h c l =
@@ -82,5 +82,5 @@ module _ (m : Image) where
   unfolding freeGranules granulesOutside
   free-outside o z = omega (arith, chain-outside (granules m) (image-pieces m o z) (omega arith) (clear-one m o) (omega arith), first)
     where
-      first : total out 1 ≡ 1
-      first = unfold total in rw (none-inside 0 (λ h e l q. omega (arith, (o .start-range h e) .0)))
+      first : sumBelow out 1 ≡ 1
+      first = unfold sumBelow in rw (none-inside 0 (λ h e l q. omega (arith, (o .start-range h e) .0)))

@@ -14,7 +14,7 @@ use Rattle.model.specs.Undamaged.{bare, piece, fill, filled}
 use Rattle.model.specs.Finish.{runTail}
 use Rattle.model.proofs.Laws.{every-use, every-cons, every-nil, all-use, all-make, false≢, not-make}
 use Rattle.model.proofs.Entries.{nth-drop, nth-take}
-use Rattle.theory.specs.Heap.{Object, runWords, Bare, Filled, f-end, f-object, f-run, At, HeapFilled, ObjectAt, Laid}
+use Rattle.theory.specs.Heap.{ObjectPiece, runWords, Bare, Filled, f-end, f-object, f-run, At, HeapFilled, ObjectAt, Laid}
 use Rattle.theory.proofs.heap.Lists.{nth-head, nth-left, zeros-take, length-run, run-zero, nth-behind, head-behind}
 
 -- ---- what the test says
@@ -86,7 +86,7 @@ fill-use st (suc n) g (s ∷ ws) next b e =
     ok ih false h x = false≢ x
     ok ih true h x = go (st g) refl h (ih x)
 
-object-ok : (st : ℕ → Bool) (g s : ℕ) (ws rest : List ℕ) (next : ℕ) (b : Bool) → Object s ws → Bare st g s → piece st g s (ws ++ rest) next b true ≡ true
+object-ok : (st : ℕ → Bool) (g s : ℕ) (ws rest : List ℕ) (next : ℕ) (b : Bool) → ObjectPiece s ws → Bare st g s → piece st g s (ws ++ rest) next b true ≡ true
 unfolding piece
 object-ok st g s ws rest next b o ba =
     every-cons _ _ (le-leb 1 s (omega (arith, o .long)))
@@ -142,7 +142,7 @@ behind-at st g s h l r e k a =
       none-inside = λ i p q. a .none-inside i p (omega (arith, w));
     }
 
-first-at : (st : ℕ → Bool) (g s h : ℕ) (ws rest : List ℕ) → h ≡ g → Object s ws → Bare st g s → At st g ((s ∷ ws) ++ rest) h
+first-at : (st : ℕ → Bool) (g s h : ℕ) (ws rest : List ℕ) → h ≡ g → ObjectPiece s ws → Bare st g s → At st g ((s ∷ ws) ++ rest) h
 unfolding nth
 first-at st g s h ws rest x o ba =
     let z : 4 * (h - g) ≡ 0 = omega arith in

@@ -25,32 +25,32 @@ on-sections m t g b c k =
     subst (λ x. on x g b c ≡ reheaped m ((on x g b c) .heap) (setBit (m .width) (m .starts) g) (x .general)) (sym (k .sections)) refl
 
 module _ (m : Image) (g before b c : ℕ) where
-  abbrev pub left : ℕ
-  left = word m g 0 - b
+  abbrev pub run-left : ℕ
+  run-left = word m g 0 - b
 
   abbrev taken : Image
-  taken = takeRun m g before b left
+  taken = takeRun m g before b run-left
 
   pub placed-sections : placed m g before b c ≡ reheaped m ((placed m g before b c) .heap) (setBit (m .width) (m .starts) g) ((placed m g before b c) .general)
   unfolding placed on setStart setWord withHeap withStarts
-  placed-sections = on-sections m taken g b c (take-only m g before b left)
+  placed-sections = on-sections m taken g b c (take-only m g before b run-left)
 
   pub placed-granules : granules (placed m g before b c) ≡ granules m
   placed-granules = ap granules placed-sections ∙ (unfold granules in refl)
 
-  pub placed-first : 2 ≤ length (m .general) → firstRun (placed m g before b c) ≡ following before (nextOf m g b left) 0 (firstRun m)
-  placed-first l = same ∙ take-first m g before b left l
+  pub placed-first : 2 ≤ length (m .general) → firstRun (placed m g before b c) ≡ following before (nextOf m g b run-left) 0 (firstRun m)
+  placed-first l = same ∙ take-first m g before b run-left l
     where
       same : firstRun (placed m g before b c) ≡ firstRun taken
       same = unfold placed firstRun setStart setWord withHeap withStarts in refl
 
   pub placed-general-word : (i : ℕ) → (i ≡ 1 → ⊥) → nth ((placed m g before b c) .general) i ≡ nth (m .general) i
   unfolding placed setStart setWord withHeap withStarts
-  placed-general-word = (take-only m g before b left) .general-word
+  placed-general-word = (take-only m g before b run-left) .general-word
 
   pub placed-general-length : length ((placed m g before b c) .general) ≡ length (m .general)
   unfolding placed setStart setWord withHeap withStarts
-  placed-general-length = (take-only m g before b left) .general-length
+  placed-general-length = (take-only m g before b run-left) .general-length
 
   pub placed-starts-length : length ((placed m g before b c) .starts) ≡ length (m .starts)
   placed-starts-length = ap (λ x. length (x .starts)) placed-sections ∙ (unfold setBit in length-put (m .starts) _ _)
@@ -74,11 +74,11 @@ module _ (m : Image) (g before b c : ℕ) where
 
   pub placed-length : length ((placed m g before b c) .heap) ≡ length (m .heap)
   unfolding placed setStart setWord withHeap withStarts
-  placed-length = length-put (put (taken .heap) (4 * g + 0) b) (4 * g + 1) c ∙ (length-put (taken .heap) (4 * g + 0) b ∙ take-length m g before b left)
+  placed-length = length-put (put (taken .heap) (4 * g + 0) b) (4 * g + 1) c ∙ (length-put (taken .heap) (4 * g + 0) b ∙ take-length m g before b run-left)
 
   module _ (o : RunIn m g) (lb : b ≤ word m g 0) (hb : 1 ≤ b) (below : before < g) (len : length (m .heap) ≡ 4 * granules m) (z : HeapSized m) where
     taken-length : length (taken .heap) ≡ 4 * granules m
-    taken-length = take-length m g before b left ∙ len
+    taken-length = take-length m g before b run-left ∙ len
 
     placed-size : word (placed m g before b c) g 0 ≡ b
     unfolding placed setStart setWord withHeap withStarts word
@@ -89,28 +89,28 @@ module _ (m : Image) (g before b c : ℕ) where
     unfolding placed setStart setWord withHeap withStarts word
     placed-links = nth-put-same (put (taken .heap) (4 * g + 0) b) (4 * g + 1) c (omega (arith, length-put (taken .heap) (4 * g + 0) b, taken-length, o .ends))
 
-    some-left : b < word m g 0 → (word (placed m g before b c) (g + b) 0 ≡ left) × (word (placed m g before b c) (g + b) 1 ≡ word m g 1)
+    some-left : b < word m g 0 → (word (placed m g before b c) (g + b) 0 ≡ run-left) × (word (placed m g before b c) (g + b) 1 ≡ word m g 1)
     unfolding word
     some-left l =
         let k = take-left m g before b (word m g 0 - b) (omega arith) (omega arith) (omega (arith, len, o .ends)) in
         (placed-nth (4 * (g + b) + 0) (λ e. omega arith) (λ e. omega arith) ∙ k .0, placed-nth (4 * (g + b) + 1) (λ e. omega arith) (λ e. omega arith) ∙ k .1)
 
-    pub placed-carved : Carved m (placed m g before b c) b c g before (nextOf m g b left)
+    pub placed-carved : Carved m (placed m g before b c) b c g before (nextOf m g b run-left)
     placed-carved = record {
       same-granules = placed-granules;
       start-new = placed-start g ∙ setBit-same (m .width) (m .starts) g (z .start-words g (omega (arith, o .ends)));
       start-old = λ h ne. placed-start h ∙ (setBit-other (m .width) (m .starts) g h ne ∙ (unfold isStart in refl));
       size-new = placed-size;
       links-new = placed-links;
-      left-next = λ l. next-left left (omega (arith, is-left));
+      left-next = λ l. next-left run-left (omega (arith, is-left));
       left-size = λ l. omega (arith, (some-left l) .0, is-left);
       left-pointer = λ l. (some-left l) .1;
-      none-left = λ e. next-none left (omega (arith, is-left));
+      none-left = λ e. next-none run-left (omega (arith, is-left));
       pointer = λ nz. points nz;
-      others = λ x n₀ n₁ nb nl. placed-nth x n₀ n₁ ∙ take-nth m g before b left x nb (λ l. nl (omega (arith, is-left)));
+      others = λ x n₀ n₁ nb nl. placed-nth x n₀ n₁ ∙ take-nth m g before b run-left x nb (λ l. nl (omega (arith, is-left)));
     }
       where
-        is-left : left + b ≡ word m g 0
+        is-left : run-left + b ≡ word m g 0
         is-left = omega arith
 
         next-left : (l : ℕ) → 1 ≤ l → nextOf m g b l ≡ g + b
@@ -121,5 +121,5 @@ module _ (m : Image) (g before b c : ℕ) where
         next-none zero h = unfold nextOf in refl
         next-none (suc l) h = absurd (omega arith)
 
-        points : (before ≡ 0 → ⊥) → word (placed m g before b c) before 1 ≡ nextOf m g b left
-        points nz = unfold word in placed-nth (4 * before + 1) (λ e. omega arith) (λ e. omega arith) ∙ take-pointer m g before b left nz (omega (arith, len, o .ends))
+        points : (before ≡ 0 → ⊥) → word (placed m g before b c) before 1 ≡ nextOf m g b run-left
+        points nz = unfold word in placed-nth (4 * before + 1) (λ e. omega arith) (λ e. omega arith) ∙ take-pointer m g before b run-left nz (omega (arith, len, o .ends))

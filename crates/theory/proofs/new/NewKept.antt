@@ -16,7 +16,7 @@ use Rattle.model.proofs.Laws.{some-false}
 use Rattle.theory.specs.Heap.{HeapFilled}
 use Rattle.theory.specs.Lines.{NilOr, GeneralOk, HeapOk, Start, Lines, Undamaged}
 use Rattle.theory.specs.New.{reheaped, NewMade}
-use Rattle.theory.proofs.heap.Facts.{some-card, laid-of, link-value, start-of, heap-filled-of, heap-sized-of}
+use Rattle.theory.proofs.heap.Facts.{some-card, laid-of, link-value, start-at, heap-filled-of, heap-sized-of}
 use Rattle.theory.proofs.steps.Steps.{line, not-above, good-size}
 use Rattle.theory.proofs.steps.Mutating.{reg-keeps, is-start}
 use Rattle.theory.proofs.new.NewMade.{new-made}
@@ -58,7 +58,7 @@ module _ {m n : Image} {p r b c g : ℕ} (u : Undamaged m) (k : NewMade m n p r 
       go : Dec (h ≡ g) → NilOr (λ a. (a < 64 * m .k) × (bit (m .width) (n .starts) a ≡ true)) (word n h (2 + i))
       go (yes e) = inl (ap (λ x. word n x (2 + i)) e ∙ k .zero-new i (omega (arith, k .links-new, subst (λ x. i < word n x 1) e l)))
       go (no ne) =
-          let a : Start m h = start-of o h (sym (k .start-old h ne) ∙ (new-start h ∙ s)) in
+          let a : Start m h = start-at o h (sym (k .start-old h ne) ∙ (new-start h ∙ s)) in
           let d : i < word m h 1 = rw (word-stays h 0 a zero-le) at l in
           let j : 2 + i ≡ 1 + suc i = omega arith in
           rw (j, word-stays h (suc i) a d, ← j) (nil-mono still (word m h (2 + i)) (link-value o h i a d))

@@ -143,8 +143,8 @@ nil-name {name} n g = go (ℕ-discrete g 0)
 -- ---- chains
 
 -- a register or link that holds what y is
-pub moved : {x y : ℕ} (P : ℕ → Type 0) → x ≡ y → ((y ≡ 0 → ⊥) → P y) → (x ≡ 0 → ⊥) → P x
-moved P e h nz = subst P (sym e) (h (λ z. nz (e ∙ z)))
+pub moved-along : {x y : ℕ} (P : ℕ → Type 0) → x ≡ y → ((y ≡ 0 → ⊥) → P y) → (x ≡ 0 → ⊥) → P x
+moved-along P e h nz = subst P (sym e) (h (λ z. nz (e ∙ z)))
 
 -- an object in reach has its size, number of links and links inside
 pub in-object : (m : Image) → Facts m → (g : ℕ) → Chain m g → links m g + 2 ≤ 4 * size m g
@@ -227,12 +227,12 @@ module _ (m : Image) (f : Facts m) (m′ : Image) (k : WordsStay m m′) where
 
   -- the links of what was in reach lead to what was in reach
   pub links-in-reach : (g i : ℕ) → Chain m g → i < links m′ g → (link m′ g i ≡ 0 → ⊥) → Chain m (link m′ g i)
-  links-in-reach g i c l = let li : i < links m g = subst (λ z. i < z) (count-stays m m′ head-stays g c) l in moved (Chain m) (link-stays g i c li) (λ nz. chain-link g i c li refl nz)
+  links-in-reach g i c l = let li : i < links m g = subst (λ z. i < z) (count-stays m m′ head-stays g c) l in moved-along (Chain m) (link-stays g i c li) (λ nz. chain-link g i c li refl nz)
 
 pub same-kept : (m : Image) → Facts m → (m′ : Image) → KeptWords m m′ → (name : ℕ → Object) (q : PlainStore) → SameStore name m q → SameStore name m′ q
 same-kept m f m′ k name q s =
     agrees-narrow
-    (λ a c. chain-least m′ (Chain m) (λ p r hp hr. moved (Chain m) (k .kept-reg p r) (λ nz. chain-reg p r hp hr refl nz)) (links-in-reach m f m′ (k .kept-word)) c)
+    (λ a c. chain-least m′ (Chain m) (λ p r hp hr. moved-along (Chain m) (k .kept-reg p r) (λ nz. chain-reg p r hp hr refl nz)) (links-in-reach m f m′ (k .kept-word)) c)
     (agrees-renew m m′ (head-stays m f m′ (k .kept-word)) name q
     (λ p r hp hr. s .same-reg p r hp hr ∙ ap name (sym (k .kept-reg p r)))
     (λ p hp. s .same-owing p hp ∙ ap (λ z. not (eqb z 0)) (sym (k .kept-owed p)))

@@ -15,7 +15,7 @@ use Rattle.model.proofs.Laws.{nth-put-same, nth-put-other}
 use Rattle.theory.specs.Same.{SameStore}
 use Rattle.theory.specs.Cycle.{Facts}
 use Rattle.theory.proofs.finish.Safe.{chain-least, chain-start}
-use Rattle.theory.proofs.plain.PlainLaws.{both, upd-same, upd-other, upd-at, updObject-at, moved, in-object, level-inside, agrees-narrow, count-stays, agrees-renew}
+use Rattle.theory.proofs.plain.PlainLaws.{both, upd-same, upd-other, upd-at, updObject-at, moved-along, in-object, level-inside, agrees-narrow, count-stays, agrees-renew}
 use Rattle.theory.proofs.heap.Walk.{same-place}
 
 -- ---- a register: load, hand, drop
@@ -36,8 +36,8 @@ module _ (m : Image) (f : Facts m) (p r v : ℕ) (hp : p < 16) (hr : r < 16) whe
   held-after P hv u t ht h = go (both u p t r)
     where
       go : ((u ≡ p) × (t ≡ r)) ⊎ ((u ≡ p) × (t ≡ r) → ⊥) → (reg (setReg m p r v) u t ≡ 0 → ⊥) → P (reg (setReg m p r v) u t)
-      go (inl e) = moved P (reg-here u t e) hv
-      go (inr ne) = moved P (reg-there u t ht ne) h
+      go (inl e) = moved-along P (reg-here u t e) hv
+      go (inr ne) = moved-along P (reg-there u t ht ne) h
 
   pub regs-agree : (name : ℕ → Object) (g : ℕ → ℕ → Object) → ((u t : ℕ) → u < 16 → t < 16 → g u t ≡ name (reg m u t))
       → (u t : ℕ) → u < 16 → t < 16 → upd g p (upd (g p) r (name v)) u t ≡ name (reg (setReg m p r v) u t)
@@ -104,7 +104,7 @@ module _ (m : Image) (f : Facts m) where
     written name q q′ s er eo es ec ls vs linked =
         agrees-narrow
         (λ a c. chain-least (setWord m g x v) (Chain m)
-        (λ u t hu ht. moved (Chain m) (regs-stay u t) (λ nz. chain-reg u t hu ht refl nz))
+        (λ u t hu ht. moved-along (Chain m) (regs-stay u t) (λ nz. chain-reg u t hu ht refl nz))
         (λ h i k l. linked h i k (subst (λ z. i < z) (count-stays m (setWord m g x v) head-stays h k) l))
         c)
         (agrees-renew m (setWord m g x v) head-stays name q′
@@ -138,8 +138,8 @@ module _ (m : Image) (f : Facts m) where
     linked h i c l = go (both h g i b)
       where
         go : ((h ≡ g) × (i ≡ b)) ⊎ ((h ≡ g) × (i ≡ b) → ⊥) → (link (setWord m g (2 + b) v) h i ≡ 0 → ⊥) → Chain m (link (setWord m g (2 + b) v) h i)
-        go (inl e) = moved (Chain m) (link-here h i e) in-reach
-        go (inr ne) = moved (Chain m) (link-there h i c l ne) (λ nz. chain-link h i c l refl nz)
+        go (inl e) = moved-along (Chain m) (link-here h i e) in-reach
+        go (inr ne) = moved-along (Chain m) (link-there h i c l ne) (λ nz. chain-link h i c l refl nz)
 
     pub same-stored : (name : ℕ → Object) → ((h k : ℕ) → name h ≡ name k → h ≡ k) → (q : PlainStore) → SameStore name m q → SameStore name (setWord m g (2 + b) v) (putLink q (name g) b (name v))
     unfolding putLink
@@ -183,7 +183,7 @@ module _ (m : Image) (f : Facts m) where
         (λ h i c l. updObject-at name one (q .levelOf) g b v h i (word (setWord m g place v) h (2 + links m h + i))
         (λ e. sym (level-here h i e))
         (λ ne. s .same-level h i c l ∙ sym (level-there h i c l ne)))
-        (λ h i c l. moved (Chain m) (links-stay h i c l) (λ nz. chain-link h i c l refl nz))
+        (λ h i c l. moved-along (Chain m) (links-stay h i c l) (λ nz. chain-link h i c l refl nz))
 
 -- ---- what a player owes: store, barrier
 

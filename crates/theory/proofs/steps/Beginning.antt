@@ -15,7 +15,7 @@ use Rattle.theory.specs.Cover.{Covered, Cover, owes-by, to-nil, to-marke
 use Rattle.theory.specs.Lines.{NilOr, GeneralOk, Start, Lines, Idle, none}
 use Rattle.theory.proofs.lines.Covering.{same-coming}
 use Rattle.theory.proofs.lines.Lines.{put-players, put-general}
-use Rattle.theory.proofs.steps.Reaching.{each-take, Stays, reachAll-does, frame}
+use Rattle.theory.proofs.steps.Reaching.{each-take, StepStays, reachAll-does, frame}
 use Rattle.theory.proofs.lines.Sections.{scanned-set}
 
 -- ---- scan
@@ -38,7 +38,7 @@ scanned-frame : (m : Image) (p : ℕ) → frame (setScanned m p) ≡ frame m
 unfolding setScanned withPlayers
 scanned-frame m p = refl
 
-pub scan-does : (m : Image) → Lines m → Cover m → (t p : ℕ) → t < 8 → p < 16 → Stays m (scanPlayer m t p)
+pub scan-does : (m : Image) → Lines m → Cover m → (t p : ℕ) → t < 8 → p < 16 → StepStays m (scanPlayer m t p)
 unfolding scanPlayer
 scan-does m o cov t p ht hp =
     let r = reachAll-does m o cov t ht (take 16 (drop (16 * p) (m .regs))) (each-take (NilOr (Start m)) (inl refl) 16 (drop (16 * p) (m .regs)) (λ i. rw (nth-drop (16 * p) (m .regs) i) (o .regs-ok .values (16 * p + i)))) in

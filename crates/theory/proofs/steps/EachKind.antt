@@ -22,7 +22,7 @@ use Rattle.theory.proofs.finish.FinishKept.{finish-keeps}
 use Rattle.theory.proofs.steps.Steps.{line, not-above}
 use Rattle.theory.proofs.steps.Mutating.{reg-keeps, barrier-keeps, store-keeps, write-keeps}
 use Rattle.theory.proofs.new.NewKept.{new-does, new-step}
-use Rattle.theory.proofs.steps.Reaching.{Stays}
+use Rattle.theory.proofs.steps.Reaching.{StepStays}
 use Rattle.theory.proofs.steps.Tracing.{trace-does}
 
 -- ---- what an accepted step says
@@ -38,7 +38,7 @@ running-one : (m : Image) → Lines m → eqb (running m) 0 ≡ false → nth (m
 unfolding running
 running-one m o e = omega (arith, o .general-ok .runs, eqb-false (nth (m .general) 0) 0 e)
 
-stays-undamaged : (m m′ : Image) → Lines m → eqb (running m) 0 ≡ false → Stays m m′ → Undamaged m′
+stays-undamaged : (m m′ : Image) → Lines m → eqb (running m) 0 ≡ false → StepStays m m′ → Undamaged m′
 stays-undamaged m m′ o e r = record {
   sound = record { lines = r .lines; idle = λ z. absurd (omega (arith, running-one m o e, ap (λ f. nth (f .2) 0) (r .frame-same))) };
   cover = r .cover;
@@ -47,19 +47,19 @@ stays-undamaged m m′ o e r = record {
 abbrev pub SameShape : Image → Image → Type 0
 SameShape m m′ = (m′ .width ≡ m .width) × (m′ .k ≡ m .k)
 
-stays-shape : {m m′ : Image} → Stays m m′ → SameShape m m′
+stays-shape : {m m′ : Image} → StepStays m m′ → SameShape m m′
 stays-shape r = (ap (λ f. f .0) (r .frame-same), ap (λ f. f .1) (r .frame-same))
 
 module _ (m : Image) (s : Step) (u : Undamaged m) where
-  trace-stays : refusal m s trace ≡ 0 → Stays m (traceStep m (s .who))
+  trace-stays : refusal m s trace ≡ 0 → StepStays m (traceStep m (s .who))
   unfolding offDesk
   trace-stays r = trace-does m (u .sound .lines) (u .cover) (s .who) (not-above 7 (s .who) (some-false _ (line m s trace r 1) 0))
 
-  clean-stays : refusal m s clean ≡ 0 → Stays m (cleanStep m (s .who))
+  clean-stays : refusal m s clean ≡ 0 → StepStays m (cleanStep m (s .who))
   unfolding offDesk
   clean-stays r = clean-does m (u .sound .lines) (u .cover) (s .who) (not-above 7 (s .who) (some-false _ (line m s clean r 1) 0))
 
-  scan-stays : refusal m s scan ≡ 0 → Stays m (scanPlayer m (s .who) (s .a))
+  scan-stays : refusal m s scan ≡ 0 → StepStays m (scanPlayer m (s .who) (s .a))
   unfolding offDesk
   scan-stays r = let d = some-false _ (line m s scan r 1) in scan-does m (u .sound .lines) (u .cover) (s .who) (s .a) (not-above 7 (s .who) (d 0)) (not-above 15 (s .a) (d 1))
 

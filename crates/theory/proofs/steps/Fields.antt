@@ -104,9 +104,9 @@ module _ (w k : ℕ) where
     unnamed-by = λ j. (is n unknown || some (fields s (λ r x. unused-by r j && not (eqb x 0)) (rowOf n)))
 
     -- 3 does not apply: the kind is known, and where the limit is 0, so is the field
-    pub named : is n unknown ≡ false → ((i : ℕ) → i < 4 → boundAt w k n i ≡ 0 → fieldAt s i ≡ 0) → unnamed s n ≡ false
+    pub all-named : is n unknown ≡ false → ((i : ℕ) → i < 4 → boundAt w k n i ≡ 0 → fieldAt s i ≡ 0) → unnamed s n ≡ false
     unfolding unnamed is boundAt
-    named u h = ap (λ b. b || some (fields s stray (rowOf n))) u ∙ none-test s n stray (λ i p. go (roleAt n i) (fieldAt s i) (h i p))
+    all-named u h = ap (λ b. b || some (fields s stray (rowOf n))) u ∙ none-test s n stray (λ i p. go (roleAt n i) (fieldAt s i) (h i p))
       where
         go : (r : Role) (x : ℕ) → (bound w k r ≡ 0 → x ≡ 0) → stray r x ≡ false
         go unused x h = ap not (eq-eqb x 0 (h refl))

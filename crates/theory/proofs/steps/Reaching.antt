@@ -61,13 +61,13 @@ enter-cases P m t a z s = go (output m t) refl
 -- ---- the lines
 
 -- a packet that is held by no tracer stands in no tracer's first two words
-pub unheld : (m : Image) (p : ℕ) → held m p ≡ false → (u j : ℕ) → u < 8 → j < 2 → nth (m .tracers) (8 * u + j) ≡ suc p → ⊥
+pub packet-unheld : (m : Image) (p : ℕ) → held m p ≡ false → (u j : ℕ) → u < 8 → j < 2 → nth (m .tracers) (8 * u + j) ≡ suc p → ⊥
 unfolding held input output
-unheld m p e u zero hu hj x =
+packet-unheld m p e u zero hu hj x =
     let i : 8 * u ≡ 8 * u + 0 = omega arith in
     false≢ (sym e ∙ any-make 8 _ u hu (some-make _ 0 (eq-eqb _ _ (ap (nth (m .tracers)) i ∙ x))))
-unheld m p e u (suc zero) hu hj x = false≢ (sym e ∙ any-make 8 _ u hu (some-make _ 1 (eq-eqb _ _ x)))
-unheld m p e u (suc (suc j)) hu hj x = absurd (omega arith)
+packet-unheld m p e u (suc zero) hu hj x = false≢ (sym e ∙ any-make 8 _ u hu (some-make _ 1 (eq-eqb _ _ x)))
+packet-unheld m p e u (suc (suc j)) hu hj x = absurd (omega arith)
 
 pub mark-lines : {m : Image} → Lines m → (a : ℕ) → Start m a → Lines (setMark m a)
 unfolding setMark
@@ -90,7 +90,7 @@ take-lines {m} o t ht = put-tracers o _ (go (noOutput m t))
       where
         free : (u j : ℕ) → u < 8 → j < 2 → nth (m .tracers) (8 * u + j) ≡ suc q → Dec (8 * u + j ≡ 8 * t + 1) → (u ≡ t) × (j ≡ 1)
         free u j hu hj y (yes a) = (omega arith, omega arith)
-        free u j hu hj y (no n) = absurd (unheld (setTracer m t 1 0) q (emptiest-ok m₀ q e .1) u j hu hj (nth-put-other (m .tracers) (8 * t + 1) (8 * u + j) 0 n ∙ y))
+        free u j hu hj y (no n) = absurd (packet-unheld (setTracer m t 1 0) q (emptiest-ok m₀ q e .1) u j hu hj (nth-put-other (m .tracers) (8 * t + 1) (8 * u + j) 0 n ∙ y))
 
     go : (b : Bool) → TracersOk (InHand m) (CardInHand m) (put (m .tracers) (8 * t + 1) (cond b (emptiest (setTracer m t 1 0)) (output m t)))
     go true = pool (emptiest (setTracer m t 1 0)) refl
@@ -121,7 +121,7 @@ append-lines o p a hp hc ma un = put-packets o _ (append-ok (o .packets-ok) p a 
 -- ---- reach
 
 -- what a reach leaves alone, and what it does
-pub record Reached (m : Image) (a : ℕ) (m′ : Image) : Type 0 where
+pub record ReachedOnce (m : Image) (a : ℕ) (m′ : Image) : Type 0 where
   pub lines : Lines m′
   pub k-same : m′ .k ≡ m .k
   pub width-same : m′ .width ≡ m .width
@@ -137,7 +137,7 @@ pub record Reached (m : Image) (a : ℕ) (m′ : Image) : Type 0 where
   pub new-comes : (g i : ℕ) → marked m g ≡ false → marked m′ g ≡ true → Coming m′ g i
   pub now-marked : NilOr (λ g. marked m′ g ≡ true) a
 
-pub reached-cover : {m : Image} {a : ℕ} {m′ : Image} → Reached m a m′ → Cover m → Cover m′
+pub reached-cover : {m : Image} {a : ℕ} {m′ : Image} → ReachedOnce m a m′ → Cover m → Cover m′
 unfolding granules links link word owed reg
 reached-cover {m} {a} {m′} r cov g i hg k l = go (bool-cases (marked m g))
   where
@@ -171,10 +171,10 @@ module _ (m : Image) (o : Lines m) (t a : ℕ) (ht : t < 8) where
   ready-coming : (g i : ℕ) → Coming m g i → Coming ready g i
   ready-coming g i c = take-coming (setMark m a) t g i (mark-coming m a g i c)
 
-  reach-new : marked m a ≡ false → Start m a → Reached m a (enter ready t a)
+  reach-new : marked m a ≡ false → Start m a → ReachedOnce m a (enter ready t a)
   unfolding takeOutput setTracer withTracers setMark withMarks dirtyCard setState withCards append withPackets marked count
   reach-new un sa =
-      enter-cases (Reached m a) ready t a
+      enter-cases (ReachedOnce m a) ready t a
       (record {
         lines = dirty-lines o₂ (a / 64) hc;
         k-same = refl;
@@ -228,7 +228,7 @@ module _ (m : Image) (o : Lines m) (t a : ℕ) (ht : t < 8) where
       same : (u i : ℕ) → 2 ≤ i → i < 8 → nth (put (m .tracers) (8 * t + 1) (cond (noOutput (setMark m a) t) (emptiest (setTracer (setMark m a) t 1 0)) (output (setMark m a) t))) (8 * u + i) ≡ nth (m .tracers) (8 * u + i)
       same u i h h′ = nth-put-other (m .tracers) (8 * t + 1) (8 * u + i) _ (omega arith)
 
-  reach-none : NilOr (λ g. marked m g ≡ true) a → Reached m a m
+  reach-none : NilOr (λ g. marked m g ≡ true) a → ReachedOnce m a m
   reach-none n = record {
     lines = o;
     k-same = refl;
@@ -245,7 +245,7 @@ module _ (m : Image) (o : Lines m) (t a : ℕ) (ht : t < 8) where
     now-marked = n;
   }
 
-  pub reach-does : NilOr (Start m) a → Reached m a (reach m t a)
+  pub reach-does : NilOr (Start m) a → ReachedOnce m a (reach m t a)
   unfolding reach
   reach-does ok = go (some (eqb a 0 ∷ marked m a ∷ [])) refl ok
     where
@@ -257,7 +257,7 @@ module _ (m : Image) (o : Lines m) (t a : ℕ) (ht : t < 8) where
           last (inl q) = q
           last (inr q) = some-nil q
 
-      go : (b : Bool) → some (eqb a 0 ∷ marked m a ∷ []) ≡ b → NilOr (Start m) a → Reached m a (elim b [ true ↦ m | false ↦ enter (takeOutput (setMark m a) t) t a ])
+      go : (b : Bool) → some (eqb a 0 ∷ marked m a ∷ []) ≡ b → NilOr (Start m) a → ReachedOnce m a (elim b [ true ↦ m | false ↦ enter (takeOutput (setMark m a) t) t a ])
       go true e n = reach-none (seen (some-use _ _ e))
       go false e (inl z) = absurd (eqb-false _ _ (some-false _ e 0) z)
       go false e (inr sa) = reach-new (some-false _ e 1) sa
@@ -275,16 +275,16 @@ each-take P z (suc n) (x ∷ l) f (suc i) = each-take P z n l (λ j. f (suc j)) 
 abbrev pub frame : Image → ℕ × ℕ × List ℕ
 frame m = (m .width, m .k, m .general)
 
-pub reached-frame : {m : Image} {a : ℕ} {m′ : Image} → Reached m a m′ → frame m′ ≡ frame m
+pub reached-frame : {m : Image} {a : ℕ} {m′ : Image} → ReachedOnce m a m′ → frame m′ ≡ frame m
 reached-frame r = λ i. (r .width-same i, r .k-same i, r .general-same i)
 
 -- the lines and Cover hold
-pub record Stays (m m′ : Image) : Type 0 where
+pub record StepStays (m m′ : Image) : Type 0 where
   pub lines : Lines m′
   pub cover : Cover m′
   pub frame-same : frame m′ ≡ frame m
 
-pub reachAll-does : (m : Image) → Lines m → Cover m → (t : ℕ) → t < 8 → (l : List ℕ) → ((i : ℕ) → NilOr (Start m) (nth l i)) → Stays m (reachAll m t l)
+pub reachAll-does : (m : Image) → Lines m → Cover m → (t : ℕ) → t < 8 → (l : List ℕ) → ((i : ℕ) → NilOr (Start m) (nth l i)) → StepStays m (reachAll m t l)
 unfolding reachAll nth
 reachAll-does m o cov t ht [] f = record { lines = o; cover = cov; frame-same = refl }
 reachAll-does m o cov t ht (a ∷ l) f =

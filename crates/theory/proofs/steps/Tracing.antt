@@ -18,7 +18,7 @@ use Rattle.theory.specs.Lines.{Pair, TracersOk, NilOr, Start, Marked, In
 use Rattle.theory.proofs.lines.Covering.{CoverOn, Any, But, on, off, but-cover, hold-cover, Seen, hand-cover, takeObject-cover, pop-cover}
 use Rattle.theory.proofs.lines.Lines.{put-packets, put-tracers}
 use Rattle.theory.proofs.lines.Packets.{pop-ok}
-use Rattle.theory.proofs.steps.Reaching.{unheld, Reached, reached-cover, reach-does, Stays, frame, reached-frame}
+use Rattle.theory.proofs.steps.Reaching.{packet-unheld, ReachedOnce, reached-cover, reach-does, StepStays, frame, reached-frame}
 use Rattle.theory.proofs.lines.Sections.{hold-ok, hand-ok, swap-ok}
 
 -- granule 0 is not marked
@@ -61,8 +61,8 @@ in-hand-ok m o t ht nz = go (o .tracers-ok .hands .pair t ht)
     go (one n (k, l)) = let s = o .marks-ok .on-starts (hand m t) k in (k, l, o .heap-ok .links-ok (hand m t) (nextLink m t) (s .0) (s .1) l)
 
 -- after the reach: the hand goes on to the next link, or is emptied
-traced : (m r : Image) (t : ℕ) → t < 8 → Cover r → (hand m t ≡ 0 → ⊥) → marked m (hand m t) ≡ true → Reached m (link m (hand m t) (nextLink m t)) r
-    → (b : Bool) → ltb (suc (nextLink m t)) (links m (hand m t)) ≡ b → Stays m (cond b (putHand r t (hand m t) (suc (nextLink m t))) (putHand r t 0 0))
+traced : (m r : Image) (t : ℕ) → t < 8 → Cover r → (hand m t ≡ 0 → ⊥) → marked m (hand m t) ≡ true → ReachedOnce m (link m (hand m t) (nextLink m t)) r
+    → (b : Bool) → ltb (suc (nextLink m t)) (links m (hand m t)) ≡ b → StepStays m (cond b (putHand r t (hand m t) (suc (nextLink m t))) (putHand r t 0 0))
 unfolding putHand setTracer withTracers links link word hand nextLink granules
 traced m r t ht cov nz k d b e = record { lines = ls b e; cover = off _ (cv b e); frame-same = gs b }
   where
@@ -103,7 +103,7 @@ traced m r t ht cov nz k d b e = record { lines = ls b e; cover = off _ (cv b e)
             let x : nth (r .heap) (4 * g + 1) ≡ nth (m .heap) (4 * hand m t + 1) = rw (d .heap-same, ← q, same2) refl in
             omega (arith, same3, ltb-false (suc (nextLink m t)) (nth (m .heap) (4 * hand m t + 1)) e)
 
-pub traceHand-does : (m : Image) → Lines m → Cover m → (t : ℕ) → t < 8 → (hand m t ≡ 0 → ⊥) → Stays m (traceHand m t)
+pub traceHand-does : (m : Image) → Lines m → Cover m → (t : ℕ) → t < 8 → (hand m t ≡ 0 → ⊥) → StepStays m (traceHand m t)
 unfolding traceHand
 traceHand-does m o cov t ht nz =
     let h = in-hand-ok m o t ht nz in
@@ -152,7 +152,7 @@ pop-lines o p c hp hc = put-packets o _ (pop-ok (o .packets-ok) p c hp hc)
 
 -- the last entry is popped; it goes in hand unless its card is dirty or it has no links
 popped-does : (m : Image) → Lines m → Cover m → (t p c : ℕ) → t < 8 → hand m t ≡ 0 → p < 32 → count m p ≡ suc c
-    → (b : Bool) → dirty m (entry m p c / 64) ≡ b → Stays m (cond b (pop m p) (takeObject (pop m p) t (entry m p c)))
+    → (b : Bool) → dirty m (entry m p c / 64) ≡ b → StepStays m (cond b (pop m p) (takeObject (pop m p) t (entry m p c)))
 unfolding count entry
 popped-does m o cov t p c ht e hp hc b d = go b d
   where
@@ -168,7 +168,7 @@ popped-does m o cov t p c ht e hp hc b d = go b d
     but : CoverOn (But g) (pop m p)
     but = pop-cover m (o .packets-ok) p c hp hc cov
 
-    go : (b : Bool) → dirty m (g / 64) ≡ b → Stays m (cond b (pop m p) (takeObject (pop m p) t g))
+    go : (b : Bool) → dirty m (g / 64) ≡ b → StepStays m (cond b (pop m p) (takeObject (pop m p) t g))
     go true q = record { lines = o′; cover = but-cover (pop m p) g but (λ i l. is-coming (on-dirty (pop-dirty m p (g / 64) q))); frame-same = pop-frame m p }
     go false q = record {
       lines = takeObject-lines o′ t g ht (pop-marked m p g k);
@@ -176,14 +176,14 @@ popped-does m o cov t p c ht e hp hc b d = go b d
       frame-same = takeObject-frame (pop m p) t g ∙ pop-frame m p;
     }
 
-pub traceInput-does : (m : Image) → Lines m → Cover m → (t : ℕ) → t < 8 → hand m t ≡ 0 → hasEntries m (input m t) ≡ true → Stays m (traceInput m t)
+pub traceInput-does : (m : Image) → Lines m → Cover m → (t : ℕ) → t < 8 → hand m t ≡ 0 → hasEntries m (input m t) ≡ true → StepStays m (traceInput m t)
 unfolding traceInput hasEntries
 traceInput-does m o cov t ht e h = go (input m t) refl (count m (input m t - 1)) refl
   where
     i : (not (eqb (input m t) 0) ≡ true) × (ltb 0 (count m (input m t - 1)) ≡ true)
     i = (every-use _ h 0, every-use _ h 1)
 
-    go : (x : ℕ) → input m t ≡ x → (n : ℕ) → count m (input m t - 1) ≡ n → Stays m (cond (dirty m (entry m (input m t - 1) (count m (input m t - 1) - 1) / 64)) (pop m (input m t - 1)) (takeObject (pop m (input m t - 1)) t (entry m (input m t - 1) (count m (input m t - 1) - 1))))
+    go : (x : ℕ) → input m t ≡ x → (n : ℕ) → count m (input m t - 1) ≡ n → StepStays m (cond (dirty m (entry m (input m t - 1) (count m (input m t - 1) - 1) / 64)) (pop m (input m t - 1)) (takeObject (pop m (input m t - 1)) t (entry m (input m t - 1) (count m (input m t - 1) - 1))))
     go zero q n r = absurd (eqb-false (input m t) 0 (not-true _ (i .0)) q)
     go (suc p) q zero r = absurd (omega (arith, ltb-true 0 (count m (input m t - 1)) (i .1)))
     go (suc p) q (suc c) r =
@@ -194,15 +194,15 @@ traceInput-does m o cov t ht e h = go (input m t) refl (count m (input m t - 1))
 
 -- ---- a packet of the pool, and the own output
 
-pool-does : (m : Image) → Lines m → Cover m → (t : ℕ) → t < 8 → (x : ℕ) → fullest m ≡ x → Stays m (setTracer m t 0 (fullest m))
+pool-does : (m : Image) → Lines m → Cover m → (t : ℕ) → t < 8 → (x : ℕ) → fullest m ≡ x → StepStays m (setTracer m t 0 (fullest m))
 unfolding setTracer withTracers
 pool-does m o cov t ht x e = record { lines = put-tracers o _ (rw e (go x e)); cover = hold-cover m t 0 (fullest m) (omega arith) cov; frame-same = refl }
   where
     go : (x : ℕ) → fullest m ≡ x → TracersOk (InHand m) (CardInHand m) (put (m .tracers) (8 * t + 0) x)
     go zero e = hold-ok (o .tracers-ok) t ht 0 0 (omega arith) (omega arith) (λ u j p hu hj x y. absurd (omega arith))
-    go (suc q) e = let f = fullest-ok m q e in hold-ok (o .tracers-ok) t ht 0 (suc q) (omega arith) (f .0) (λ u j p hu hj x y. absurd (unheld m q (f .1) u j hu hj (y ∙ sym x)))
+    go (suc q) e = let f = fullest-ok m q e in hold-ok (o .tracers-ok) t ht 0 (suc q) (omega arith) (f .0) (λ u j p hu hj x y. absurd (packet-unheld m q (f .1) u j hu hj (y ∙ sym x)))
 
-swap-does : (m : Image) → Lines m → Cover m → (t : ℕ) → t < 8 → Stays m (setTracer (setTracer m t 0 (output m t)) t 1 0)
+swap-does : (m : Image) → Lines m → Cover m → (t : ℕ) → t < 8 → StepStays m (setTracer (setTracer m t 0 (output m t)) t 1 0)
 unfolding setTracer withTracers output
 swap-does m o cov t ht = record {
   lines = put-tracers o _ (swap-ok (o .tracers-ok) t ht (nth (m .tracers) (8 * t + 1)) refl);
@@ -212,12 +212,12 @@ swap-does m o cov t ht = record {
 
 -- ---- trace
 
-pub trace-does : (m : Image) → Lines m → Cover m → (t : ℕ) → t < 8 → Stays m (traceStep m t)
+pub trace-does : (m : Image) → Lines m → Cover m → (t : ℕ) → t < 8 → StepStays m (traceStep m t)
 unfolding traceStep traceLine tracePool traceOutput first
 trace-does m o cov t ht = go (not (eqb (hand m t) 0)) refl (hasEntries m (input m t)) refl (not (eqb (fullest m) 0)) (hasEntries m (output m t))
   where
     go : (a : Bool) → not (eqb (hand m t) 0) ≡ a → (b : Bool) → hasEntries m (input m t) ≡ b → (c d : Bool)
-        → Stays m (getD (m ∷ traceHand m t ∷ traceInput m t ∷ tracePool m t ∷ traceOutput m t ∷ []) (first 1 (a ∷ b ∷ c ∷ d ∷ [])) m)
+        → StepStays m (getD (m ∷ traceHand m t ∷ traceInput m t ∷ tracePool m t ∷ traceOutput m t ∷ []) (first 1 (a ∷ b ∷ c ∷ d ∷ [])) m)
     go true x b y c d = traceHand-does m o cov t ht (eqb-false _ _ (not-true _ x))
     go false x true y c d = traceInput-does m o cov t ht (eqb-true _ _ (not-false _ x)) y
     go false x false y true d = pool-does m o cov t ht (fullest m) refl

@@ -1,5 +1,5 @@
 use borrow.Author.Needs.{needs}
-use Rattle.image_laws.proofs.Fresh.{fresh-words}
+use Rattle.image_laws.proofs.Fresh.{fresh-written}
 use Rattle.image.proofs.fresh.make_fresh.Statement.{statement}
 use Rattle.image.proofs.fresh.make_fresh.Tie as tie
 
@@ -7,7 +7,7 @@ returns : tie.Need-returns
 returns c =
     let b = c .before .before .before .before .before .before in
     let e = b .before .before .before .before in
-    fresh-words _ _ _ _ _ _ (e .before .before .before .pre) (search needs) (e .clear .ensures) (b .set-word .ensures) (c .before .before .set-first-run .ensures)
+    fresh-written _ _ _ _ _ _ (e .before .before .before .pre) (search needs) (e .clear .ensures) (b .set-word .ensures) (c .before .before .set-first-run .ensures)
 
 pub make-fresh-spec : {M : Type 1} → statement M
 make-fresh-spec = tie.close (tie.spec (λ c κs. search needs) (λ c. search needs) (λ c. search needs) (λ c. search needs) (λ c κs. search needs) (λ c κs. search needs) (λ c. search needs) returns)

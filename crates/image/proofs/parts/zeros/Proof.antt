@@ -18,18 +18,6 @@ abbrev μ-loop : tie.MeasureT-loop
 loop-holds : tie.Need-loop-holds Inv-loop μ-loop
 loop-holds c = g-none
 
-mul-bad : tie.Need-mul-bad Inv-loop μ-loop
-mul-bad c = search needs
-
-shared-slice-read-bad : tie.Need-shared-slice-read-bad Inv-loop μ-loop
-shared-slice-read-bad c = search needs
-
-add-i : tie.Need-add-i Inv-loop μ-loop
-add-i c = search needs
-
-loop-less : tie.Need-loop-less Inv-loop μ-loop
-loop-less c = search needs
-
 loop-again : tie.Need-loop-again Inv-loop μ-loop
 unfolding isZero nth
 loop-again c = g-more _ _ _ _ _ (c .before .before .loop .inv) (omega arith) refl
@@ -43,10 +31,6 @@ zeros-spec =
     (tie.spec
     Inv-loop
     μ-loop
-    loop-holds
-    mul-bad
-    shared-slice-read-bad
-    add-i
-    loop-less
+    loop-holds (λ c. search needs) (λ c. search needs) (λ c. search needs) (λ c. search needs)
     loop-again
     returns)

@@ -13,12 +13,6 @@ Inv-loop im k b before₀ g₀ before g = Walk (imageOf width k im) b before g
 abbrev μ-loop : tie.MeasureT-loop
 μ-loop im k b before₀ g₀ before g = chain-measure (granules (imageOf width k im)) g
 
-first-run-requires : tie.Need-first-run-requires Inv-loop μ-loop
-first-run-requires c κs = search needs
-
-cast-g : tie.Need-cast-g Inv-loop μ-loop
-cast-g c = search needs
-
 loop-holds : tie.Need-loop-holds Inv-loop μ-loop
 loop-holds c = search walk-first
 
@@ -45,9 +39,7 @@ find-room-spec =
     tie.close
     (tie.spec
     Inv-loop
-    μ-loop
-    first-run-requires
-    cast-g
+    μ-loop (λ c κs. search needs) (λ c. search needs)
     loop-holds
     run-length-requires
     returns

@@ -13,12 +13,6 @@ Inv-loop im k total₀ g₀ total g = Counting (imageOf width k im) total g
 abbrev μ-loop : tie.MeasureT-loop
 μ-loop im k total₀ g₀ total g = chain-measure (granules (imageOf width k im)) g
 
-first-run-requires : tie.Need-first-run-requires Inv-loop μ-loop
-first-run-requires c κs = search needs
-
-cast-g : tie.Need-cast-g Inv-loop μ-loop
-cast-g c = search needs
-
 loop-holds : tie.Need-loop-holds Inv-loop μ-loop
 loop-holds c = search count-first
 
@@ -26,9 +20,6 @@ word-requires : tie.Need-word-requires Inv-loop μ-loop
 word-requires c κs =
     let A = c .before .before .before .before .args in
     (search needs, omega (arith, count-in _ _ _ (c .before .loop .inv) (c .loop-test .taken), granules-image width (A .k) (A .im .now)))
-
-cast-total : tie.Need-cast-total Inv-loop μ-loop
-cast-total c = search needs
 
 add-total : tie.Need-add-total Inv-loop μ-loop
 add-total c =
@@ -54,12 +45,9 @@ free-granules-spec =
     tie.close
     (tie.spec
     Inv-loop
-    μ-loop
-    first-run-requires
-    cast-g
+    μ-loop (λ c κs. search needs) (λ c. search needs)
     loop-holds
-    word-requires
-    cast-total
+    word-requires (λ c. search needs)
     add-total
     next-run-requires
     loop-less
