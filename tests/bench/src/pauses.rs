@@ -7,14 +7,14 @@ use crate::stepping::pauses_of;
 use crate::work::{self, BEGIN};
 
 pub fn pauses() {
-    println!("finish alone, library ns                     after begin  half marked   all marked  pause ratio");
+    println!("finish alone, library ns                      after begin  half marked   all marked  pause ratio");
     for k in [64, 512] {
         for (size, sizes) in [("1 granule", Sizes::One), ("1 to 8", Sizes::OneToEight), ("16", Sizes::Sixteen)] {
             for (share, free) in [("nothing", Free::Nothing), ("half", Free::Half), ("all", Free::All)] {
-                print_row(&format!("k = {k:3}, objects of {size:9}, {share:7} freed"), &show(k, sizes, free));
+                print_row(&format!("k = {k:3}, objects of {size}, {share} freed"), &show(k, sizes, free));
             }
         }
-        print_row(&format!("k = {k:3}, {:6} objects of two links", 64 * k - 1), &full_tree(k));
+        print_row(&format!("k = {k:3}, {} objects of two links", 64 * k - 1), &full_tree(k));
     }
 }
 
@@ -25,5 +25,5 @@ fn print_row(what: &str, image: &[u16]) {
     let half = marking.len() / 16 * 8;
     let moments = [0, half, marking.len()].map(|done| work::after(&begun, &marking[..done]));
     let [first, middle, last] = pauses_of(12, [0, 1, 2].map(|n| (library::batch as Batch, &moments[n][..])));
-    println!("  {what:43} {first:11.0} {middle:12.0} {last:12.0} {:12.1}", first / last);
+    println!("  {what:44} {first:11.0} {middle:12.0} {last:12.0} {:12.1}", first / last);
 }
