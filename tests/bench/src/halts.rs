@@ -28,6 +28,10 @@ impl Halts {
         halt.whole
     }
 
+    pub fn count(&self) -> usize {
+        self.whole.len()
+    }
+
     /// A plain pass over such an image stands beside: it tells how fast the machine was.
     pub fn print(&self, image: &[u16]) {
         for (what, times) in [("with judging", &self.whole), ("judging alone", &self.judging)] {

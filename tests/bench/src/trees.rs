@@ -117,7 +117,8 @@ impl Desk {
             "trees, k = {CARDS}, library µs: one of depth {KEPT_DEPTH} kept, {DROPPED} of depth {DROPPED_DEPTH} built and dropped"
         );
         self.halts.print(self.pair.image());
-        println!("  {} nodes, {:.0} ns a node", self.nodes, self.took.as_nanos() as f64 / self.nodes as f64);
+        let a_node = self.took.as_nanos() as f64 / self.nodes as f64;
+        println!("  {} nodes, {a_node:.0} ns a node, {} finishes", self.nodes, self.halts.count());
     }
 }
 

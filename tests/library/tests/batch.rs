@@ -43,18 +43,18 @@ impl Seen {
 }
 
 /// One call of both: same result, image and answers, and nothing else touched.
-fn same(image: &mut Vec<u16>, steps: &[u8], answer_words: usize, seen: &mut Seen) {
+fn same(image: &mut [u16], steps: &[u8], answer_words: usize, seen: &mut Seen) {
     let answers = vec![UNTOUCHED; answer_words];
     let mut lent = Guarded::new(image, GUARD);
     let lent_steps = Guarded::new(steps, BYTE_GUARD);
     let mut lent_answers = Guarded::new(&answers, GUARD);
     let result = library::batch(lent.items_mut(), lent_steps.items(), lent_answers.items_mut());
 
-    let got = image.clone();
+    let got = image.to_vec();
     let mut others = answers;
     let wanted = reference::batch(image, steps, &mut others);
     assert_eq!(result, wanted, "result of a batch of {} bytes on {} words", steps.len(), image.len());
-    assert!(lent.items() == &image[..], "image after {steps:02x?}");
+    assert!(lent.items() == image, "image after {steps:02x?}");
     assert_eq!(lent_answers.items(), others, "answers of {steps:02x?}");
     assert!(lent.guards_stand() && lent_answers.guards_stand(), "memory outside the slices");
     assert!(lent_steps.guards_stand() && lent_steps.items() == steps, "step bytes written");
