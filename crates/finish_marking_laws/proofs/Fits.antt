@@ -12,7 +12,7 @@ use Rattle.theory.specs.Lines.{Pair, none, one, Lines, InHand, CardInHand}
 use Rattle.theory.proofs.heap.Walk.{object-at}
 use Rattle.theory.proofs.lines.Judged.{sound-use}
 use Rattle.theory.proofs.lines.Sizes.{fits-sizes}
-use Rattle.theory.proofs.heap.Facts.{heap-filled-of, link-value, start-of}
+use Rattle.theory.proofs.heap.Facts.{heap-filled-of, link-value, start-at}
 use Rattle.finish_marking_laws.specs.Follow.{objectBit, World}
 use Rattle.image_laws.specs.Digits.{digit, markBit, startBit}
 use Rattle.image_laws.specs.Sized.{Sized}
@@ -42,7 +42,7 @@ module _ (m : Image) (o : Lines m) where
 
   target : (g i : ℕ) → objectBit m g ≡ 1 → i < links m g → (link m g i ≡ 0 → ⊥) → (link m g i < 64 * m .k) × (objectBit m (link m g i) ≡ 1)
   unfolding isStart
-  target g i e l n = ⊎-elim (λ z. absurd (n z)) (λ r. (r .0, omega (arith, digit-on (r .1), digit-le (marked m (link m g i))))) (link-value o g i (start-of o g (object-start g e)) l)
+  target g i e l n = ⊎-elim (λ z. absurd (n z)) (λ r. (r .0, omega (arith, digit-on (r .1), digit-le (marked m (link m g i))))) (link-value o g i (start-at o g (object-start g e)) l)
 
   world : World (m .k) m
   unfolding granules
