@@ -23,7 +23,7 @@ pub fn batch(im: &mut [Word], steps: &[u8], answers: &mut [Word]) -> Word
                 return 1;
             }
             if judge::is_undamaged(im, k) {
-                crate::run::run_all(im, k, steps, answers, n);
+                crate::run::run_all(im, k, steps, answers);
                 return 0;
             }
             2
