@@ -1,5 +1,9 @@
 /* The show store: a garbage-collected store of cues, palettes and playbacks in a lent slice of 16-bit words.
  *
+ * A program lends a slice of words (the image), makes a fresh store in it once, and then hands over batches of steps. Players make
+ * objects, link them and read and write their level words; tracers follow the links between the players' steps; a finish frees what
+ * nothing holds any more.
+ *
  * Every function takes every slice: any length, any content, also length 0. A pointer and the length behind it name one slice;
  * the length counts words (bytes for step bytes). Slices of one call must not overlap. Nothing outside the lent memory is
  * touched, and every call ends. */
@@ -13,24 +17,84 @@
 extern "C" {
 #endif
 
-/* The number of words of a store of k cards, k from 1 to 512. */
+/* The number of words of a store of k cards, k from 1 to SHOW_STORE_MOST_CARDS. A card is 64 granules, a granule four words. Granule 0
+ * is never used, so objects have 64 * k - 1 granules between them. */
 #define SHOW_STORE_WORDS(k) (265u * (size_t)(k) + 1384u)
+#define SHOW_STORE_MOST_CARDS 512
+
+/* A step is a record of so many bytes, and its answer so many words: its number, then its value. */
+#define SHOW_STORE_RECORD_BYTES 8
+#define SHOW_STORE_ANSWER_WORDS 2
+
+/* The desk: players and tracers are counted from 0, and so are a player's registers. */
+#define SHOW_STORE_PLAYERS 16
+#define SHOW_STORE_REGISTERS 16
+#define SHOW_STORE_TRACERS 8
 
 /* Results of a call. */
-#define SHOW_STORE_OK 0
-#define SHOW_STORE_MISFIT 1
-#define SHOW_STORE_DAMAGED 2
+enum show_store_result {
+    SHOW_STORE_OK = 0,      /* the call did what it should */
+    SHOW_STORE_MISFIT = 1,  /* a length does not fit; nothing was written */
+    SHOW_STORE_DAMAGED = 2  /* the image is damaged; nothing was written */
+};
 
-/* Makes a fresh store in a slice of fitting length and gives 0; else gives 1 and writes nothing. */
+/* Kinds of step, with the fields that each one names; the others must be 0. The value is 0 unless one is given. */
+enum show_step {
+    SHOW_STEP_NEW = 1,      /* player, a, b, c: register a gets an object of b granules and c links; value: its granule */
+    SHOW_STEP_LOAD = 2,     /* player, a, b, c: register a gets link c of the object in register b; value: that link */
+    SHOW_STEP_STORE = 3,    /* player, a, b, c: link b of the object in register a gets register c; then the player owes a barrier */
+    SHOW_STEP_BARRIER = 4,  /* player: pays for the store; till then the player can do nothing else */
+    SHOW_STEP_HAND = 5,     /* player, a, b, c: register c of player b gets a copy of own register a */
+    SHOW_STEP_DROP = 6,     /* player, a: register a becomes nil */
+    SHOW_STEP_READ = 7,     /* player, a, b: value: level word b of the object in register a */
+    SHOW_STEP_WRITE = 8,    /* player, a, b, c: c goes into level word b of the object in register a */
+    SHOW_STEP_BEGIN = 9,    /* no field: a cycle begins */
+    SHOW_STEP_SCAN = 10,    /* tracer, a: marks what the registers of player a hold; once a cycle for each player */
+    SHOW_STEP_TRACE = 11,   /* tracer: a little marking */
+    SHOW_STEP_CLEAN = 12,   /* tracer: a little marking on cards that barriers have turned dirty */
+    SHOW_STEP_FINISH = 13,  /* no field: marks the rest, frees what nothing holds, ends the cycle; value: granules freed */
+    SHOW_STEP_DUE = 14      /* a: value: 1 if fewer than a granules are free, else 0 */
+};
+
+/* Numbers of an answer: why a step was refused. The lowest that applies is given. A refused step has value 0 and alters nothing. */
+enum show_number {
+    SHOW_NUMBER_ACCEPTED = 0,       /* the step was done */
+    SHOW_NUMBER_UNKNOWN = 3,        /* no such kind, or a field that the kind does not name is not 0 */
+    SHOW_NUMBER_OFF_THE_DESK = 4,   /* no such player, register or tracer */
+    SHOW_NUMBER_OWING = 5,          /* the player owes a barrier, or the player who would be handed something does */
+    SHOW_NUMBER_NO_OBJECT = 6,      /* the register of the object is nil */
+    SHOW_NUMBER_PAST_THE_END = 7,   /* the object has no such link or level word */
+    SHOW_NUMBER_BAD_SIZE = 8,       /* new: no granule, more than 1,024, or more links than 4 * b - 2 */
+    SHOW_NUMBER_NO_ROOM = 9,        /* new: no b free granules side by side */
+    SHOW_NUMBER_WRONG_PHASE = 10,   /* begin in a cycle; scan, trace, clean or finish outside one */
+    SHOW_NUMBER_NOTHING_TO_DO = 11  /* no barrier owed, player scanned already, or nothing left to trace or to clean */
+};
+
+/* Writes one step into the 8 bytes at `record`: the kind, the player or tracer, then a, b and c, low byte first. A field that the kind
+ * does not name is 0. */
+static inline void show_store_record(uint8_t *record, enum show_step kind, uint8_t who, uint16_t a, uint16_t b, uint16_t c)
+{
+    record[0] = (uint8_t)kind;
+    record[1] = who;
+    record[2] = (uint8_t)(a & 0xff);
+    record[3] = (uint8_t)(a >> 8);
+    record[4] = (uint8_t)(b & 0xff);
+    record[5] = (uint8_t)(b >> 8);
+    record[6] = (uint8_t)(c & 0xff);
+    record[7] = (uint8_t)(c >> 8);
+}
+
+/* Makes a fresh store in a slice of fitting length and returns SHOW_STORE_OK; else returns SHOW_STORE_MISFIT and writes nothing. */
 uint16_t fresh(uint16_t *image, size_t words);
 
-/* Gives 0 if the image is undamaged, 1 if its length fits no store, 2 if it is damaged; writes nothing. */
+/* Returns SHOW_STORE_OK if the image is undamaged, SHOW_STORE_MISFIT if its length fits no store, SHOW_STORE_DAMAGED if it is damaged;
+ * writes nothing. */
 uint16_t judge(const uint16_t *image, size_t words);
 
-/* Runs step records of 8 bytes (kind, player or tracer, then a, b, c of 16 bits each, low byte first) and fills two words a step
- * into the answer space: the step's number, 0 if accepted, and its value. Gives 0; or 1 if a length does not fit (the image's,
- * step bytes not a multiple of 8, answers not two words a step), or 2 if the image is damaged: then nothing is written. An
- * undamaged image is handed back undamaged. A refused step gets its number and the value 0 and alters nothing else. */
+/* Runs the step records one after the other and fills two words a step into the answer space: the step's number (enum show_number) and
+ * its value. Returns SHOW_STORE_OK; or SHOW_STORE_MISFIT if a length does not fit (the image's, step bytes not a multiple of 8, answers
+ * not two words a step), or SHOW_STORE_DAMAGED if the image is damaged: then nothing is written. An undamaged image is handed back
+ * undamaged. A refused step does not stop the batch. */
 uint16_t batch(uint16_t *image, size_t words, const uint8_t *steps, size_t bytes, uint16_t *answers, size_t answer_words);
 
 #ifdef __cplusplus

@@ -2,7 +2,6 @@
  * that a word read or written past them is reported. */
 #include <stdio.h>
 #include <stdlib.h>
-#include <string.h>
 
 #include "show_store.h"
 
@@ -18,7 +17,7 @@ static void expect(const char *what, unsigned long got, unsigned long wanted)
 
 static uint16_t *words_of(size_t n)
 {
-    uint16_t *words = malloc(n * sizeof *words);
+    uint16_t *words = (uint16_t *)malloc(n * sizeof *words);
     if (n != 0 && words == NULL)
         exit(2);
     for (size_t i = 0; i < n; i++)

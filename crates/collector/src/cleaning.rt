@@ -10,23 +10,12 @@ ghost use Rattle.image_laws.specs.Sized.{Sized};
 ghost use Rattle.image.specs.Layout.{width};
 ghost use Rattle.request_laws.specs.Answer.{asked};
 ghost use Rattle.request.specs.Answer.{doneOf};
-ghost use Rattle.tracers_laws.specs.Tracer.{tracerAt, withCard, withTracer};
+ghost use Rattle.tracers_laws.specs.Tracer.{tracerAt};
 ghost use Rattle.tracers.specs.Plain.{tracerOf};
 ghost use Rattle.collector_laws.specs.Outcome.{doneUnless};
 use image::layout::Word;
 use request::answer::Answer;
 use tracers::tracer::Tracer;
-
-// "the card is let go", its state as it is
-fn let_go(im: &mut [Word], k: usize, t: usize, x: Tracer)
-    requires { ⌜ Sized width k (now im) ⌝ }
-    requires { ⌜ t < 8 ⌝ }
-    requires { ⌜ (0 < x .card) × (x .card ≤ k) ⌝ }
-    ensures { λ _. ⌜ imageOf width k (now (im .exit)) ≡ withTracer (imageOf width k (now (im .entry))) t (withCard (tracerOf x) 0 0) ⌝ }
-{
-    let gone = x.with_card(0, 0);
-    tracers::tracer::write_tracer(im, k, t, gone);
-}
 
 // "the next marked object from its next granule goes in hand at link 0 (unless without links) and the next granule is the
 // one after its start; if none is left, the card is let go"
@@ -36,16 +25,16 @@ fn clean_card(im: &mut [Word], k: usize, t: usize, x: Tracer)
     requires { ⌜ (t < 8) × (tracerOf x ≡ tracerAt (imageOf width k (now im)) t) × (0 < x .card) ⌝ }
     ensures { λ _. ⌜ imageOf width k (now (im .exit)) ≡ cleanCard (imageOf width k (now (im .entry))) t ⌝ }
 {
-    let c = x.card;
-    let g = tracers::marks::next_marked(im, k, x.granule as usize, c as usize);
+    let g = tracers::marks::next_marked(im, k, x.granule as usize, x.card as usize);
     if g == 0 {
-        let_go(im, k, t, x);
+        let gone = x.card_let_go();
+        tracers::tracer::write_tracer(im, k, t, gone);
         return;
     }
-    let object = g - 1;
-    let y = x.with_card(c, g as Word);
+    let object = (g - 1) as Word;
+    let y = x.granule_moves_on(object);
     tracers::tracer::write_tracer(im, k, t, y);
-    crate::hands::take_object(im, k, t, object as Word);
+    crate::hands::take_object(im, k, t, object);
 }
 
 // "the lowest card in state 1 becomes 2 and is in hand at its first granule"
@@ -56,7 +45,7 @@ fn take_card(im: &mut [Word], k: usize, t: usize, c: usize)
 {
     image::sections::set_card(im, k, c, 2);
     let x = tracers::tracer::read_tracer(im, k, t);
-    let y = x.with_card((c + 1) as Word, (64 * c) as Word);
+    let y = x.card_taken(c as Word);
     tracers::tracer::write_tracer(im, k, t, y);
 }
 

@@ -1,34 +1,22 @@
 // The object in a tracer's hand: "that link is reached, and after the last the hand is empty".
 ghost use mathlib.Core.Path.{_≡_};
 ghost use Prim.Native.Nat.{ℕ, suc, _+_, _*_, _≤_, _<_};
-ghost use Rattle.model.specs.Image.{imageOf, hand, links, link};
+ghost use Rattle.model.specs.Image.{imageOf, hand, nextLink, links, link};
 ghost use Rattle.model.specs.Collect.{reach, traceHand, takeObject};
 ghost use Rattle.theory.specs.Lines.{Lines, Start};
 ghost use Rattle.image_laws.specs.Sized.{Sized};
 ghost use Rattle.image.specs.Layout.{width};
-ghost use Rattle.collector_laws.specs.Hands.{afterLink, advanced};
-ghost use Rattle.tracers.specs.Plain.{tracerOf};
+ghost use Rattle.tracers_laws.specs.Tracer.{tracerAt, linkDone, withTracer};
 use image::layout::Word;
-use tracers::tracer::Tracer;
 
-// Link i of the n links of object g is done.
-fn after_link(x: Tracer, g: Word, i: Word, n: Word) -> Tracer
-    requires { ⌜ i < n ⌝ }
-    ensures { λ r. ⌜ tracerOf r ≡ afterLink (tracerOf x) g i n ⌝ }
-{
-    if i + 1 < n {
-        return x.with_hand(g, i + 1);
-    }
-    x.with_hand(0, 0)
-}
-
-fn advance(im: &mut [Word], k: usize, t: usize, g: Word, i: Word, n: Word)
+// The link was reached: the tracer's next state is written.
+fn advance(im: &mut [Word], k: usize, t: usize, n: Word)
     requires { ⌜ Sized width k (now im) ⌝ }
-    requires { ⌜ (t < 8) × (i < n) ⌝ }
-    ensures { λ _. ⌜ imageOf width k (now (im .exit)) ≡ advanced (imageOf width k (now (im .entry))) t g i n ⌝ }
+    requires { ⌜ (t < 8) × (nextLink (imageOf width k (now im)) t < n) ⌝ }
+    ensures { λ _. ⌜ imageOf width k (now (im .exit)) ≡ withTracer (imageOf width k (now (im .entry))) t (linkDone (tracerAt (imageOf width k (now (im .entry))) t) n) ⌝ }
 {
     let x = tracers::tracer::read_tracer(im, k, t);
-    let y = after_link(x, g, i, n);
+    let y = x.link_done(n);
     tracers::tracer::write_tracer(im, k, t, y);
 }
 
@@ -50,11 +38,9 @@ pub fn trace_hand(im: &mut [Word], k: usize, t: usize)
     ensures { λ _. ⌜ imageOf width k (now (im .exit)) ≡ traceHand (imageOf width k (now (im .entry))) t ⌝ }
 {
     let x = tracers::tracer::read_tracer(im, k, t);
-    let g = x.hand;
-    let i = x.link;
-    let n = image::sections::word(im, k, g as usize, 1);
-    reach_link(im, k, t, g as usize, i as usize);
-    advance(im, k, t, g, i, n);
+    let n = image::sections::word(im, k, x.hand as usize, 1);
+    reach_link(im, k, t, x.hand as usize, x.link as usize);
+    advance(im, k, t, n);
 }
 
 // "it goes in hand at link 0, unless .. it has no links"
@@ -67,6 +53,6 @@ pub fn take_object(im: &mut [Word], k: usize, t: usize, g: Word)
         return;
     }
     let x = tracers::tracer::read_tracer(im, k, t);
-    let y = x.with_hand(g, 0);
+    let y = x.object_in_hand(g);
     tracers::tracer::write_tracer(im, k, t, y);
 }

@@ -1,26 +1,41 @@
 // Reach, by a tracer: "nil or marked, nothing. Else the object is marked and appended to the output packet."
 ghost use mathlib.Core.Path.{_≡_};
 ghost use Prim.Native.Nat.{ℕ, _+_, _*_, _≤_, _<_};
-ghost use Rattle.model.specs.Image.{imageOf};
-ghost use Rattle.model.specs.Collect.{takeOutput, enter, reach};
+ghost use Rattle.model.specs.Image.{imageOf, setTracer};
+ghost use Rattle.model.specs.Collect.{emptiest, takeOutput, enter, reach};
 ghost use Rattle.theory.specs.Lines.{Lines, NilOr, Start};
 ghost use Rattle.image_laws.specs.Sized.{Sized};
 ghost use Rattle.image.specs.Layout.{width};
+ghost use Rattle.tracers_laws.specs.Tracer.{tracerAt};
+ghost use Rattle.tracers.specs.Plain.{tracerOf};
 ghost use Rattle.collector_laws.specs.Pool.{Spare};
 use image::layout::Word;
+use tracers::tracer::Tracer;
 
-// "A full or absent output packet first goes back and the pool packet .. is taken."
+// "first goes back and the pool packet .. is taken. If there is none, no packet is held as output"
+fn change_output(im: &mut [Word], k: usize, t: usize, x: Tracer)
+    requires { ⌜ Sized width k (now im) ⌝ }
+    requires { ⌜ Lines (imageOf width k (now im)) ⌝ }
+    requires { ⌜ (t < 8) × (tracerOf x ≡ tracerAt (imageOf width k (now im)) t) ⌝ }
+    ensures { λ _. ⌜ imageOf width k (now (im .exit)) ≡ setTracer (imageOf width k (now (im .entry))) t 1 (emptiest (setTracer (imageOf width k (now (im .entry))) t 1 0)) ⌝ }
+{
+    let y = x.output_goes_back();
+    tracers::tracer::write_tracer(im, k, t, y);
+    let p = crate::pool::emptiest(im, k);
+    let z = y.output_taken(p as Word);
+    tracers::tracer::write_tracer(im, k, t, z);
+}
+
+// A full or absent output packet is changed.
 pub fn take_output(im: &mut [Word], k: usize, t: usize)
     requires { ⌜ Sized width k (now im) ⌝ }
     requires { ⌜ Lines (imageOf width k (now im)) ⌝ }
     requires { ⌜ t < 8 ⌝ }
     ensures { λ _. ⌜ imageOf width k (now (im .exit)) ≡ takeOutput (imageOf width k (now (im .entry))) t ⌝ }
 {
-    let x = image::sections::tracer_word(im, k, 8 * t + 1) as usize;
-    if crate::pool::lacks_space(im, k, x) {
-        image::sections::set_tracer(im, k, t, 1, 0);
-        let e = crate::pool::emptiest(im, k) as Word;
-        image::sections::set_tracer(im, k, t, 1, e);
+    let x = tracers::tracer::read_tracer(im, k, t);
+    if crate::pool::lacks_space(im, k, x.output as usize) {
+        change_output(im, k, t, x);
     }
 }
 

@@ -43,14 +43,12 @@ fn trace_packets(im: &mut [Word], k: usize, t: usize, x: Tracer) -> Answer
 {
     let f = crate::pool::fullest(im, k);
     if f != 0 {
-        let y = x.with_input(f as Word);
+        let y = x.packet_becomes_input(f as Word);
         tracers::tracer::write_tracer(im, k, t, y);
         return Answer::Done(0);
     }
-    let o = x.output;
-    if crate::pool::has_entries(im, k, o as usize) {
-        let y = x.with_input(o);
-        let z = y.with_output(0);
+    if crate::pool::has_entries(im, k, x.output as usize) {
+        let z = x.output_becomes_input();
         tracers::tracer::write_tracer(im, k, t, z);
         return Answer::Done(0);
     }

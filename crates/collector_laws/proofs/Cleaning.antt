@@ -3,7 +3,6 @@ use mathlib.Core.Path.{_≡_, refl, sym, ap, ap₂, _∙_}
 use mathlib.Core.Bool.{Bool, true, false}
 use mathlib.Core.List.{List, [], _∷_}
 use Prim.Native.Nat.{ℕ, zero, suc, _+_, _*_, _-_, _≤_, _<_}
-use native.Mathlib.Numerals.{add-one}
 use native.Mathlib.Omega.{arith}
 use lib.Dec.{eqb}
 use lib.ListN.{getD}
@@ -16,8 +15,8 @@ use Rattle.theory.specs.Lines.{CardInHand, Lines}
 use Rattle.theory.proofs.steps.Cleaning.{card-in-hand}
 use Rattle.request_laws.specs.Answer.{done}
 use Rattle.image_laws.specs.Sized.{Sized}
-use Rattle.tracers_laws.specs.Tracer.{Tracer, tracerAt, withCard, withTracer}
-use Rattle.tracers_laws.proofs.Tracer.{tracers-long, card-written}
+use Rattle.tracers_laws.specs.Tracer.{Tracer, tracerAt, cardTaken, granuleMovesOn, cardLetGo, withTracer}
+use Rattle.tracers_laws.proofs.Tracer.{tracers-long, card-taken-written, granule-written, let-go-written}
 use Rattle.collector_laws.specs.Outcome.{doneUnless}
 use Rattle.collector_laws.proofs.Tracing.{read-hand}
 use Rattle.model.specs.Examples.{at}
@@ -44,7 +43,7 @@ next-below m (suc d) g = go (next-below m d (suc g)) (marked m g)
     go h true = omega arith
     go h false = omega arith
 
-to-object : (m : Image) (t g : ℕ) → (g ≡ 0 → ⊥) → takeObject (putCard m t (handCard m t) g) t (g - 1) ≡ cleanTo m t g
+to-object : (m : Image) (t g : ℕ) → (g ≡ 0 → ⊥) → takeObject (putCard m t (handCard m t) (suc (g - 1))) t (g - 1) ≡ cleanTo m t g
 unfolding cleanTo
 to-object m t zero z = absurd (z refl)
 to-object m t (suc g) z = let p : suc g - 1 ≡ g = omega arith in rw p
@@ -79,15 +78,12 @@ module _ (w k : ℕ) (ws : List ℕ) (o : Lines (imageOf w k ws)) (t : ℕ) (h :
     unfolding cleanCard
     cleaned = rw (← read-card (imageOf w k ws) t x e, ← read-granule (imageOf w k ws) t x e, ← f)
 
-    pub card-let-go : g ≡ 0 → (n : Image) → n ≡ withTracer (imageOf w k ws) t (withCard x 0 0) → n ≡ cleanCard (imageOf w k ws) t
+    pub card-let-go : g ≡ 0 → (y : Tracer) (n : Image) → y ≡ cardLetGo x → n ≡ withTracer (imageOf w k ws) t y → n ≡ cleanCard (imageOf w k ws) t
     unfolding cleanTo
-    card-let-go q n s = s ∙ (rw e (card-written (imageOf w k ws) t h (o .tracers-ok .sized) 0 0) ∙ rw q at cleaned)
+    card-let-go q y n r s = s ∙ (rw (r, e) (let-go-written (imageOf w k ws) t h (o .tracers-ok .sized)) ∙ rw q at cleaned)
 
-    pub card-object : (g ≡ 0 → ⊥) → (y : Tracer) (n n′ : Image) → y ≡ withCard x (x .card) g → n ≡ withTracer (imageOf w k ws) t y → n′ ≡ takeObject n t (g - 1) → n′ ≡ cleanCard (imageOf w k ws) t
-    card-object u y n n′ r s i =
-        let b : y ≡ withCard (tracerAt (imageOf w k ws) t) (handCard (imageOf w k ws) t) g = r ∙ ap₂ (λ (v : Tracer) (c : ℕ). withCard v c g) e (read-card (imageOf w k ws) t x e) in
-        let a : n ≡ putCard (imageOf w k ws) t (handCard (imageOf w k ws) t) g = s ∙ rw b (card-written (imageOf w k ws) t h (o .tracers-ok .sized) (handCard (imageOf w k ws) t) g) in
-        i ∙ (rw a (to-object (imageOf w k ws) t g u) ∙ cleaned)
+    pub card-object : (g ≡ 0 → ⊥) → (y : Tracer) (n n′ : Image) → y ≡ granuleMovesOn x (g - 1) → n ≡ withTracer (imageOf w k ws) t y → n′ ≡ takeObject n t (g - 1) → n′ ≡ cleanCard (imageOf w k ws) t
+    card-object u y n n′ r s i = i ∙ (rw (s, r, e, granule-written (imageOf w k ws) t h (o .tracers-ok .sized) (g - 1)) (to-object (imageOf w k ws) t g u) ∙ cleaned)
 
 -- ---- a card taken
 
@@ -96,9 +92,9 @@ unfolding lowestDirty lowest imageOf image
 dirty-in w k ws zero e z = absurd (z refl)
 dirty-in w k ws (suc c) e z = let r = best-ok _ _ k c (sym e) .0 in omega arith
 
-pub card-taken : (w k : ℕ) (ws : List ℕ) → Sized w k ws → (t c : ℕ) → t < 8 → (n₁ n₂ : Image) (x y : Tracer) → n₁ ≡ setState (imageOf w k ws) c 2 → x ≡ tracerAt n₁ t → y ≡ withCard x (c + 1) (64 * c) → n₂ ≡ withTracer n₁ t y → n₂ ≡ takeCard (imageOf w k ws) t c
+pub card-taken : (w k : ℕ) (ws : List ℕ) → Sized w k ws → (t c : ℕ) → t < 8 → (n₁ n₂ : Image) (x y : Tracer) → n₁ ≡ setState (imageOf w k ws) c 2 → x ≡ tracerAt n₁ t → y ≡ cardTaken x c → n₂ ≡ withTracer n₁ t y → n₂ ≡ takeCard (imageOf w k ws) t c
 unfolding takeCard setState withCards
-card-taken w k ws z t c h n₁ n₂ x y f e q r = r ∙ rw (q, e, f, add-one c) (card-written (setState (imageOf w k ws) c 2) t h (tracers-long z) (suc c) (64 * c))
+card-taken w k ws z t c h n₁ n₂ x y f e q r = r ∙ rw (q, e, f) (card-taken-written (setState (imageOf w k ws) c 2) t h (tracers-long z) c)
 
 -- ---- the lines
 

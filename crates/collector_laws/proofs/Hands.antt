@@ -7,40 +7,18 @@ use native.Mathlib.Numerals.{add-one}
 use native.Mathlib.Omega.{arith}
 use lib.Dec.{ltb}
 use borrow.Author.Tests.{lt-ltb, le-ltb, eq-eqb, ne-eqb}
-use Rattle.model.specs.Image.{Image, imageOf, image, granules, isStart, marked, word, links, link, hand}
+use Rattle.model.specs.Image.{Image, imageOf, image, granules, isStart, marked, word, links, link, hand, nextLink}
 use Rattle.model.specs.Collect.{putHand, reach, traceHand, takeObject}
 use Rattle.theory.specs.Heap.{ObjectAt}
 use Rattle.theory.specs.Lines.{NilOr, Start, Lines}
 use Rattle.theory.proofs.heap.Walk.{object-at}
 use Rattle.theory.proofs.heap.Facts.{heap-filled-of, link-value}
+use Rattle.theory.proofs.steps.Reaching.{ReachedOnce, reach-does}
 use Rattle.theory.proofs.steps.Tracing.{in-hand-ok}
 use Rattle.image_laws.specs.Sized.{Sized}
-use Rattle.tracers_laws.specs.Tracer.{Tracer, tracerAt, withHand, withTracer}
-use Rattle.tracers_laws.proofs.Tracer.{tracers-long, hand-written}
-use Rattle.collector_laws.specs.Hands.{afterLink, advanced}
+use Rattle.tracers_laws.specs.Tracer.{Tracer, tracerAt, linkDone, objectInHand, withTracer}
+use Rattle.tracers_laws.proofs.Tracer.{tracers-long, link-done-written, object-written}
 use lib.ListN.{length}
-
--- ---- the hand moved on
-
-module _ (x y : Tracer) (g i n : ℕ) where
-  pub link-next : i + 1 < n → y ≡ withHand x g (i + 1) → y ≡ afterLink x g i n
-  unfolding afterLink
-  link-next h e = e ∙ rw (add-one i, lt-ltb (suc i) n (omega arith))
-
-  pub link-last : n ≤ i + 1 → y ≡ withHand x 0 0 → y ≡ afterLink x g i n
-  unfolding afterLink
-  link-last h e = e ∙ rw (le-ltb (suc i) n (omega arith))
-
-pub moved-on : (w k : ℕ) (ws : List ℕ) → Sized w k ws → (t g i n : ℕ) → t < 8 → (x y : Tracer) (m : Image) → x ≡ tracerAt (imageOf w k ws) t → y ≡ afterLink x g i n → m ≡ withTracer (imageOf w k ws) t y → m ≡ advanced (imageOf w k ws) t g i n
-unfolding afterLink advanced
-moved-on w k ws z t g i n h x y m e f q = q ∙ rw (f, e) (go (ltb (suc i) n))
-  where
-    l : length (imageOf w k ws .tracers) ≡ 64
-    l = tracers-long z
-
-    go : (b : Bool) → withTracer (imageOf w k ws) t (cond b (withHand (tracerAt (imageOf w k ws) t) g (suc i)) (withHand (tracerAt (imageOf w k ws) t) 0 0)) ≡ cond b (putHand (imageOf w k ws) t g (suc i)) (putHand (imageOf w k ws) t 0 0)
-    go true = hand-written (imageOf w k ws) t h l g (suc i)
-    go false = hand-written (imageOf w k ws) t h l 0 0
 
 -- ---- a link of an object
 
@@ -81,13 +59,35 @@ module _ (w k : ℕ) (ws : List ℕ) (o : Lines (imageOf w k ws)) (t : ℕ) (h :
       pub hand-link : i < links (imageOf w k ws) g
       hand-link = rw (b, a) next-in-hand
 
-      pub hand-next : (n : ℕ) → n ≡ word (imageOf w k ws) g 1 → i < n
-      unfolding links
-      hand-next n f = rw f hand-link
+  -- its link reached, which leaves hand and next link
+  module _ (n₁ : Image) (r : n₁ ≡ reach (imageOf w k ws) t (link (imageOf w k ws) (x .hand) (x .link))) (n : ℕ) (f : n ≡ word (imageOf w k ws) (x .hand) 1) where
+    reached : ReachedOnce (imageOf w k ws) (link (imageOf w k ws) (x .hand) (x .link)) n₁
+    unfolding tracerAt
+    reached = rw r (reach-does (imageOf w k ws) o t (link (imageOf w k ws) (x .hand) (x .link)) h (rw e (in-hand-ok (imageOf w k ws) o t h (λ z. omega arith) .2)))
 
-pub hand-traced : (m n₁ n₂ : Image) (t n : ℕ) (x : Tracer) → x ≡ tracerAt m t → n ≡ word m (x .hand) 1 → n₁ ≡ reach m t (link m (x .hand) (x .link)) → n₂ ≡ advanced n₁ t (x .hand) (x .link) n → n₂ ≡ traceHand m t
-unfolding traceHand advanced tracerAt links
-hand-traced m n₁ n₂ t n x e f g h = rw (h, g, f, e)
+    hand-same : hand n₁ t ≡ hand (imageOf w k ws) t
+    unfolding hand
+    hand-same = reached .tracer-same t 2 (omega arith) (omega arith)
+
+    link-same : nextLink n₁ t ≡ nextLink (imageOf w k ws) t
+    unfolding nextLink
+    link-same = reached .tracer-same t 3 (omega arith) (omega arith)
+
+    pub hand-next : nextLink n₁ t < n
+    unfolding tracerAt links
+    hand-next = rw (link-same, f, e) (rw e at next-in-hand)
+
+    pub hand-traced : (n₂ : Image) → n₂ ≡ withTracer n₁ t (linkDone (tracerAt n₁ t) n) → n₂ ≡ traceHand (imageOf w k ws) t
+    unfolding traceHand tracerAt links
+    hand-traced n₂ b = b ∙ (link-done-written n₁ t h (reached .lines .tracers-ok .sized) n ∙ rw (hand-same, link-same, f, r, e))
+
+-- a tracer read, moved on and written
+pub moved-on : (m n : Image) (t c : ℕ) (x y : Tracer) → x ≡ tracerAt m t → y ≡ linkDone x c → n ≡ withTracer m t y → n ≡ withTracer m t (linkDone (tracerAt m t) c)
+moved-on m n t c x y e q r = r ∙ rw (q, e)
+
+pub read-link : (m : Image) (t c : ℕ) (x : Tracer) → x ≡ tracerAt m t → nextLink m t < c → x .link < c
+unfolding tracerAt
+read-link m t c x e h = rw e h
 
 -- ---- an object put in hand
 
@@ -96,9 +96,9 @@ module _ (w k : ℕ) (ws : List ℕ) (t g n : ℕ) (f : n ≡ links (imageOf w k
   unfolding takeObject
   hand-unlinked z = rw (eq-eqb (links (imageOf w k ws) g) 0 (sym f ∙ z))
 
-  pub hand-taken : (n ≡ 0 → ⊥) → Sized w k ws → t < 8 → (x y : Tracer) (m : Image) → x ≡ tracerAt (imageOf w k ws) t → y ≡ withHand x g 0 → m ≡ withTracer (imageOf w k ws) t y → m ≡ takeObject (imageOf w k ws) t g
+  pub hand-taken : (n ≡ 0 → ⊥) → Sized w k ws → t < 8 → (x y : Tracer) (m : Image) → x ≡ tracerAt (imageOf w k ws) t → y ≡ objectInHand x g → m ≡ withTracer (imageOf w k ws) t y → m ≡ takeObject (imageOf w k ws) t g
   unfolding takeObject
-  hand-taken z s h x y m e y-is i = i ∙ rw (y-is, e, ne-eqb (links (imageOf w k ws) g) 0 (λ q. z (f ∙ q))) (hand-written (imageOf w k ws) t h (tracers-long s) g 0)
+  hand-taken z s h x y m e y-is i = i ∙ rw (y-is, e, ne-eqb (links (imageOf w k ws) g) 0 (λ q. z (f ∙ q))) (object-written (imageOf w k ws) t h (tracers-long s) g)
 
 pub link-reached : (m n : Image) (t g i a : ℕ) → a ≡ word m g (2 + i) → n ≡ reach m t a → n ≡ reach m t (link m g i)
 unfolding link

@@ -5,7 +5,7 @@ use mathlib.Core.Bool.{Bool, true, false}
 use mathlib.Core.List.{List}
 use Prim.Native.Nat.{ℕ, zero, suc, _+_, _*_, _-_, _/_, _≤_, _<_}
 use native.Mathlib.Omega.{arith}
-use lib.Seq.{set-set, set-getD}
+use lib.Seq.{set-getD}
 use borrow.Author.Tests.{eq-eqb, ne-eqb}
 use Rattle.model.specs.Base.{nth, put, some}
 use Rattle.model.specs.Image.{Image, imageOf, image, marked, count, output, withTracers, setMark, dirtyCard, setTracer}
@@ -15,7 +15,10 @@ use Rattle.theory.specs.Lines.{HeldOk, NilOr, Start, Lines}
 use Rattle.theory.proofs.lines.Sections.{hold-ok}
 use Rattle.theory.proofs.steps.Reaching.{mark-lines, take-lines, took}
 use Rattle.tracers_laws.specs.Packet.{Tidy}
+use Rattle.tracers_laws.specs.Tracer.{Tracer, tracerAt, outputGoesBack, outputTaken, withTracer}
+use Rattle.tracers_laws.proofs.Tracer.{written-again, output-back-written, output-taken-written}
 use Rattle.collector_laws.specs.Pool.{lacksSpace, Spare}
+use Rattle.collector_laws.proofs.Tracing.{read-output}
 
 -- ---- the output packet
 
@@ -24,23 +27,32 @@ unfolding emptiest
 emptiest-few m zero e = omega arith
 emptiest-few m (suc p) e = best-ok _ _ 32 p (sym e) .0
 
-module _ (m : Image) (t : ℕ) where
-  pub back-places : Lines m → t < 8 → (n : Image) → n ≡ setTracer m t 1 0 → HeldOk (n .tracers)
-  unfolding setTracer withTracers
-  back-places o h n e = rw e (hold-ok (o .tracers-ok) t h 1 0 (omega arith) (omega arith) (λ u j p hu hj x y. absurd (omega arith)) .places)
+module _ (m : Image) (t : ℕ) (x : Tracer) (e : x ≡ tracerAt m t) (o : Lines m) (h : t < 8) where
+  module _ (y : Tracer) (q : y ≡ outputGoesBack x) (n₁ : Image) (r : n₁ ≡ withTracer m t y) where
+    gone-back : n₁ ≡ setTracer m t 1 0
+    gone-back = r ∙ rw (q, e) (output-back-written m t h (o .tracers-ok .sized))
 
-  module _ (x : ℕ) (f : x ≡ nth (m .tracers) (8 * t + 1)) (b : Bool) (e : b ≡ lacksSpace m x) where
-    pub take-new : b ≡ true → (n₁ n₂ : Image) (y : ℕ) → n₁ ≡ setTracer m t 1 0 → y ≡ emptiest n₁ → n₂ ≡ setTracer n₁ t 1 y → n₂ ≡ takeOutput m t
-    unfolding takeOutput noOutput lacksSpace output setTracer withTracers put
-    take-new q n₁ n₂ y g h i =
-        let s : lacksSpace m (output m t) ≡ true = ap (lacksSpace m) (sym f) ∙ (sym e ∙ q) in
-        rw (s, i, h, g) (ap (withTracers m) (set-set (m .tracers) (8 * t + 1) 0 (emptiest (setTracer m t 1 0))))
+    pub back-places : HeldOk (n₁ .tracers)
+    unfolding setTracer withTracers
+    back-places = rw gone-back (hold-ok (o .tracers-ok) t h 1 0 (omega arith) (omega arith) (λ u j p hu hj x y. absurd (omega arith)) .places)
+
+    pub output-changed : (p : ℕ) → p ≡ emptiest n₁ → (z : Tracer) → z ≡ outputTaken y p → (n₂ : Image) → n₂ ≡ withTracer n₁ t z → n₂ ≡ setTracer m t 1 (emptiest (setTracer m t 1 0))
+    unfolding outputGoesBack outputTaken
+    output-changed p u z v n₂ w =
+        let i : n₂ ≡ withTracer m t (outputTaken (tracerAt m t) p) = w ∙ rw (r, v, q, e) (written-again m t h (o .tracers-ok .sized) _ _) in
+        i ∙ (output-taken-written m t h (o .tracers-ok .sized) p ∙ rw (← gone-back, u))
+
+  module _ (b : Bool) (a : b ≡ lacksSpace m (x .output)) where
+    same-space : lacksSpace m (output m t) ≡ b
+    same-space = ap (lacksSpace m) (sym (read-output m t x e)) ∙ sym a
+
+    pub take-new : b ≡ true → (n : Image) → n ≡ setTracer m t 1 (emptiest (setTracer m t 1 0)) → n ≡ takeOutput m t
+    unfolding takeOutput noOutput lacksSpace
+    take-new q n r = r ∙ rw (same-space, q)
 
     pub take-same : b ≡ false → m ≡ takeOutput m t
     unfolding takeOutput noOutput lacksSpace output setTracer withTracers put nth
-    take-same q =
-        let s : lacksSpace m (output m t) ≡ false = ap (lacksSpace m) (sym f) ∙ (sym e ∙ q) in
-        rw s (ap (withTracers m) (sym (set-getD (m .tracers) (8 * t + 1) 0)))
+    take-same q = rw (same-space, q) (ap (withTracers m) (sym (set-getD (m .tracers) (8 * t + 1) 0)))
 
 -- ---- an object entered
 

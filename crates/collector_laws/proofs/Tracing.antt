@@ -1,5 +1,5 @@
 -- The lines of trace, each way out as the code finds it.
-use mathlib.Core.Path.{_≡_, sym, ap, ap₂, _∙_}
+use mathlib.Core.Path.{_≡_, sym, ap, _∙_}
 use mathlib.Core.Bool.{Bool, true, false}
 use mathlib.Core.List.{List, [], _∷_}
 use Prim.Native.Nat.{ℕ, zero, suc, _*_, _-_, _/_, _≤_, _<_}
@@ -14,8 +14,8 @@ use Rattle.model.proofs.Laws.{best-ok, every-use}
 use Rattle.theory.specs.Lines.{Lines}
 use Rattle.request_laws.specs.Answer.{done}
 use Rattle.tracers_laws.specs.Packet.{Tidy, LastOff}
-use Rattle.tracers_laws.specs.Tracer.{Tracer, tracerAt, withInput, withOutput, withTracer}
-use Rattle.tracers_laws.proofs.Tracer.{input-written, input-output-written}
+use Rattle.tracers_laws.specs.Tracer.{Tracer, tracerAt, packetBecomesInput, outputBecomesInput, withTracer}
+use Rattle.tracers_laws.proofs.Tracer.{input-written, output-input-written}
 use Rattle.collector_laws.specs.Outcome.{doneUnless}
 use Rattle.collector_laws.proofs.Pool.{input-few, output-few}
 
@@ -128,17 +128,14 @@ module _ (m : Image) (t : ℕ) where
         no-input : hasEntries m (input m t) ≡ false
         no-input = rw (← read-input m t x e) i
 
-        pub trace-pool-line : (f ≡ 0 → ⊥) → Lines m → t < 8 → (y : Tracer) (n : Image) → y ≡ withInput x f → n ≡ withTracer m t y → done 0 0 n ≡ doneUnless (eqb (traceLine m t) 0) m (traceStep m t)
+        pub trace-pool-line : (f ≡ 0 → ⊥) → Lines m → t < 8 → (y : Tracer) (n : Image) → y ≡ packetBecomesInput x f → n ≡ withTracer m t y → done 0 0 n ≡ doneUnless (eqb (traceLine m t) 0) m (traceStep m t)
         unfolding traceLine first tracePool
         trace-pool-line u o h y n q r = by-line 2 n (rw (empty, no-input, ← g, ne-eqb f 0 u)) (r ∙ rw (q, e, ← g) (input-written m t h (o .tracers-ok .sized) f))
 
         module _ (u : f ≡ 0) (b : Bool) (w : b ≡ hasEntries m (x .output)) where
-          swapped : (y y′ : Tracer) → y ≡ withInput x (x .output) → y′ ≡ withOutput y 0 → y′ ≡ withOutput (withInput (tracerAt m t) (output m t)) 0
-          swapped y y′ q q′ = q′ ∙ ap (λ (z : Tracer). withOutput z 0) (q ∙ ap₂ withInput e (read-output m t x e))
-
-          pub trace-output-line : b ≡ true → Lines m → t < 8 → (y y′ : Tracer) (n : Image) → y ≡ withInput x (x .output) → y′ ≡ withOutput y 0 → n ≡ withTracer m t y′ → done 0 0 n ≡ doneUnless (eqb (traceLine m t) 0) m (traceStep m t)
+          pub trace-output-line : b ≡ true → Lines m → t < 8 → (y : Tracer) (n : Image) → y ≡ outputBecomesInput x → n ≡ withTracer m t y → done 0 0 n ≡ doneUnless (eqb (traceLine m t) 0) m (traceStep m t)
           unfolding traceLine first traceOutput
-          trace-output-line s o h y y′ n q q′ r = by-line 3 n (rw (empty, no-input, ← g, eq-eqb f 0 u, ← read-output m t x e, ← w, s)) (r ∙ rw (swapped y y′ q q′) (input-output-written m t h (o .tracers-ok .sized) (output m t) 0))
+          trace-output-line s o h y n q r = by-line 3 n (rw (empty, no-input, ← g, eq-eqb f 0 u, ← read-output m t x e, ← w, s)) (r ∙ rw (q, e) (output-input-written m t h (o .tracers-ok .sized)))
 
           pub trace-no-line : b ≡ false → done 11 0 m ≡ doneUnless (eqb (traceLine m t) 0) m (traceStep m t)
           unfolding doneUnless traceLine first

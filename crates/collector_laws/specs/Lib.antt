@@ -1,3 +1,2 @@
 pub mod Pool
-pub mod Hands
 pub mod Outcome

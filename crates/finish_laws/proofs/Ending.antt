@@ -13,7 +13,6 @@ use Rattle.theory.proofs.finish.Replaced.{off-length, off-owed}
 use native.Mathlib.Numerals.{add-one}
 use Rattle.model.specs.Image.{Image, withStarts, withMarks, withPackets, withTracers, withPlayers, withGeneral}
 use Rattle.finish_laws.specs.Ending.{copied, StartsKept, scannedOffTo, ended}
-use Rattle.finish_laws.proofs.gaps.Pieces.{from}
 use Rattle.image_laws.proofs.Words.{nth-ext}
 
 -- ---- copies

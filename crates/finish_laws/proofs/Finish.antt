@@ -23,7 +23,8 @@ use Rattle.finish_laws.specs.Freed.{goes, freedBelow}
 use Rattle.finish_laws.specs.Gaps.{sweptAll}
 use Rattle.finish_laws.proofs.Ending.{off-to-all}
 use Rattle.finish_laws.proofs.Freed.{freed-counted, freed-small}
-use Rattle.finish_laws.proofs.gaps.Pieces.{withSweep, swept-all}
+use Rattle.finish_laws.proofs.gaps.Pieces.{swept-all}
+use Rattle.finish_laws.proofs.gaps.Runs.{withSweep}
 use Rattle.image_laws.specs.Sized.{Sized}
 use Rattle.image_laws.proofs.Lengths.{width-image, cards-image, sized-width, starts-words, marks-words, cards-words}
 use Rattle.image_laws.proofs.Places.{granules-small}

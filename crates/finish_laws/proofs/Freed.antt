@@ -13,7 +13,7 @@ use Rattle.theory.proofs.heap.Lists.{length-run}
 use Rattle.theory.proofs.finish.Sweep.{not-kept, sweep-piece}
 use native.Mathlib.Numerals.{add-one}
 use Rattle.finish_laws.specs.Freed.{goes, freedBelow}
-use Rattle.finish_laws.proofs.gaps.Pieces.{words-behind, size-first}
+use Rattle.finish_laws.proofs.gaps.Runs.{words-behind, size-first}
 
 module _ (m : Image) where
   goes-none : (h : ℕ) → isStart m h ≡ false → goes m h ≡ 0

@@ -1,3 +1,4 @@
 -- The sweep.
-pub mod Code
+pub mod Runs
 pub mod Pieces
+pub mod Code

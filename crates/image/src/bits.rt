@@ -1,4 +1,4 @@
-// Start and mark bits, by shift and mask in 16-bit words.
+// Start and mark bits, by shift and mask in the words.
 ghost use mathlib.Core.Path.{_≡_};
 ghost use Prim.Native.Nat.{ℕ, _+_, _*_, _≤_, _<_};
 ghost use Rattle.model.specs.Base.{testBit, withBit};

@@ -64,6 +64,17 @@ pub fn zero_heap(im: &[Word], k: usize, a: usize, e: usize) -> bool
     zeros(&im[a..e])
 }
 
+// words a to e - 1 of the packets
+pub fn zero_entries(im: &[Word], k: usize, a: usize, e: usize) -> bool
+    requires { ⌜ Sized width k (now im) ⌝ }
+    requires { ⌜ (a ≤ e) × (e ≤ 1024) ⌝ }
+    ensures { λ r. ⌜ r ≡ zeroes (take (e - a) (drop a (imageOf width k (now (im .entry)) .packets))) ⌝ }
+{
+    let b = PER_CARD * k + PACKETS + a;
+    let d = PER_CARD * k + PACKETS + e;
+    zeros(&im[b..d])
+}
+
 // the words of the last section behind its first two
 pub fn zero_spares(im: &[Word], k: usize) -> bool
     requires { ⌜ Sized width k (now im) ⌝ }

@@ -34,7 +34,7 @@ nth-in (x ∷ l) (suc c) h = suc-le-suc (nth-in l c h)
 
 -- ---- a word of n bits
 
-word-ext : (n x y : ℕ) → x < 2 ^ n → y < 2 ^ n → ((j : ℕ) → j < n → bitOf x j ≡ bitOf y j) → x ≡ y
+pub word-ext : (n x y : ℕ) → x < 2 ^ n → y < 2 ^ n → ((j : ℕ) → j < n → bitOf x j ≡ bitOf y j) → x ≡ y
 word-ext zero x y hx hy f = omega arith
 word-ext (suc n) x y hx hy f =
     let p = pow-suc 2 n in

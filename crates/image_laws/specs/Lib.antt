@@ -5,3 +5,4 @@ pub mod Clearing
 pub mod Fresh
 pub mod Parts
 pub mod Digits
+pub mod Result

@@ -4,3 +4,10 @@ pub enum Extent {
     Cards(usize),
     Misfit,
 }
+
+// What a call comes to.
+pub enum Verdict {
+    Accepted,
+    Misfit,
+    Damaged,
+}

@@ -8,14 +8,13 @@ use native.Mathlib.Decide.{ℕ-discrete}
 use native.Mathlib.Omega.{arith}
 use lib.Count.{trailingZeros}
 use lib.Dec.{leb, eqb}
-use lib.ListN.{length, set}
+use lib.ListN.{length}
 use borrow.Author.Tests.{eq-eqb, ne-eqb}
 use Rattle.model.specs.Base.{nth, all, any, every, some, implies, testBit, bit}
 use Rattle.model.specs.Image.{image, imageOf, word, marked, link, dirty, hand, nextLink, handCard, nextGranule, owed, Image, mostCards, links}
 use Rattle.model.specs.Undamaged.{linkToCome, granuleToCome, owedWith, covered, cover}
 use Rattle.model.proofs.Laws.{false≢, all-use, all-make}
 use Rattle.judge_laws.specs.Order.{handComes, cardComes, holds, owesHolding, plain, coming, late, objectCovered, Coverable}
-use Rattle.model.specs.Cases.{ok}
 use Rattle.image_laws.specs.Bits.{withoutBit}
 use Rattle.image_laws.specs.Sized.{Sized}
 use Rattle.image_laws.proofs.Bits.{bit-at, zero-bit}
@@ -28,8 +27,6 @@ use Rattle.soundness_laws.specs.Tests.{atWord, wordwise}
 use Rattle.soundness_laws.proofs.Checks.{all-pick}
 use Rattle.soundness_laws.proofs.Marks.{by-words}
 use mathlib.Core.Logic.{_⊎_, inl, inr}
-use lib.Pow.{high}
-use Rattle.model.specs.Examples.{at}
 use Rattle.image_laws.proofs.Lengths.{sized-width}
 
 -- ---- seven lines in another order

@@ -1,4 +1,4 @@
--- Demand 3 as one statement about a first image and a list of batches.
+-- Demand 3 of docs/DEMANDS.md as one statement about a first image and a list of batches.
 use mathlib.Core.Path.{_≡_}
 use mathlib.Core.Bool.{Bool, true, false, cond}
 use mathlib.Core.List.{List, [], _∷_, _++_, List·Memᴰ}
@@ -78,20 +78,20 @@ claim-open = 0
 -- ---- the claim
 
 pub record Claim (w : ℕ) (ws : List ℕ) (bs : List Lent) : Type 0 where
-  -- a. every image of the history is undamaged, and no batch answers 2
+  -- demand 3a: every image of the history is undamaged, and no batch answers 2
   pub all-undamaged : (e : Event) → List·Memᴰ e (history w ws bs) → (judgeAt w (words (e .got)) ≡ 0) × (judgeAt w (words (e .done .image)) ≡ 0)
   pub none-damaged : (r : ℕ) → List·Memᴰ r (results w ws bs) → r ≡ 2 → ⊥
-  -- b. a begin's number is 3 if an unnamed field is not 0, else 10 if a cycle runs, else 0; a finish's is 3, else 10 if none runs, else 0
+  -- demand 3b: a begin's number is 3 if an unnamed field is not 0, else 10 if a cycle runs, else 0; a finish's is 3, else 10 if none runs, else 0
   pub begin-number : (e : Event) → List·Memᴰ e (history w ws bs) → Is begin e
       → e .done .number ≡ cond (anyField (e .request)) 3 (cond (eqb (running (e .got)) 1) 10 0)
   pub finish-number : (e : Event) → List·Memᴰ e (history w ws bs) → Is finish e
       → e .done .number ≡ cond (anyField (e .request)) 3 (cond (eqb (running (e .got)) 0) 10 0)
-  -- c. what every accepted finish keeps
+  -- demand 3c: what every accepted finish keeps
   pub finishes : (e : Event) → List·Memᴰ e (history w ws bs) → Accepted finish e → Finishes (e .got) (e .done .image)
-  -- d. "the next finish after a begin frees all that nothing reached at that begin": it was there to be freed, and is gone
+  -- demand 3d: "the next finish after a begin frees all that nothing reached at that begin": it was there to be freed, and is gone
   pub frees-unreached : (b f : Event) (before mid behind : List Event) → history w ws bs ≡ before ++ (b ∷ (mid ++ (f ∷ behind)))
       → Accepted begin b → ((e : Event) → List·Memᴰ e mid → Accepted finish e → ⊥) → Accepted finish f
       → (g : ℕ) → isStart (b .got) g ≡ true → (Chain (b .got) g → ⊥)
       → (isStart (f .got) g ≡ true) × (isStart (f .done .image) g ≡ false)
-  -- e. "the players' answers are exactly those of a plain store that never frees"
+  -- demand 3e: "the players' answers are exactly those of a plain store that never frees"
   pub plain-answers : SameAnswers (parts w ws) (history w ws bs)

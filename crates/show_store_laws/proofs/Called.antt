@@ -5,19 +5,15 @@ use mathlib.Core.Logic.{⊎-elim}
 use Prim.Native.Nat.{ℕ, zero, suc}
 use Rattle.model.specs.Steps.{answersOf}
 use Rattle.model.specs.Batch.{Batch, callNumber, batchWith, batchAt}
-use Rattle.model.specs.Claim.{Lent, eventsOf, history, results, Claim}
+use Rattle.model.specs.Claim.{Lent, eventsOf, history, results}
 use Rattle.model.specs.Undamaged.{judgeAt}
 use Rattle.theory.proofs.steps.Kept.{batch-judged}
 use Rattle.theory.proofs.Demand.{demand-three}
-use Rattle.show_store_laws.specs.Called.{Called, none, more, writtenBy, written}
+use Rattle.show_store_laws.specs.Called.{CallsHold, Called, none, more, writtenBy, written}
 use Rattle.show_store_laws.proofs.Run.{answers-append}
 
--- demand 3 over the calls
-pub calls-claim : (w : ℕ) (ws : List ℕ) (bs : List Lent) (rs : List Batch) → judgeAt w ws ≡ 0 → Called w ws bs rs → Claim w ws bs
-calls-claim w ws bs rs j c = demand-three w ws bs j
-
 -- the claim's results are the calls' results
-pub calls-results : {w : ℕ} {ws : List ℕ} {bs : List Lent} {rs : List Batch} → Called w ws bs rs → map (λ (r : Batch). r .result) rs ≡ results w ws bs
+calls-results : {w : ℕ} {ws : List ℕ} {bs : List Lent} {rs : List Batch} → Called w ws bs rs → map (λ (r : Batch). r .result) rs ≡ results w ws bs
 unfolding results
 calls-results none = refl
 calls-results {w} {ws} (more b r bs rs e c) =
@@ -29,7 +25,7 @@ unfolding batchWith eventsOf writtenBy answersOf
 one-written w ws b zero = refl
 one-written w ws b (suc n) = refl
 
-pub calls-answers : {w : ℕ} {ws : List ℕ} {bs : List Lent} {rs : List Batch} → Called w ws bs rs → answersOf (history w ws bs) ≡ written rs
+calls-answers : {w : ℕ} {ws : List ℕ} {bs : List Lent} {rs : List Batch} → Called w ws bs rs → answersOf (history w ws bs) ≡ written rs
 unfolding history written batchAt answersOf
 calls-answers none = refl
 calls-answers {w} {ws} (more b r bs rs e c) =
@@ -40,11 +36,14 @@ calls-answers {w} {ws} (more b r bs rs e c) =
     ∙ (ap (λ l. writtenBy q (q .result) ++ l) rest ∙ ap (λ (x : Batch). writtenBy x (x .result) ++ written rs) (sym e)))
 
 -- "A batch hands back an undamaged image undamaged"
-pub batch-undamaged : (w : ℕ) (ws bytes answers : List ℕ) (r : Batch) → r ≡ batchAt w ws bytes answers → judgeAt w ws ≡ 0 → judgeAt w (r .image) ≡ 0
+batch-undamaged : (w : ℕ) (ws bytes answers : List ℕ) (r : Batch) → r ≡ batchAt w ws bytes answers → judgeAt w ws ≡ 0 → judgeAt w (r .image) ≡ 0
 batch-undamaged w ws bytes answers r e j = subst (λ (x : Batch). judgeAt w (x .image) ≡ 0) (sym e) (batch-judged w ws bytes answers j)
 
-pub calls-undamaged : {w : ℕ} {ws : List ℕ} {bs : List Lent} {rs : List Batch} → judgeAt w ws ≡ 0 → Called w ws bs rs → (r : Batch) → List·Memᴰ r rs → judgeAt w (r .image) ≡ 0
+calls-undamaged : {w : ℕ} {ws : List ℕ} {bs : List Lent} {rs : List Batch} → judgeAt w ws ≡ 0 → Called w ws bs rs → (r : Batch) → List·Memᴰ r rs → judgeAt w (r .image) ≡ 0
 calls-undamaged j none r k = elim k [ ]
 calls-undamaged {w} {ws} j (more b q bs rs e c) r k =
     let left : judgeAt w (q .image) ≡ 0 = batch-undamaged w ws (b .steps) (b .answers) q e j in
     ⊎-elim (λ (x : r ≡ q). subst (λ (y : Batch). judgeAt w (y .image) ≡ 0) (sym x) left) (λ x. calls-undamaged left c r x) (List·Memᴰ·cases-cons k)
+
+pub calls-hold : (w : ℕ) (ws : List ℕ) (bs : List Lent) (rs : List Batch) → judgeAt w ws ≡ 0 → Called w ws bs rs → CallsHold w ws bs rs
+calls-hold w ws bs rs j c = record { claim = demand-three w ws bs j; same-results = calls-results c; same-answers = calls-answers c; undamaged = calls-undamaged j c }

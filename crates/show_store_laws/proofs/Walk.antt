@@ -113,19 +113,19 @@ module _ (R : RattleType) (κ κ′ : Lft) (q : Share) (γ : GName) (b o : ℕ) 
 
 module _ {M : Type 1} (𝓤 : URA M) (H : Heap 𝓤) (A : Atoms 𝓤) (W : Given 𝓤 H A) (ν : ℕ) (κ : Lft) (q : Share) where
   -- what makes ν's token whole again
-  abbrev pub Carved : SProp 𝓤
-  Carved = wand 𝓤 (A .lft (ν ∷ []) (PosShare·left q)) (A .lft (ν ∷ []) fullShare)
+  abbrev pub LifetimeCarved : SProp 𝓤
+  LifetimeCarved = wand 𝓤 (A .lft (ν ∷ []) (PosShare·left q)) (A .lft (ν ∷ []) fullShare)
 
-  pub within : ent 𝓤 (sep 𝓤 (A .lft (ν ∷ []) fullShare) (A .lft κ q)) (⋆ 𝓤 H A (‵ (flft (ν ∷ κ) (PosShare·left q)) ∷ ‵ (flft κ (PosShare·right q)) ∷ raw Carved ∷ []))
+  pub within : ent 𝓤 (sep 𝓤 (A .lft (ν ∷ []) fullShare) (A .lft κ q)) (⋆ 𝓤 H A (‵ (flft (ν ∷ κ) (PosShare·left q)) ∷ ‵ (flft κ (PosShare·right q)) ∷ raw LifetimeCarved ∷ []))
   within =
       qed W (‵ (flft (ν ∷ []) fullShare) ∷ ‵ (flft κ q) ∷ []) ∵
-      use1 W (‵ (flft (ν ∷ []) (PosShare·left q)) ⊛ raw Carved) (W .lfts .lft-carve ν (PosShare·left q)) $ split ! $
+      use1 W (‵ (flft (ν ∷ []) (PosShare·left q)) ⊛ raw LifetimeCarved) (W .lfts .lft-carve ν (PosShare·left q)) $ split ! $
       move ! (2 ∷ []) $ use1 W (‵ (flft κ (PosShare·left q)) ⊛ ‵ (flft κ (PosShare·right q))) (W .lfts .lft-split κ q) $ split ! $
       move ! (2 ∷ 0 ∷ []) $ use2 W (‵ (flft (ν ∷ κ) (PosShare·left q))) (W .lfts .lft-meet (ν ∷ []) κ (PosShare·left q)) $ done !
 
-  pub without : ent 𝓤 (⋆ 𝓤 H A (‵ (flft (ν ∷ κ) (PosShare·left q)) ∷ ‵ (flft κ (PosShare·right q)) ∷ raw Carved ∷ [])) (H .⇛ (sep 𝓤 (A .dead (ν ∷ κ)) (A .lft κ q)))
+  pub without : ent 𝓤 (⋆ 𝓤 H A (‵ (flft (ν ∷ κ) (PosShare·left q)) ∷ ‵ (flft κ (PosShare·right q)) ∷ raw LifetimeCarved ∷ [])) (H .⇛ (sep 𝓤 (A .dead (ν ∷ κ)) (A .lft κ q)))
   without =
-      qed W (‵ (flft (ν ∷ κ) (PosShare·left q)) ∷ ‵ (flft κ (PosShare·right q)) ∷ raw Carved ∷ []) ∵ updating ! $
+      qed W (‵ (flft (ν ∷ κ) (PosShare·left q)) ∷ ‵ (flft κ (PosShare·right q)) ∷ raw LifetimeCarved ∷ []) ∵ updating ! $
       use1 W (‵ (flft (ν ∷ []) (PosShare·left q)) ⊛ ‵ (flft κ (PosShare·left q))) (W .lfts .lft-unmeet (ν ∷ []) κ (PosShare·left q)) $ split ! $
-      move ! (3 ∷ 0 ∷ []) $ use2 W (‵ (flft (ν ∷ []) fullShare)) (wandE 𝓤 Carved (A .lft (ν ∷ []) (PosShare·left q)) (A .lft (ν ∷ []) fullShare) (id⊢ 𝓤 Carved)) $ lft-end ! tt $
+      move ! (3 ∷ 0 ∷ []) $ use2 W (‵ (flft (ν ∷ []) fullShare)) (wandE 𝓤 LifetimeCarved (A .lft (ν ∷ []) (PosShare·left q)) (A .lft (ν ∷ []) fullShare) (id⊢ 𝓤 LifetimeCarved)) $ lft-end ! tt $
       use1 W (‵ (fdead (ν ∷ κ))) (W .lfts .dead-incl (ν ∷ κ) (ν ∷ []) (meet-⊑-left (ν ∷ []) κ)) $ move ! (1 ∷ 2 ∷ []) $ use2 W (‵ (flft κ q)) (W .lfts .lft-join κ q) $ at-once ! $ move ! (1 ∷ 0 ∷ []) $ done !

@@ -1,9 +1,11 @@
 -- Calls of `batch` at words of w bits, one after the other: all that is known of each is its contract.
 use mathlib.Core.Path.{_≡_}
-use mathlib.Core.List.{List, [], _∷_, _++_}
+use mathlib.Core.List.{List, [], _∷_, _++_, map, List·Memᴰ}
 use Prim.Native.Nat.{ℕ, zero, suc}
 use Rattle.model.specs.Batch.{Batch, batchAt}
-use Rattle.model.specs.Claim.{Lent}
+use Rattle.model.specs.Undamaged.{judgeAt}
+use Rattle.model.specs.Steps.{answersOf}
+use Rattle.model.specs.Claim.{Lent, history, results, Claim}
 
 -- batches lent from the image ws on, and what each gave and left; "each batch gets the image that the last left"
 pub data Called (w : ℕ) : List ℕ → List Lent → List Batch → Type 0 where
@@ -19,3 +21,11 @@ writtenBy r (suc n) = []
 unfoldable pub written : List Batch → List ℕ
 written [] = []
 written (r ∷ rs) = writtenBy r (r .result) ++ written rs
+
+-- what holds of a row of calls from an undamaged image: demand 3 of `docs/DEMANDS.md`, where the claim's results and answers are those that the
+-- calls gave and wrote, and every image handed back is undamaged
+pub record CallsHold (w : ℕ) (ws : List ℕ) (bs : List Lent) (rs : List Batch) : Type 0 where
+  pub claim : Claim w ws bs
+  pub same-results : map (λ (r : Batch). r .result) rs ≡ results w ws bs
+  pub same-answers : answersOf (history w ws bs) ≡ written rs
+  pub undamaged : (r : Batch) → List·Memᴰ r rs → judgeAt w (r .image) ≡ 0

@@ -1,11 +1,12 @@
 // Objects and runs fill the heap; links and registers are nil or starts.
 ghost use mathlib.Core.Path.{_≡_};
-ghost use mathlib.Core.Bool.{false, cond, _&&_};
+ghost use mathlib.Core.Bool.{false, _&&_};
 ghost use Prim.Native.Nat.{_+_, _*_, _≤_, _<_, min};
 ghost use Rattle.model.specs.Base.{all};
 ghost use Rattle.model.specs.Image.{imageOf, granules, isStart, firstRun};
 ghost use Rattle.model.specs.Undamaged.{regOk, linksOk, zeroGranule, filled};
 ghost use Rattle.image_laws.specs.Sized.{Sized};
+ghost use Rattle.image_laws.specs.Digits.{digit};
 ghost use Rattle.soundness_laws.specs.Sets.{Targets};
 ghost use Rattle.image.specs.Layout.{width, most};
 ghost use Rattle.soundness_laws.specs.Tests.{LinksInside, linkOk, objectOk, runOk, pieceOk, nextRun};
@@ -143,7 +144,7 @@ pub fn next_run(im: &[Word], k: usize, g: usize, object: bool, next: usize) -> u
 
 fn one_more(seen: usize, object: bool) -> usize
     requires { ⌜ seen ≤ 64 * most ⌝ }
-    ensures { λ r. ⌜ r ≡ seen + cond object 1 0 ⌝ }
+    ensures { λ r. ⌜ r ≡ seen + digit object ⌝ }
 {
     if object { seen + 1 } else { seen }
 }

@@ -1,12 +1,12 @@
 // Packets: counts, zeros, entries that are marked, and no object entered twice.
 ghost use mathlib.Core.Path.{_≡_};
-ghost use Prim.Native.Nat.{_<_};
+ghost use Prim.Native.Nat.{_≤_, _<_};
 ghost use lib.ListN.{length};
 ghost use Rattle.model.specs.Base.{all, distinct};
 ghost use Rattle.model.specs.Image.{imageOf, entries};
 ghost use Rattle.image_laws.specs.Sized.{Sized};
 ghost use Rattle.image.specs.Layout.{width};
-ghost use Rattle.soundness_laws.specs.Tests.{entryOkAt, packetOkAt, Packed};
+ghost use Rattle.soundness_laws.specs.Tests.{entryMarked, packetOkAt, Packed};
 ghost use Rattle.soundness_laws.specs.Sets.{setWords, packetEntries, AddedOnce};
 use crate::sets::SEEN;
 use image::layout::Word;
@@ -16,24 +16,20 @@ use image::layout::Word;
 pub fn entry_ok(im: &[Word], k: usize, p: usize, e: usize) -> bool
     requires { ⌜ Sized width k (now im) ⌝ }
     requires { ⌜ (p < 32) × (e < 30) ⌝ }
-    ensures { λ r. ⌜ r ≡ entryOkAt (imageOf width k (now (im .entry))) p e ⌝ }
+    ensures { λ r. ⌜ r ≡ entryMarked (imageOf width k (now (im .entry))) p e ⌝ }
 {
-    let n = image::sections::packet_word(im, k, 32 * p) as usize;
     let x = image::sections::packet_word(im, k, 32 * p + 2 + e) as usize;
-    if e < n {
-        return crate::marks::marked_at(im, k, x);
-    }
-    x == 0
+    crate::marks::marked_at(im, k, x)
 }
 
-pub fn entries_ok(im: &[Word], k: usize, p: usize) -> bool
+pub fn entries_ok(im: &[Word], k: usize, p: usize, n: usize) -> bool
     requires { ⌜ Sized width k (now im) ⌝ }
-    requires { ⌜ p < 32 ⌝ }
-    ensures { λ r. ⌜ r ≡ all 30 (entryOkAt (imageOf width k (now (im .entry))) p) ⌝ }
+    requires { ⌜ (p < 32) × (n ≤ 30) ⌝ }
+    ensures { λ r. ⌜ r ≡ all n (entryMarked (imageOf width k (now (im .entry))) p) ⌝ }
 {
     let mut ok = true;
     let mut i = 0;
-    while i < 30 {
+    while i < n {
         ok = ok & entry_ok(im, k, p, i);
         i += 1;
     }
@@ -45,9 +41,14 @@ pub fn packet_ok(im: &[Word], k: usize, p: usize) -> bool
     requires { ⌜ p < 32 ⌝ }
     ensures { λ r. ⌜ r ≡ packetOkAt (imageOf width k (now (im .entry))) p ⌝ }
 {
-    let n = image::sections::packet_word(im, k, 32 * p);
+    let n = image::sections::packet_word(im, k, 32 * p) as usize;
     let z = image::sections::packet_word(im, k, 32 * p + 1);
-    (n <= 30) & (z == 0) & entries_ok(im, k, p)
+    if 30 < n {
+        return false;
+    }
+    (z == 0)
+        & entries_ok(im, k, p, n)
+        & image::parts::zero_entries(im, k, 32 * p + 2 + n, 32 * p + 32)
 }
 
 pub fn packets_ok(im: &[Word], k: usize) -> bool

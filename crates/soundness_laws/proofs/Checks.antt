@@ -9,10 +9,8 @@ use native.Mathlib.Omega.{arith}
 use lib.Dec.{ltb}
 use borrow.Author.Tests.{le-ltb, lt-ltb}
 use Rattle.model.specs.Base.{all, any, every}
-use Rattle.model.specs.Cases.{ok}
 use Rattle.image_laws.proofs.Parts.{all-cong}
 use mathlib.Core.List.{[], _∷_}
-use Rattle.model.specs.Examples.{at}
 
 -- ---- `ok` says whether all below i pass
 

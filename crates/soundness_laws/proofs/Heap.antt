@@ -10,20 +10,18 @@ use lib.Dec.{eqb, leb}
 use lib.ListN.{length, drop, drop-of-length-le, take}
 use lib.Seq.{drop-drop}
 use borrow.Author.Tests.{leb-true, not-true, not-false}
-use Rattle.model.specs.Base.{nth, all, implies, every, zeroes, first}
+use Rattle.model.specs.Base.{nth, all, implies, every, zeroes}
 use Rattle.model.specs.Image.{image, imageOf, granules, word, isStart, links, firstRun, mostCards}
 use Rattle.model.specs.Undamaged.{piece, fill, filled, linksOk, zeroGranule}
 use Rattle.model.proofs.Laws.{false≢, and-split, all-use, all-make, every-use}
 use Rattle.soundness_laws.specs.Tests.{startsIn, linkOk, objectOk, pieceOk, nextRun, LinksInside}
 use Rattle.soundness_laws.proofs.Checks.{all-append}
 use Rattle.soundness_laws.proofs.Pieces.{head-use, piece-split, tail-at, tail-long, head-is, bare-is, object-is}
-use Rattle.soundness_laws.proofs.Starts.{notStart, clear, one, count-le, seen-more, seen-few}
-use Rattle.model.specs.Steps.{run}
+use Rattle.soundness_laws.proofs.Starts.{notStart, clear, count-le, seen-more, seen-few}
 use Rattle.image_laws.specs.Sized.{Sized}
 use Rattle.image_laws.proofs.Parts.{all-first, zero-stretch}
-use lib.Pow.{high, low}
-use Rattle.model.specs.Examples.{at}
 use Rattle.image_laws.proofs.Lengths.{heap-words}
+use Rattle.image_laws.specs.Digits.{digit, startBit}
 
 -- ---- one turn of the model's walk
 
@@ -148,7 +146,7 @@ module _ (w k : ℕ) (l : List ℕ) where
         ∙ ap (λ b. all g (linksOk (imageOf w k l)) && b) ((rw e at (all-first (s - 1) (λ i. linksOk (imageOf w k l) (g + i)))) ∙ rw (a, add-zero) (and-true _))
 
     pub w-start : (first : ℕ) → first ≡ firstRun (imageOf w k l) → isStart (imageOf w k l) 0 ≡ false → HeapWalk 1 first false 0
-    unfolding filled all granules startsIn imageOf image
+    unfolding filled all granules startsIn digit imageOf image
     w-start first e h = record { fuel = 64 * k; inside = omega (arith, z .low); enough = omega arith; few = omega arith; same = rw (e, h); so-far = λ _. links-none 0 h }
 
     module _ (g next : ℕ) (run : Bool) (seen : ℕ) (v : HeapWalk g next run seen) where
@@ -188,10 +186,10 @@ module _ (w k : ℕ) (l : List ℕ) where
             pub w-less : (s : ℕ) → s ≡ word (imageOf w k l) g 0 → 64 * k - (g + s) < 64 * k - g
             w-less s es = omega (arith, found .pos, found .inside)
 
-            seen-is : eqb (seen + one (imageOf w k l) g) (startsIn (imageOf w k l) 0 (g + word (imageOf w k l) g 0)) ≡ (eqb seen (startsIn (imageOf w k l) 0 g) && clear (imageOf w k l) (g + 1) (word (imageOf w k l) g 0 - 1))
+            seen-is : eqb (seen + startBit (imageOf w k l) g) (startsIn (imageOf w k l) 0 (g + word (imageOf w k l) g 0)) ≡ (eqb seen (startsIn (imageOf w k l) 0 g) && clear (imageOf w k l) (g + 1) (word (imageOf w k l) g 0 - 1))
             seen-is = seen-more (imageOf w k l) g (word (imageOf w k l) g 0) seen (found .pos) (v .few)
 
-            pub w-more : (s next′ seen′ : ℕ) (b c : Bool) → b ≡ isStart (imageOf w k l) g → c ≡ linksOk (imageOf w k l) g → not c ≡ false → seen′ ≡ seen + cond b 1 0 → next′ ≡ nextRun (imageOf w k l) g next → s ≡ word (imageOf w k l) g 0 → HeapWalk (g + s) next′ (not b) seen′
+            pub w-more : (s next′ seen′ : ℕ) (b c : Bool) → b ≡ isStart (imageOf w k l) g → c ≡ linksOk (imageOf w k l) g → not c ≡ false → seen′ ≡ seen + digit b → next′ ≡ nextRun (imageOf w k l) g next → s ≡ word (imageOf w k l) g 0 → HeapWalk (g + s) next′ (not b) seen′
             w-more s next′ seen′ b c eb ec r eseen en es =
                 record {
                   fuel = v .fuel - 1;
@@ -202,7 +200,7 @@ module _ (w k : ℕ) (l : List ℕ) where
                   so-far = λ h. links (rw (eseen, eb, es) at h);
                 }
               where
-                links : eqb (seen + one (imageOf w k l) g) (startsIn (imageOf w k l) 0 (g + word (imageOf w k l) g 0)) ≡ true → all (g + s) (linksOk (imageOf w k l)) ≡ true
+                links : eqb (seen + startBit (imageOf w k l) g) (startsIn (imageOf w k l) 0 (g + word (imageOf w k l) g 0)) ≡ true → all (g + s) (linksOk (imageOf w k l)) ≡ true
                 links h =
                     let p = and-split _ _ (sym seen-is ∙ h) in
                     rw (es, links-more g (word (imageOf w k l) g 0) (found .pos) (p .1), v .so-far (p .0), ← ec, not-false c r)

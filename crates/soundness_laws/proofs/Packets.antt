@@ -1,32 +1,28 @@
 -- Packets by index: their lines, their entries packet after packet, and whether none is entered twice.
-use Prim.Native.Nat.{ℕ, _+_, _*_, _≤_, _<_, suc, _/_, zero}
+use Prim.Native.Nat.{ℕ, _+_, _*_, _≤_, _<_, suc, _/_, zero, _-_}
 use Rattle.model.proofs.Entries.{nth-drop, nth-take}
 use Rattle.model.proofs.Laws.{all-use, every-use}
-use Rattle.model.specs.Base.{nth, all, eachPiece, bit, setBit, every}
+use Rattle.model.specs.Base.{nth, all, eachPiece, bit, setBit, every, zeroes}
 use Rattle.model.specs.Image.{entries, entriesOf, count, entry, image, imageOf, granules, marked, mostCards}
 use Rattle.model.specs.Undamaged.{entryOk, packetOk}
-use borrow.Author.Tests.{leb-true, ltb-true, lt-ltb, le-ltb}
+use borrow.Author.Tests.{leb-true, ltb-true, lt-ltb, le-ltb, le-leb, lt-leb}
 use lib.Dec.{eqb, leb, ltb}
 use lib.ListN.{length, getD, take, drop, length-take, length-drop}
 use lib.Seq.{drop-drop, take-suc, take-all}
-use mathlib.Core.Bool.{Bool, true, not, _&&_, and-true, and-assoc}
+use mathlib.Core.Bool.{Bool, true, not, _&&_, and-true, and-assoc, false}
 use mathlib.Core.List.{List, [], _∷_, _++_, append-assoc, append-nil}
 use mathlib.Core.Path.{_≡_, sym, _∙_, ap}
 use native.Mathlib.Numerals.{add-one}
 use native.Mathlib.Omega.{arith}
 use Rattle.soundness_laws.specs.Sets.{setWords, packetEntries, AddedOnce}
-use Rattle.soundness_laws.specs.Tests.{packetOkAt, entryOkAt, Packed}
-use Rattle.soundness_laws.proofs.Checks.{test-inside}
+use Rattle.soundness_laws.specs.Tests.{packetOkAt, entryOkAt, Packed, entryMarked}
+use Rattle.soundness_laws.proofs.Checks.{test-inside, all-append}
 use Rattle.soundness_laws.proofs.Sets.{once-none, once-one, once-append}
-use Rattle.model.specs.Cases.{ok}
-use Rattle.model.specs.Steps.{after}
 use Rattle.image_laws.specs.Sized.{Sized}
 use Rattle.image_laws.proofs.Bits.{mark-past}
-use Rattle.image_laws.proofs.Parts.{all-cong, all-none, all-first}
+use Rattle.image_laws.proofs.Parts.{all-cong, all-none, all-first, zero-stretch}
 use Rattle.image_laws.proofs.Places.{word-in}
 use Rattle.image_laws.proofs.Sections.{granules-image}
-use lib.Pow.{high}
-use Rattle.model.specs.Examples.{at}
 use Rattle.model.specs.Rows.{below}
 use Rattle.image_laws.proofs.Lengths.{sized-width, packets-words}
 
@@ -54,14 +50,25 @@ entries-more (suc n) ps =
 module _ (w k : ℕ) (l : List ℕ) (z : Sized w k l) where
   -- ---- one packet
 
-  module _ (p e n x : ℕ) (en : n ≡ nth (imageOf w k l .packets) (32 * p)) (ex : x ≡ nth (imageOf w k l .packets) (32 * p + 2 + e)) where
-    pub entry-in : (r : Bool) → e < n → r ≡ marked (imageOf w k l) x → r ≡ entryOkAt (imageOf w k l) p e
-    unfolding entryOkAt entryOk count entry granules imageOf image
-    entry-in r h q = rw (← en, ← ex, lt-ltb e n h) (q ∙ sym (test-inside (marked (imageOf w k l)) (64 * k) x (mark-past w k l z x)))
+  pub entry-marked : (p e x : ℕ) (r : Bool) → x ≡ nth (imageOf w k l .packets) (32 * p + 2 + e) → r ≡ marked (imageOf w k l) x → r ≡ entryMarked (imageOf w k l) p e
+  unfolding entryMarked entry
+  entry-marked p e x r ex q = q ∙ ap (marked (imageOf w k l)) ex
 
-    pub entry-past : n ≤ e → eqb x 0 ≡ entryOkAt (imageOf w k l) p e
-    unfolding entryOkAt entryOk count entry
-    entry-past h = rw (← en, ← ex, le-ltb e n h)
+  entry-in : (p e : ℕ) → e < count (imageOf w k l) p → entryOkAt (imageOf w k l) p e ≡ entryMarked (imageOf w k l) p e
+  unfolding entryOkAt entryOk entryMarked granules imageOf image
+  entry-in p e h = rw (lt-ltb e (count (imageOf w k l) p) h) (test-inside (marked (imageOf w k l)) (64 * k) (entry (imageOf w k l) p e) (mark-past w k l z (entry (imageOf w k l) p e)))
+
+  entry-past : (p e : ℕ) → count (imageOf w k l) p ≤ e → entryOkAt (imageOf w k l) p e ≡ eqb (nth (imageOf w k l .packets) (32 * p + 2 + e)) 0
+  unfolding entryOkAt entryOk entry
+  entry-past p e h = rw (le-ltb e (count (imageOf w k l) p) h)
+
+  -- the first n of 30 places hold the entries
+  entries-split : (p n : ℕ) → p < 32 → n ≡ count (imageOf w k l) p → n ≤ 30 → all 30 (entryOkAt (imageOf w k l) p) ≡ (all n (entryMarked (imageOf w k l) p) && zeroes (take (30 - n) (drop (32 * p + 2 + n) (imageOf w k l .packets))))
+  entries-split p n hp en h =
+      let s : n + (30 - n) ≡ 30 = omega arith in
+      (rw s at (all-append n (30 - n) (entryOkAt (imageOf w k l) p)))
+      ∙ rw (all-cong n _ _ (λ e q. entry-in p e (omega arith)), zero-stretch (imageOf w k l .packets) (32 * p + 2 + n) (30 - n) (omega (arith, packets-words z)))
+      (ap (λ b. all n (entryMarked (imageOf w k l) p) && b) (all-cong (30 - n) _ _ (λ i q. let y : 32 * p + 2 + (n + i) ≡ 32 * p + 2 + n + i = omega arith in entry-past p (n + i) (omega arith) ∙ rw y)))
 
   -- word i of packet p
   packet-nth : (p i : ℕ) → i < 32 → nth (take 32 (drop (32 * p) (imageOf w k l .packets))) i ≡ nth (imageOf w k l .packets) (32 * p + i)
@@ -76,9 +83,17 @@ module _ (w k : ℕ) (l : List ℕ) (z : Sized w k l) where
       all-cong 30 _ _ (λ e h. let y : 32 * p + (2 + e) ≡ 32 * p + 2 + e = omega arith in rw (packet-nth p (2 + e) (omega arith), y)) in
       rw (c, packet-nth p 1 (omega arith), b)
 
-  pub packet-all : (p n y : ℕ) (r : Bool) → n ≡ nth (imageOf w k l .packets) (32 * p) → y ≡ nth (imageOf w k l .packets) (32 * p + 1) → r ≡ all 30 (entryOkAt (imageOf w k l) p) → ((leb n 30 && eqb y 0) && r) ≡ packetOkAt (imageOf w k l) p
-  unfolding every count
-  packet-all p n y r en ey er = rw (packet-is p, ← en, ← ey, ← er) (simp (and-assoc, and-true))
+  module _ (p n : ℕ) (hp : p < 32) (en : n ≡ nth (imageOf w k l .packets) (32 * p)) where
+    pub packet-many : 30 < n → false ≡ packetOkAt (imageOf w k l) p
+    unfolding every count
+    packet-many h = rw (packet-is p, ← en, lt-leb n 30 h)
+
+    pub packet-all : (y : ℕ) (r s : Bool) → n ≤ 30 → y ≡ nth (imageOf w k l .packets) (32 * p + 1) → r ≡ all n (entryMarked (imageOf w k l) p) → s ≡ zeroes (take (32 * p + 32 - (32 * p + 2 + n)) (drop (32 * p + 2 + n) (imageOf w k l .packets)))
+        → ((eqb y 0 && r) && s) ≡ packetOkAt (imageOf w k l) p
+    unfolding every count
+    packet-all y r s h ey er es =
+        let o : 32 * p + 32 - (32 * p + 2 + n) ≡ 30 - n = omega arith in
+        rw (packet-is p, ← en, le-leb n 30 h, ← ey, entries-split p n hp en h, ← er, es, o) (simp (and-assoc, and-true))
 
   -- ---- all packets
 

@@ -15,10 +15,8 @@ use Rattle.model.proofs.Laws.{all-make, and-split, and-join, every-use, every-c
 use Rattle.model.proofs.Entries.{nth-drop}
 use Rattle.soundness_laws.specs.Tests.{objectOk, runOk, pieceOk, nextRun}
 use Rattle.soundness_laws.proofs.Starts.{notStart, clear}
-use Rattle.model.specs.Steps.{run}
 use Rattle.image_laws.specs.Sized.{Sized}
 use Rattle.image_laws.proofs.Parts.{all-cong, zero-stretch}
-use Rattle.model.specs.Examples.{at}
 use Rattle.image_laws.proofs.Lengths.{heap-words}
 
 -- ---- the head of an object, and of a run

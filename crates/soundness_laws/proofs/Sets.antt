@@ -6,7 +6,7 @@ use Prim.Native.Nat.{ℕ, _+_, _*_, _/_, _<_, _%_, _^_, _≤_, min}
 use native.Mathlib.Decide.{ℕ-discrete, decLt}
 use native.Mathlib.Omega.{arith}
 use lib.Dec.{eqb}
-use lib.ListN.{length, replicate, length-replicate, set}
+use lib.ListN.{length, replicate, length-replicate}
 use borrow.Author.Tests.{eq-eqb, ne-eqb}
 use Rattle.model.specs.Base.{nth, elem, distinct, bit, setBit, put, either, testBit, withBit}
 use Rattle.model.specs.Image.{Image, entries, image, imageOf, granules, isStart}
@@ -14,14 +14,11 @@ use Rattle.model.specs.Undamaged.{entered, nilOrStart}
 use Rattle.model.proofs.Laws.{length-put, nth-replicate, nth-put-same, nth-put-other}
 use Rattle.model.proofs.Bits.{setBit-same, setBit-other, bit-zeros}
 use Rattle.soundness_laws.specs.Sets.{Targets, setWords, noneIn, AddedOnce, EnteredSet}
-use Rattle.model.specs.Cases.{ok}
-use Rattle.model.specs.Steps.{after}
 use Rattle.image_laws.specs.Sized.{Sized}
 use Rattle.image_laws.proofs.Bits.{start-past}
 use Rattle.image_laws.proofs.Places.{words-full}
 use native.Mathlib.Nat.{mul-comm, zero-mod, mul-le-mul-left, zero-div, div-mul-le-self}
 use Rattle.soundness_laws.proofs.Checks.{test-inside}
-use Rattle.model.specs.Examples.{at}
 use Rattle.image_laws.proofs.Lengths.{sized-width}
 
 -- ---- the values that a link may name

@@ -1,6 +1,6 @@
 -- Starts counted, by granules and by words of start bits.
 use mathlib.Core.Path.{_≡_, refl, sym, ap, _∙_}
-use mathlib.Core.Bool.{Bool, true, false, not, cond, _&&_, and-true, and-false}
+use mathlib.Core.Bool.{Bool, true, false, not, _&&_, and-true, and-false}
 use mathlib.Core.List.{List}
 use Prim.Native.Nat.{ℕ, zero, suc, _+_, _*_, _-_, _/_, _%_, _^_, _≤_, _<_}
 use native.Mathlib.Nat.{zero-add, add-zero, add-suc, div-one, mul-zero, mul-suc, div-eq-of-lt}
@@ -10,15 +10,16 @@ use lib.Dec.{eqb}
 use lib.Pow.{shr-shr}
 use lib.Count.{ones, onesIn, ones-step}
 use borrow.Author.Tests.{eq-eqb, ne-eqb}
-use Rattle.model.specs.Base.{nth, all, testBit}
+use Rattle.model.specs.Base.{nth, all}
 use Rattle.model.specs.Image.{Image, image, imageOf, isStart}
 use Rattle.soundness_laws.specs.Tests.{startsIn}
 use Rattle.image_laws.specs.Sized.{Sized}
 use Rattle.image_laws.proofs.Bits.{bit-at}
 use Rattle.image_laws.proofs.Places.{words-full}
 use native.Mathlib.Numerals.{add-one}
-use Rattle.model.specs.Examples.{at}
 use Rattle.image_laws.proofs.Lengths.{sized-width}
+use Rattle.image_laws.specs.Digits.{digit, startBit}
+use Rattle.image_laws.proofs.Digits.{digit-le, bit-digit}
 
 -- ---- starts counted
 
@@ -31,9 +32,6 @@ module _ (m : Image) where
   clear a n = all n (notStart a)
 
 module _ (m : Image) where
-  abbrev pub one : ℕ → ℕ
-  one a = cond (isStart m a) 1 0
-
   count-append : (a n j : ℕ) → startsIn m a (n + j) ≡ startsIn m a n + startsIn m (a + n) j
   unfolding startsIn
   count-append a n zero = rw (add-zero n) (sym (add-zero (startsIn m a n)))
@@ -44,74 +42,60 @@ module _ (m : Image) where
   count-split : (g s : ℕ) → startsIn m 0 (g + s) ≡ startsIn m 0 g + startsIn m g s
   count-split g s = rw (zero-add g) at (count-append 0 g s)
 
-  count-one : (a : ℕ) → startsIn m a 1 ≡ one a
+  count-one : (a : ℕ) → startsIn m a 1 ≡ startBit m a
   unfolding startsIn
-  count-one a = rw (add-zero a) (zero-add (one a))
+  count-one a = rw (add-zero a) (zero-add (startBit m a))
 
-  count-first : (a n : ℕ) → startsIn m a (suc n) ≡ one a + startsIn m (a + 1) n
+  count-first : (a n : ℕ) → startsIn m a (suc n) ≡ startBit m a + startsIn m (a + 1) n
   count-first a n =
       let e : 1 + n ≡ suc n = omega arith in
       rw (count-one a) at (rw e at (count-append a 1 n))
 
-  one-le : (a : ℕ) → one a ≤ 1
-  one-le a = go (isStart m a)
-    where
-      go : (b : Bool) → _≤_ (cond b 1 0) 1
-      go true = omega arith
-      go false = omega arith
-
   pub count-le : (a n : ℕ) → startsIn m a n ≤ n
   unfolding startsIn
   count-le a zero = omega arith
-  count-le a (suc n) = omega (arith, count-le a n, one-le (a + n))
+  count-le a (suc n) = omega (arith, count-le a n, digit-le (isStart m (a + n)))
 
   -- no start among them
   clear-is : (a n : ℕ) → clear m a n ≡ eqb (startsIn m a n) 0
-  unfolding clear all notStart startsIn
+  unfolding clear all notStart startsIn digit
   clear-is a zero = refl
   clear-is a (suc n) = go (clear-is a n) (isStart m (a + n)) refl
     where
-      go : clear m a n ≡ eqb (startsIn m a n) 0 → (b : Bool) → isStart m (a + n) ≡ b → (clear m a n && not (isStart m (a + n))) ≡ eqb (startsIn m a n + cond (isStart m (a + n)) 1 0) 0
+      go : clear m a n ≡ eqb (startsIn m a n) 0 → (b : Bool) → isStart m (a + n) ≡ b → (clear m a n && not (isStart m (a + n))) ≡ eqb (startsIn m a n + startBit m (a + n)) 0
       go ih true e = rw (e, and-false (clear m a n)) (sym (ne-eqb (startsIn m a n + 1) 0 (λ q. absurd (omega arith))))
       go ih false e = rw (e, and-true (clear m a n), add-zero (startsIn m a n)) ih
 
   -- as many objects seen as starts, behind a piece of s granules at g
-  pub seen-more : (g s seen : ℕ) → 1 ≤ s → seen ≤ startsIn m 0 g → eqb (seen + one g) (startsIn m 0 (g + s)) ≡ (eqb seen (startsIn m 0 g) && clear m (g + 1) (s - 1))
+  pub seen-more : (g s seen : ℕ) → 1 ≤ s → seen ≤ startsIn m 0 g → eqb (seen + startBit m g) (startsIn m 0 (g + s)) ≡ (eqb seen (startsIn m 0 g) && clear m (g + 1) (s - 1))
   seen-more g s seen p h = rw (clear-is (g + 1) (s - 1), total) (go (ℕ-discrete seen (startsIn m 0 g)) (ℕ-discrete (startsIn m (g + 1) (s - 1)) 0))
     where
-      total : startsIn m 0 (g + s) ≡ startsIn m 0 g + (one g + startsIn m (g + 1) (s - 1))
+      total : startsIn m 0 (g + s) ≡ startsIn m 0 g + (startBit m g + startsIn m (g + 1) (s - 1))
       total =
           let e : suc (s - 1) ≡ s = omega arith in
           count-split g s ∙ ap (λ (x : ℕ). startsIn m 0 g + x) (rw e at (count-first g (s - 1)))
 
-      go : Dec (seen ≡ startsIn m 0 g) → Dec (startsIn m (g + 1) (s - 1) ≡ 0) → eqb (seen + one g) (startsIn m 0 g + (one g + startsIn m (g + 1) (s - 1))) ≡ (eqb seen (startsIn m 0 g) && eqb (startsIn m (g + 1) (s - 1)) 0)
-      go (yes a) (yes b) = rw (eq-eqb _ _ a, eq-eqb _ _ b) (eq-eqb (seen + one g) (startsIn m 0 g + (one g + startsIn m (g + 1) (s - 1))) (omega arith))
-      go (yes a) (no b) = rw (eq-eqb _ _ a, ne-eqb _ _ b) (ne-eqb (seen + one g) (startsIn m 0 g + (one g + startsIn m (g + 1) (s - 1))) (λ q. b (omega arith)))
-      go (no a) d = rw (ne-eqb _ _ a) (ne-eqb (seen + one g) (startsIn m 0 g + (one g + startsIn m (g + 1) (s - 1))) (λ q. a (omega arith)))
+      go : Dec (seen ≡ startsIn m 0 g) → Dec (startsIn m (g + 1) (s - 1) ≡ 0) → eqb (seen + startBit m g) (startsIn m 0 g + (startBit m g + startsIn m (g + 1) (s - 1))) ≡ (eqb seen (startsIn m 0 g) && eqb (startsIn m (g + 1) (s - 1)) 0)
+      go (yes a) (yes b) = rw (eq-eqb _ _ a, eq-eqb _ _ b) (eq-eqb (seen + startBit m g) (startsIn m 0 g + (startBit m g + startsIn m (g + 1) (s - 1))) (omega arith))
+      go (yes a) (no b) = rw (eq-eqb _ _ a, ne-eqb _ _ b) (ne-eqb (seen + startBit m g) (startsIn m 0 g + (startBit m g + startsIn m (g + 1) (s - 1))) (λ q. b (omega arith)))
+      go (no a) d = rw (ne-eqb _ _ a) (ne-eqb (seen + startBit m g) (startsIn m 0 g + (startBit m g + startsIn m (g + 1) (s - 1))) (λ q. a (omega arith)))
 
-  pub seen-few : (g s seen : ℕ) → 1 ≤ s → seen ≤ startsIn m 0 g → seen + one g ≤ startsIn m 0 (g + s)
+  pub seen-few : (g s seen : ℕ) → 1 ≤ s → seen ≤ startsIn m 0 g → seen + startBit m g ≤ startsIn m 0 (g + s)
   seen-few g s seen p h =
       let e : suc (s - 1) ≡ s = omega arith in
-      let q : startsIn m g s ≡ one g + startsIn m (g + 1) (s - 1) = rw e at (count-first g (s - 1)) in
+      let q : startsIn m g s ≡ startBit m g + startsIn m (g + 1) (s - 1) = rw e at (count-first g (s - 1)) in
       rw (count-split g s, q) (omega arith)
 
 -- ---- by words of start bits
-
-digit : (x : ℕ) → cond (eqb (x % 2) 1) 1 0 ≡ x % 2
-digit x = go (ℕ-discrete (x % 2) 1)
-  where
-    go : Dec (x % 2 ≡ 1) → cond (eqb (x % 2) 1) 1 0 ≡ x % 2
-    go (yes h) = rw (eq-eqb _ _ h, h)
-    go (no h) = rw (ne-eqb _ _ h) (omega arith)
 
 ones-zero : ones 0 ≡ 0
 unfolding ones onesIn
 ones-zero = refl
 
 module _ (w k : ℕ) (l : List ℕ) (i x : ℕ) (ex : x ≡ nth (imageOf w k l .starts) i) (lx : x < 2 ^ w) where
-  word-bit : (j : ℕ) → j < w → one (imageOf w k l) (w * i + j) ≡ x / 2 ^ j % 2
-  unfolding isStart testBit imageOf image
-  word-bit j h = rw (bit-at w (imageOf w k l .starts) i j h, ← ex) (digit (x / 2 ^ j))
+  word-bit : (j : ℕ) → j < w → startBit (imageOf w k l) (w * i + j) ≡ x / 2 ^ j % 2
+  unfolding isStart imageOf image
+  word-bit j h = rw (bit-at w (imageOf w k l .starts) i j h, ← ex) (bit-digit x j)
 
   word-ones : (n j : ℕ) → j + n ≡ w → ones (x / 2 ^ j) ≡ startsIn (imageOf w k l) (w * i + j) n
   unfolding startsIn

@@ -6,8 +6,10 @@ use Prim.Native.Nat.{ℕ, zero, suc, _+_, _*_, _≤_, _<_}
 use lib.Dec.{eqb, ltb}
 use lib.ListN.{take, drop}
 use Rattle.model.specs.Base.{all, every, distinct, eachPiece, zeroes}
-use Rattle.model.specs.Image.{Image, granules, word, isStart, links, link, count, entry, entries, scanned}
+use Rattle.model.specs.Image.{Image, granules, word, isStart, marked, links, link, count, entry, entries, scanned}
+use Rattle.image_laws.specs.Digits.{startBit}
 use Rattle.model.specs.Undamaged.{piece, zeroGranule, filled, nilOrStart, linksOk, regOk, playerOk, cardOk, generalOk, markOk, entryOk, packetOk, tracerOk, heldAt, heldOnce}
+use Rattle.model.specs.Steps.{run}
 
 -- the granules of bit word i pass, where a word has w bits
 unfoldable pub atWord : ℕ → (ℕ → Bool) → ℕ → ℕ → Bool
@@ -22,7 +24,7 @@ module _ (m : Image) where
   -- how many of the n granules from a on are starts
   unfoldable pub startsIn : ℕ → ℕ → ℕ
   startsIn a zero = 0
-  startsIn a (suc n) = startsIn a n + cond (isStart m (a + n)) 1 0
+  startsIn a (suc n) = startsIn a n + startBit m (a + n)
 
   unfoldable pub linkOk : ℕ → ℕ → Bool
   linkOk g i = nilOrStart m (link m g i)
@@ -48,6 +50,9 @@ module _ (m : Image) where
 
   unfoldable pub entryOkAt : ℕ → ℕ → Bool
   entryOkAt p e = entryOk m (ltb e (count m p)) (entry m p e)
+
+  unfoldable pub entryMarked : ℕ → ℕ → Bool
+  entryMarked p e = marked m (entry m p e)
 
   -- places x and y hold no packet in common
   unfoldable pub apart : ℕ → ℕ → Bool

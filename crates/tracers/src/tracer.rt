@@ -1,10 +1,10 @@
 // Tracers by value: "input packet + 1, output packet + 1, object in hand, its next link, card in hand + 1, next granule on it".
 ghost use mathlib.Core.Path.{_≡_};
-ghost use Prim.Native.Nat.{ℕ, _+_, _*_, _<_};
+ghost use Prim.Native.Nat.{ℕ, _+_, _*_, _^_, _<_};
 ghost use Rattle.model.specs.Image.{imageOf};
 ghost use Rattle.image_laws.specs.Sized.{Sized};
 ghost use Rattle.image.specs.Layout.{width};
-ghost use Rattle.tracers_laws.specs.Tracer.{tracerAt, withInput, withOutput, withHand, withCard, withTracer};
+ghost use Rattle.tracers_laws.specs.Tracer.{tracerAt, linkDone, objectInHand, cardTaken, granuleMovesOn, cardLetGo, packetBecomesInput, outputBecomesInput, outputGoesBack, outputTaken, withTracer};
 ghost use Rattle.tracers.specs.Plain.{tracerOf};
 use image::layout::Word;
 
@@ -17,36 +17,90 @@ pub struct Tracer {
     pub granule: Word,
 }
 
+// Each method is a sentence of reach, trace or clean, and hands back the next state. A packet is given by its number + 1.
 impl Tracer {
-    pub fn with_input(mut self, v: Word) -> Self
-        ensures { λ r. ⌜ tracerOf r ≡ withInput (tracerOf self) v ⌝ }
+    // "that link is reached, and after the last the hand is empty": the object has n links.
+    pub fn link_done(mut self, n: Word) -> Self
+        requires { ⌜ self .link < n ⌝ }
+        ensures { λ r. ⌜ tracerOf r ≡ linkDone (tracerOf self) n ⌝ }
     {
-        self.input = v;
+        if self.link + 1 < n {
+            self.link = self.link + 1;
+            return self;
+        }
+        self.hand = 0;
+        self.link = 0;
         self
     }
 
-    pub fn with_output(mut self, v: Word) -> Self
-        ensures { λ r. ⌜ tracerOf r ≡ withOutput (tracerOf self) v ⌝ }
-    {
-        self.output = v;
-        self
-    }
-
-    // Object g in hand, link i its next.
-    pub fn with_hand(mut self, g: Word, i: Word) -> Self
-        ensures { λ r. ⌜ tracerOf r ≡ withHand (tracerOf self) g i ⌝ }
+    // "it goes in hand at link 0"
+    pub fn object_in_hand(mut self, g: Word) -> Self
+        ensures { λ r. ⌜ tracerOf r ≡ objectInHand (tracerOf self) g ⌝ }
     {
         self.hand = g;
-        self.link = i;
+        self.link = 0;
         self
     }
 
-    // Card c - 1 in hand, granule n its next.
-    pub fn with_card(mut self, c: Word, n: Word) -> Self
-        ensures { λ r. ⌜ tracerOf r ≡ withCard (tracerOf self) c n ⌝ }
+    // "the lowest card .. is in hand at its first granule"
+    pub fn card_taken(mut self, c: Word) -> Self
+        requires { ⌜ 64 * (c + 1) < 2 ^ width ⌝ }
+        ensures { λ r. ⌜ tracerOf r ≡ cardTaken (tracerOf self) c ⌝ }
     {
-        self.card = c;
-        self.granule = n;
+        self.card = c + 1;
+        self.granule = 64 * c;
+        self
+    }
+
+    // "the next granule is the one after its start": the start of the object at g
+    pub fn granule_moves_on(mut self, g: Word) -> Self
+        requires { ⌜ g + 1 < 2 ^ width ⌝ }
+        ensures { λ r. ⌜ tracerOf r ≡ granuleMovesOn (tracerOf self) g ⌝ }
+    {
+        let next = g + 1;
+        self.granule = next;
+        self
+    }
+
+    // "the card is let go"
+    pub fn card_let_go(mut self) -> Self
+        ensures { λ r. ⌜ tracerOf r ≡ cardLetGo (tracerOf self) ⌝ }
+    {
+        self.card = 0;
+        self.granule = 0;
+        self
+    }
+
+    // "the input goes back and the fullest pool packet .. becomes input"
+    pub fn packet_becomes_input(mut self, p: Word) -> Self
+        ensures { λ r. ⌜ tracerOf r ≡ packetBecomesInput (tracerOf self) p ⌝ }
+    {
+        self.input = p;
+        self
+    }
+
+    // "the input goes back and the output becomes input"
+    pub fn output_becomes_input(mut self) -> Self
+        ensures { λ r. ⌜ tracerOf r ≡ outputBecomesInput (tracerOf self) ⌝ }
+    {
+        self.input = self.output;
+        self.output = 0;
+        self
+    }
+
+    // "A full or absent output packet first goes back"
+    pub fn output_goes_back(mut self) -> Self
+        ensures { λ r. ⌜ tracerOf r ≡ outputGoesBack (tracerOf self) ⌝ }
+    {
+        self.output = 0;
+        self
+    }
+
+    // "the pool packet .. is taken. If there is none, no packet is held as output": then p is 0.
+    pub fn output_taken(mut self, p: Word) -> Self
+        ensures { λ r. ⌜ tracerOf r ≡ outputTaken (tracerOf self) p ⌝ }
+    {
+        self.output = p;
         self
     }
 }
@@ -66,6 +120,7 @@ pub fn read_tracer(im: &[Word], k: usize, t: usize) -> Tracer
     }
 }
 
+// All that writes a tracer.
 pub fn write_tracer(im: &mut [Word], k: usize, t: usize, x: Tracer)
     requires { ⌜ Sized width k (now im) ⌝ }
     requires { ⌜ t < 8 ⌝ }

@@ -1,17 +1,21 @@
 -- A tracer read from the image and written back: what its next states by value do to the image.
 use mathlib.Core.Path.{_≡_, refl, sym, ap, _∙_}
+use mathlib.Core.Bool.{Bool, true, false, cond}
 use mathlib.Core.List.{List, [], _∷_}
 use Prim.Native.Nat.{ℕ, zero, suc, _+_, _*_, _≤_, _<_}
 use native.Mathlib.Omega.{arith}
+use native.Mathlib.Numerals.{add-one}
+use lib.Dec.{ltb}
 use lib.ListN.{length, getD}
 use lib.Seq.{drop-cons}
 use borrow.Rule.Slice.PartMut.{midOf, putMid}
+use borrow.Author.Tests.{lt-ltb, le-ltb}
 use Rattle.model.specs.Base.{nth, put}
 use Rattle.model.specs.Image.{Image, sections, imageOf, image, tracersAt, input, output, hand, nextLink, handCard, nextGranule, setTracer, withTracers}
 use Rattle.image_laws.specs.Sized.{Sized}
 use Rattle.image_laws.proofs.Sections.{image-fits}
 use Rattle.model.specs.Collect.{putHand, putCard}
-use Rattle.tracers_laws.specs.Tracer.{Tracer, tracerAt, withInput, withOutput, withHand, withCard, withTracer}
+use Rattle.tracers_laws.specs.Tracer.{Tracer, tracerAt, atNextLink, handEmpty, linkDone, objectInHand, cardTaken, granuleMovesOn, cardLetGo, packetBecomesInput, outputBecomesInput, outputGoesBack, outputTaken, withTracer}
 use Rattle.tracers_laws.proofs.Writes.{Write, write, Below, inStretch, inList, writes}
 
 pub tracers-long : {w k : ℕ} {ws : List ℕ} → Sized w k ws → length (imageOf w k ws .tracers) ≡ 64
@@ -42,13 +46,18 @@ mid-six l o h =
     let e : suc (suc (suc (suc (suc o)))) ≡ o + 5 = omega arith in
     rw (e, d, c, b, a) at (mid-from 6 l o h)
 
--- All six words written are those of r written, where the rest is as it was.
-six-writes : (l : List ℕ) (o a b c d e f : ℕ) (r : List Write) → o + 6 ≤ length l → Below 6 r → inStretch (six l o) r ≡ a ∷ b ∷ c ∷ d ∷ e ∷ f ∷ []
-    → inList o l (write 0 a ∷ write 1 b ∷ write 2 c ∷ write 3 d ∷ write 4 e ∷ write 5 f ∷ []) ≡ inList o l r
-six-writes l o a b c d e f r h s q =
-    let w = write 0 a ∷ write 1 b ∷ write 2 c ∷ write 3 d ∷ write 4 e ∷ write 5 f ∷ [] in
-    sym (writes o 6 l w (omega arith, (omega arith, (omega arith, (omega arith, (omega arith, (omega arith, tt)))))))
-    ∙ (rw (mid-six l o h) (ap (putMid o 6 l) (sym q)) ∙ (ap (λ x. putMid o 6 l (inStretch x r)) (sym (mid-six l o h)) ∙ writes o 6 l r s))
+-- the six words of a state written, then r
+abbrev words-then : Tracer → List Write → List Write
+words-then x r = write 0 (x .input) ∷ write 1 (x .output) ∷ write 2 (x .hand) ∷ write 3 (x .link) ∷ write 4 (x .card) ∷ write 5 (x .granule) ∷ r
+
+words-below : (x : Tracer) (r : List Write) → Below 6 r → Below 6 (words-then x r)
+words-below x r b = (omega arith, (omega arith, (omega arith, (omega arith, (omega arith, (omega arith, b))))))
+
+-- Writes that leave the same six words leave the same list.
+same-writes : (l : List ℕ) (o : ℕ) (r s : List Write) → o + 6 ≤ length l → Below 6 r → Below 6 s → inStretch (six l o) r ≡ inStretch (six l o) s → inList o l r ≡ inList o l s
+same-writes l o r s h b c q =
+    let mid : (u : List Write) → putMid o 6 l (inStretch (midOf o 6 l) u) ≡ putMid o 6 l (inStretch (six l o) u) = λ u. ap (λ x. putMid o 6 l (inStretch x u)) (mid-six l o h) in
+    sym (writes o 6 l r b) ∙ (mid r ∙ (ap (putMid o 6 l) q ∙ (sym (mid s) ∙ writes o 6 l s c)))
 
 -- ---- read and written
 
@@ -62,22 +71,72 @@ pub tracer-written : (m n₀ n₁ n₂ n₃ n₄ n₅ : Image) (t : ℕ) (x : Tr
 unfolding withTracer
 tracer-written m n₀ n₁ n₂ n₃ n₄ n₅ t x a b c d e f = rw (f, e, d, c, b, a)
 
--- ---- the next states of a tracer
+-- ---- a link done
+
+module _ (x : Tracer) (n : ℕ) where
+  pub link-next : x .link + 1 < n → atNextLink x ≡ linkDone x n
+  unfolding linkDone
+  link-next h = rw (lt-ltb (x .link + 1) n h)
+
+  pub link-last : n ≤ x .link + 1 → handEmpty x ≡ linkDone x n
+  unfolding linkDone
+  link-last h = rw (le-ltb (x .link + 1) n h)
+
+-- ---- the image with the next state written is the model's
+
+unfoldable tracer-open : ℕ
+unfolding tracerAt withTracer setTracer withTracers put input output hand nextLink handCard nextGranule
+tracer-open = 0
 
 module _ (m : Image) (t : ℕ) (h : t < 8) (l : length (m .tracers) ≡ 64) where
-  pub input-written : (v : ℕ) → withTracer m t (withInput (tracerAt m t) v) ≡ setTracer m t 0 v
-  unfolding withTracer withInput tracerAt setTracer withTracers put input output hand nextLink handCard nextGranule
-  input-written v = ap (withTracers m) (six-writes (m .tracers) (8 * t) v _ _ _ _ _ (write 0 v ∷ []) (omega arith) (omega arith, tt) refl)
+  -- a state written is these writes, if they leave the same six words
+  by-writes : (x : Tracer) (r : List Write) → Below 6 r → inStretch (six (m .tracers) (8 * t)) (words-then x []) ≡ inStretch (six (m .tracers) (8 * t)) r → withTracer m t x ≡ withTracers m (inList (8 * t) (m .tracers) r)
+  unfolding tracer-open
+  by-writes x r b q = ap (withTracers m) (same-writes (m .tracers) (8 * t) (words-then x []) r (omega arith) (words-below x [] tt) b q)
 
-  pub hand-written : (g i : ℕ) → withTracer m t (withHand (tracerAt m t) g i) ≡ putHand m t g i
-  unfolding withTracer withHand tracerAt putHand setTracer withTracers put input output hand nextLink handCard nextGranule
-  hand-written g i = ap (withTracers m) (six-writes (m .tracers) (8 * t) _ _ g i _ _ (write 2 g ∷ write 3 i ∷ []) (omega arith) (omega arith, (omega arith, tt)) refl)
+  -- of two states written the last stays
+  pub written-again : (x y : Tracer) → withTracer (withTracer m t x) t y ≡ withTracer m t y
+  unfolding tracer-open
+  written-again x y =
+      let b = words-below y [] tt in
+      sym (by-writes y (words-then x (words-then y [])) (words-below x (words-then y []) b) refl)
 
-  pub card-written : (c n : ℕ) → withTracer m t (withCard (tracerAt m t) c n) ≡ putCard m t c n
-  unfolding withTracer withCard tracerAt putCard setTracer withTracers put input output hand nextLink handCard nextGranule
-  card-written c n = ap (withTracers m) (six-writes (m .tracers) (8 * t) _ _ _ _ c n (write 4 c ∷ write 5 n ∷ []) (omega arith) (omega arith, (omega arith, tt)) refl)
+  pub link-done-written : (n : ℕ) → withTracer m t (linkDone (tracerAt m t) n) ≡ cond (ltb (suc (nextLink m t)) n) (putHand m t (hand m t) (suc (nextLink m t))) (putHand m t 0 0)
+  unfolding linkDone putHand tracer-open
+  link-done-written n = rw (← add-one (nextLink m t)) (go (ltb (nextLink m t + 1) n))
+    where
+      go : (b : Bool) → withTracer m t (cond b (atNextLink (tracerAt m t)) (handEmpty (tracerAt m t))) ≡ cond b (putHand m t (hand m t) (nextLink m t + 1)) (putHand m t 0 0)
+      go true = by-writes _ (write 2 (hand m t) ∷ write 3 (nextLink m t + 1) ∷ []) (omega arith, (omega arith, tt)) refl
+      go false = by-writes _ (write 2 0 ∷ write 3 0 ∷ []) (omega arith, (omega arith, tt)) refl
 
-  pub input-output-written : (v w : ℕ) → withTracer m t (withOutput (withInput (tracerAt m t) v) w) ≡ setTracer (setTracer m t 0 v) t 1 w
-  unfolding withTracer withOutput withInput tracerAt setTracer withTracers put input output hand nextLink handCard nextGranule
-  input-output-written v w =
-      ap (withTracers m) (six-writes (m .tracers) (8 * t) v w _ _ _ _ (write 0 v ∷ write 1 w ∷ []) (omega arith) (omega arith, (omega arith, tt)) refl)
+  pub object-written : (g : ℕ) → withTracer m t (objectInHand (tracerAt m t) g) ≡ putHand m t g 0
+  unfolding objectInHand putHand tracer-open
+  object-written g = by-writes _ (write 2 g ∷ write 3 0 ∷ []) (omega arith, (omega arith, tt)) refl
+
+  pub card-taken-written : (c : ℕ) → withTracer m t (cardTaken (tracerAt m t) c) ≡ putCard m t (suc c) (64 * c)
+  unfolding cardTaken putCard tracer-open
+  card-taken-written c = rw (← add-one c) (by-writes _ (write 4 (c + 1) ∷ write 5 (64 * c) ∷ []) (omega arith, (omega arith, tt)) refl)
+
+  pub granule-written : (g : ℕ) → withTracer m t (granuleMovesOn (tracerAt m t) g) ≡ putCard m t (handCard m t) (suc g)
+  unfolding granuleMovesOn putCard tracer-open
+  granule-written g = rw (← add-one g) (by-writes _ (write 4 (handCard m t) ∷ write 5 (g + 1) ∷ []) (omega arith, (omega arith, tt)) refl)
+
+  pub let-go-written : withTracer m t (cardLetGo (tracerAt m t)) ≡ putCard m t 0 0
+  unfolding cardLetGo putCard tracer-open
+  let-go-written = by-writes _ (write 4 0 ∷ write 5 0 ∷ []) (omega arith, (omega arith, tt)) refl
+
+  pub input-written : (p : ℕ) → withTracer m t (packetBecomesInput (tracerAt m t) p) ≡ setTracer m t 0 p
+  unfolding packetBecomesInput tracer-open
+  input-written p = by-writes _ (write 0 p ∷ []) (omega arith, tt) refl
+
+  pub output-input-written : withTracer m t (outputBecomesInput (tracerAt m t)) ≡ setTracer (setTracer m t 0 (output m t)) t 1 0
+  unfolding outputBecomesInput tracer-open
+  output-input-written = by-writes _ (write 0 (output m t) ∷ write 1 0 ∷ []) (omega arith, (omega arith, tt)) refl
+
+  pub output-back-written : withTracer m t (outputGoesBack (tracerAt m t)) ≡ setTracer m t 1 0
+  unfolding outputGoesBack tracer-open
+  output-back-written = by-writes _ (write 1 0 ∷ []) (omega arith, tt) refl
+
+  pub output-taken-written : (p : ℕ) → withTracer m t (outputTaken (tracerAt m t) p) ≡ setTracer m t 1 p
+  unfolding outputTaken tracer-open
+  output-taken-written p = by-writes _ (write 1 p ∷ []) (omega arith, tt) refl

@@ -1,9 +1,14 @@
 //! Images and lists for the timings, made by the second implementation.
 
 use reference::generate::{list, Pace};
+use reference::image::Store;
 use reference::made::fresh_image;
 use reference::random::Random;
-use reference::record::Record;
+use reference::record::{Record, CLEAN, SCAN, TRACE};
+use reference::steps::step;
+
+pub const BEGIN: [u8; 8] = [9, 0, 0, 0, 0, 0, 0, 0];
+pub const FINISH: [u8; 8] = [13, 0, 0, 0, 0, 0, 0, 0];
 
 /// The image that some steps leave.
 pub fn after(image: &[u16], steps: &[u8]) -> Vec<u16> {
@@ -43,19 +48,20 @@ fn chain(k: usize, size: u16, links: u16) -> Vec<u16> {
     after(&fresh_image(k), &steps)
 }
 
-/// The image with marking done: every player scanned, then traced and cleaned until nothing is left to do.
-pub fn marked(begun: &[u16]) -> Vec<u16> {
+/// The tracers' steps that are accepted from a begin to the end of marking: every player scanned, then traced, and cleaned where
+/// nothing is left to trace, until neither finds anything to do.
+pub fn marking(begun: &[u16]) -> Vec<u8> {
     let mut image = begun.to_vec();
-    let mut steps: Vec<u8> = (0..16).flat_map(|player| Record::new(10, 0, player, 0, 0).to_bytes()).collect();
-    image = after(&image, &steps);
-    loop {
-        steps = (0..2_000).flat_map(|n| Record::new(if n % 50 == 49 { 12 } else { 11 }, 0, 0, 0, 0).to_bytes()).collect();
-        let mut answers = vec![0; 4_000];
-        assert_eq!(reference::batch(&mut image, &steps, &mut answers), 0);
-        if answers.chunks(2).all(|answer| answer[0] == 11) {
-            return image;
-        }
-    }
+    let mut store = Store::of(&mut image).expect("a fitting length");
+    let mut accepted = Vec::new();
+    let mut does = |record: Record| {
+        let is_accepted = step(&mut store, record) == (0, 0);
+        accepted.extend(record.to_bytes().iter().filter(|_| is_accepted));
+        is_accepted
+    };
+    (0..16).for_each(|player| assert!(does(Record::new(SCAN, 0, player, 0, 0))));
+    while does(Record::new(TRACE, 0, 0, 0, 0)) || does(Record::new(CLEAN, 0, 0, 0, 0)) {}
+    accepted
 }
 
 /// The middle of a cycle: one player scanned and a tracer's steps run, as many as there are cues.

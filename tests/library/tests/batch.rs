@@ -1,7 +1,9 @@
 //! `batch` of the proved library against the second implementation, memory for memory.
 
 use library::guarded::Guarded;
+use reference::demand::found_no_packet;
 use reference::generate::{batches, list, spoil, Pace};
+use reference::image::Image;
 use reference::made::{fresh_image, idle, running, starved, STARVED_CARDS};
 use reference::random::Random;
 use reference::record::{records, Record, RECORD_BYTES};
@@ -11,27 +13,48 @@ use reference::{whole_list, Counts};
 const GUARD: u16 = 0xa55a;
 const BYTE_GUARD: u8 = 0x77;
 
-/// What a run has shown: steps, accepted ones by kind, numbers, refused batches.
+/// What a run has shown: steps, accepted ones by kind, steps of no kind, numbers, refused batches, and in batches of one step those
+/// that found no packet for an object.
 #[derive(Debug, Default)]
 struct Seen {
     steps: usize,
     accepted: [usize; 15],
+    unknown_kinds: usize,
     numbers: [usize; 12],
     refused: usize,
+    without_packet: usize,
+}
+
+impl Seen {
+    fn count(&mut self, steps: &[u8], answers: &[u16]) {
+        for (record, answer) in records(steps).zip(answers.chunks(2)) {
+            self.steps += 1;
+            self.unknown_kinds += usize::from(!(1..=14).contains(&record.kind));
+            self.numbers[usize::from(answer[0])] += 1;
+            if answer[0] == 0 {
+                self.accepted[usize::from(record.kind)] += 1;
+            }
+        }
+    }
+
+    fn every_refusal(&self) -> bool {
+        (3..=11).all(|number| self.numbers[number] > 0)
+    }
 }
 
 /// One call of both: same result, image and answers, and nothing else touched.
-fn same(image: &mut Vec<u16>, steps: &[u8], answer_words: usize, seen: &mut Seen) {
+fn same(image: &mut [u16], steps: &[u8], answer_words: usize, seen: &mut Seen) {
     let answers = vec![UNTOUCHED; answer_words];
     let mut lent = Guarded::new(image, GUARD);
     let lent_steps = Guarded::new(steps, BYTE_GUARD);
     let mut lent_answers = Guarded::new(&answers, GUARD);
     let result = library::batch(lent.items_mut(), lent_steps.items(), lent_answers.items_mut());
 
+    let got = image.to_vec();
     let mut others = answers;
     let wanted = reference::batch(image, steps, &mut others);
     assert_eq!(result, wanted, "result of a batch of {} bytes on {} words", steps.len(), image.len());
-    assert!(lent.items() == &image[..], "image after {steps:02x?}");
+    assert!(lent.items() == image, "image after {steps:02x?}");
     assert_eq!(lent_answers.items(), others, "answers of {steps:02x?}");
     assert!(lent.guards_stand() && lent_answers.guards_stand(), "memory outside the slices");
     assert!(lent_steps.guards_stand() && lent_steps.items() == steps, "step bytes written");
@@ -40,12 +63,10 @@ fn same(image: &mut Vec<u16>, steps: &[u8], answer_words: usize, seen: &mut Seen
         seen.refused += 1;
         return;
     }
-    for (record, answer) in records(steps).zip(others.chunks(2)) {
-        seen.steps += 1;
-        seen.numbers[usize::from(answer[0])] += 1;
-        if answer[0] == 0 {
-            seen.accepted[usize::from(record.kind)] += 1;
-        }
+    seen.count(steps, &others);
+    if steps.len() == RECORD_BYTES && others[0] == 0 {
+        let (got, left) = (Image::of(&got).unwrap(), Image::of(image).unwrap());
+        seen.without_packet += usize::from(found_no_packet(steps, got, left));
     }
 }
 
@@ -63,8 +84,8 @@ fn assert_worth_running(seen: &Seen, steps: usize) {
     assert!(seen.steps >= steps, "{} steps", seen.steps);
     assert!(seen.numbers[0] * 100 >= seen.steps * 60);
     assert!((1..=14).all(|kind| seen.accepted[kind] > 0), "a kind was never accepted");
-    assert!((3..=11).all(|number| seen.numbers[number] > 0), "a number was never given");
-    assert!(seen.refused > 0);
+    assert!(seen.every_refusal(), "a number was never given");
+    assert!(seen.unknown_kinds > 0 && seen.refused > 0);
 }
 
 #[test]
@@ -104,10 +125,19 @@ fn from_images_without_packets() {
     let mut random = Random::new(104);
     let mut seen = Seen::default();
     for _ in 0..150 {
-        let image = starved(&mut random, STARVED_CARDS);
-        run(&mut random, image, 150, &mut seen);
+        // The more cards, the more objects are left that no packet has room for.
+        let k = random.from_to(STARVED_CARDS, STARVED_CARDS + 8);
+        let mut image = starved(&mut random, k);
+        let pace = Pace { wild: 3, finish: 1, tracers: 40 };
+        let steps = list(&mut random, &mut image.clone(), 150, pace);
+        // One step a batch: what a step finds is seen from the images before and after.
+        for step in steps.chunks(RECORD_BYTES) {
+            same(&mut image, step, 2, &mut seen);
+        }
     }
-    assert!(seen.steps >= 20_000);
+    println!("{seen:?}");
+    assert!(seen.steps >= 20_000 && seen.every_refusal());
+    assert!(seen.without_packet > 200, "{} steps found no packet", seen.without_packet);
 }
 
 #[test]
@@ -127,7 +157,9 @@ fn from_large_images() {
             same(&mut image, part, part.len() / RECORD_BYTES * 2, &mut seen);
         }
     }
-    assert!(seen.steps == 12_000);
+    println!("{seen:?}");
+    assert!(seen.steps == 12_000 && seen.every_refusal());
+    assert!((1..=14).all(|kind| seen.accepted[kind] > 0), "a kind was never accepted");
 }
 
 #[test]
@@ -145,6 +177,23 @@ fn damaged_images() {
         }
     }
     assert!(seen.refused > 5_000 && seen.steps == 0);
+}
+
+/// Records of random bytes, of which few have a kind and fewer stand on the desk; each kind alone with random fields beside.
+#[test]
+fn random_records() {
+    let mut random = Random::new(108);
+    let mut seen = Seen::default();
+    for round in 0..400 {
+        let mut image = if round % 2 == 0 { running(&mut random, 2) } else { idle(&mut random, 2) };
+        let mut steps: Vec<u8> = (0..100 * RECORD_BYTES).map(|_| random.word() as u8).collect();
+        let of_a_kind = steps.chunks_mut(RECORD_BYTES).take(50);
+        of_a_kind.for_each(|record| record[0] = random.from_to(1, 14) as u8);
+        same(&mut image, &steps, 200, &mut seen);
+    }
+    println!("{seen:?}");
+    assert!(seen.steps == 40_000 && seen.unknown_kinds > 10_000);
+    assert!(seen.numbers[3] > 20_000 && seen.numbers[4] > 1_000, "{seen:?}");
 }
 
 #[test]
@@ -224,5 +273,8 @@ fn whole_lists() {
         counts.add(&whole_list(&image, &batches, library::batch).unwrap());
     }
     println!("{counts:?}");
+    assert!((3..=11).all(|number| counts.numbers[number] > 0) && counts.unknown_kinds > 0);
+    assert!((1..=14).all(|kind| counts.accepted[kind] > 0), "a kind was never accepted");
+    assert!(counts.finishes_that_find > 50 && counts.refused_batches > 0);
     assert!(counts.steps >= 100_000 && counts.garbage_freed > 100 && counts.finishes_that_free > 100);
 }

@@ -1,7 +1,10 @@
 //! `fresh` and `judge` of the proved library against the second implementation, on 200,000 images and more.
 
+use std::ops::Range;
+
 use library::guarded::Guarded;
 use reference::generate::spoil;
+use reference::layout::Layout;
 use reference::made::{fresh_image, idle, loose, running, starved, uncovered_image, STARVED_CARDS};
 use reference::random::Random;
 
@@ -14,13 +17,14 @@ struct Verdicts {
 }
 
 impl Verdicts {
-    /// Both implementations say the same, and nothing is written.
-    fn same(&mut self, image: &[u16]) {
+    /// Both implementations say the same, and nothing is written. Gives what they say.
+    fn same(&mut self, image: &[u16]) -> u16 {
         let lent = Guarded::new(image, GUARD);
         let said = library::judge(lent.items());
         assert_eq!(said, reference::judge(image), "{} words", image.len());
         assert!(lent.guards_stand() && lent.items() == image, "judge wrote into {} words", image.len());
         self.of[usize::from(said)] += 1;
+        said
     }
 
     fn sum(&self) -> usize {
@@ -73,6 +77,7 @@ fn one_word_altered_at_every_place() {
     assert!(verdicts.sum() > 120_000 && verdicts.of[0] > 1_000 && verdicts.of[2] > 1_000);
 }
 
+/// Nothing but random words: no image is so, and the first words show it.
 #[test]
 fn random_words() {
     let mut random = Random::new(43);
@@ -80,6 +85,53 @@ fn random_words() {
     for _ in 0..3_000 {
         let words: Vec<u16> = (0..reference::length(1)).map(|_| random.word()).collect();
         verdicts.same(&words);
+    }
+    assert_eq!(verdicts.of, [0, 0, 3_000]);
+}
+
+/// A part of an image, the largest word drawn for it, and whether another word may stand in it undamaged.
+struct Part {
+    what: &'static str,
+    places: Range<usize>,
+    most: u16,
+    is_free: bool,
+}
+
+fn parts(layout: Layout) -> [Part; 9] {
+    let part = |what, from, to, most, is_free| Part { what, places: from..to, most, is_free };
+    [
+        part("heap", 0, layout.start_bits(), 64, true),
+        part("start bits", layout.start_bits(), layout.mark_bits(), u16::MAX, false),
+        part("mark bits", layout.mark_bits(), layout.card(0), u16::MAX, true),
+        part("cards", layout.card(0), layout.register(0, 0), 4, true),
+        part("registers", layout.register(0, 0), layout.packet(0), 64, true),
+        part("packets", layout.packet(0), layout.tracer(0), 30, false),
+        part("tracers", layout.tracer(0), layout.player(0), 32, true),
+        part("players", layout.player(0), layout.general(), 2, true),
+        part("general", layout.general(), layout.length(), 64, false),
+    ]
+}
+
+/// Random words in a few places of one part of a made image: the other parts stand, so that this part decides. Every part is seen
+/// to damage an image, and those that are free to hold another word to do so undamaged.
+#[test]
+fn random_words_in_each_part() {
+    let mut random = Random::new(46);
+    for part in parts(Layout { cards: 1 }) {
+        let mut verdicts = Verdicts::default();
+        let mut altered = 0;
+        for _ in 0..2_000 {
+            let made = running(&mut random, 1);
+            let mut words = made.clone();
+            for _ in 0..random.from_to(1, 3) {
+                let place = random.from_to(part.places.start, part.places.end - 1);
+                words[place] = random.from_to(0, usize::from(part.most)) as u16;
+            }
+            altered += usize::from(verdicts.same(&words) == 0 && words != made);
+        }
+        println!("{}: {:?}, altered and undamaged: {altered}", part.what, verdicts.of);
+        assert!(verdicts.of[2] > 200, "{}: {:?}", part.what, verdicts.of);
+        assert!(altered > 10 || !part.is_free, "{}: {altered}", part.what);
     }
 }
 
@@ -98,7 +150,9 @@ fn every_length() {
             verdicts.same(&fresh_image(k));
         }
     }
+    // Lengths that fit are 512 from 1 to 512 cards, all zero and damaged; 11 of them are among the first 3,001 too.
     assert_eq!(verdicts.of[0], 512);
+    assert!(verdicts.of[2] >= 512 && verdicts.of[1] > 4_000);
 }
 
 #[test]
@@ -114,18 +168,23 @@ fn large_images() {
             verdicts.same(&idle(&mut random, k));
         }
     }
+    assert!(verdicts.sum() == 60 && verdicts.of[0] >= 40 && verdicts.of[2] > 0, "{:?}", verdicts.of);
 }
 
 #[test]
 fn fresh_stores() {
     let mut random = Random::new(45);
-    let lengths = (0..=3_000).chain((1..=513).flat_map(|k| [-1, 0, 1].map(|d| (reference::length(k) as isize + d) as usize)));
+    let mut made = 0;
+    let lengths =
+        (0..=3_000).chain((1..=513).flat_map(|k| [-1, 0, 1].map(|d| (reference::length(k) as isize + d) as usize)));
     for length in lengths {
         let words: Vec<u16> = (0..length).map(|_| random.word()).collect();
         let mut lent = Guarded::new(&words, GUARD);
         let mut other = words.clone();
         let result = library::fresh(lent.items_mut());
+        made += usize::from(result == 0);
         assert_eq!(result, reference::fresh(&mut other), "{length} words");
         assert!(lent.guards_stand() && lent.items() == other, "{length} words");
     }
+    assert!(made >= 512, "{made}");
 }

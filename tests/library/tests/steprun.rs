@@ -1,5 +1,6 @@
 //! The program steprun: what it prints against what the second implementation says it prints.
 
+use std::collections::BTreeSet;
 use std::io::Write;
 use std::path::PathBuf;
 use std::process::{Command, Stdio};
@@ -52,7 +53,9 @@ fn stored_list_has_every_kind() {
 #[test]
 fn lengths() {
     let mut random = Random::new(61);
-    for length in [0, 1, 7, 8, 9, 16, MOST_BYTES - 8, MOST_BYTES - 1, MOST_BYTES, MOST_BYTES + 1, MOST_BYTES + 8, 20_000] {
+    for length in
+        [0, 1, 7, 8, 9, 16, MOST_BYTES - 8, MOST_BYTES - 1, MOST_BYTES, MOST_BYTES + 1, MOST_BYTES + 8, 20_000]
+    {
         same(&vec![0; length]);
         same(&(0..length).map(|_| random.word() as u8).collect::<Vec<u8>>());
     }
@@ -63,9 +66,18 @@ fn lengths() {
 #[test]
 fn random_lists() {
     let mut random = Random::new(62);
+    let mut numbers = BTreeSet::new();
     for _ in 0..60 {
         let pace = Pace::draw(&mut random);
         let count = random.from_to(1, MOST_BYTES / 8);
-        same(&list(&mut random, &mut fresh_image(CARDS), count, pace));
+        let steps = list(&mut random, &mut fresh_image(CARDS), count, pace);
+        same(&steps);
+        numbers.extend(lines(&steps).lines().filter_map(number));
     }
+    assert_eq!(numbers, BTreeSet::from([0, 3, 4, 5, 6, 7, 8, 9, 10, 11]));
+}
+
+/// The third of a line: "place from 1, kind, number, value".
+fn number(line: &str) -> Option<u16> {
+    line.split(' ').nth(2)?.parse().ok()
 }

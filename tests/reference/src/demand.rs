@@ -1,14 +1,26 @@
 //! The check of whole lists of steps: batches run through any implementation of `batch`, their
-//! history, and what must hold of it.
+//! history, and what must hold of it. Records are read here by their bytes and by the plain store, never by `crate::record`,
+//! which the real steps use.
 
 use std::collections::{BTreeMap, BTreeSet};
 
 use crate::image::{Image, Object};
 use crate::judge::first_damage;
 use crate::layout::{card_of, GRANULE_WORDS};
+use crate::plain::record::is_of_a_player;
 use crate::plain::{Name, Plain, Reference, Value};
-use crate::record::*;
 use crate::vectors::UNTOUCHED;
+
+/// "records of 8 bytes with no header"
+const RECORD_BYTES: usize = 8;
+
+/// The kinds that the check tells apart, as document 01 numbers them.
+const NEW: u8 = 1;
+const LOAD: u8 = 2;
+const BEGIN: u8 = 9;
+const SCAN: u8 = 10;
+const CLEAN: u8 = 12;
+const FINISH: u8 = 13;
 
 /// What a list has shown, so that a test can see that it was worth running.
 #[derive(Clone, Debug, Default, PartialEq, Eq)]
@@ -65,7 +77,7 @@ pub fn whole_list(
 /// A record of an accepted batch with the image it got, the image it left, and its answer.
 struct Moment<'a> {
     place: usize,
-    record: Record,
+    bytes: &'a [u8],
     got: Image<'a>,
     left: Image<'a>,
     number: u16,
@@ -73,12 +85,16 @@ struct Moment<'a> {
 }
 
 impl Moment<'_> {
+    fn kind(&self) -> u8 {
+        self.bytes[0]
+    }
+
     fn is_accepted(&self, kind: u8) -> bool {
-        self.record.kind == kind && self.number == 0
+        self.kind() == kind && self.number == 0
     }
 
     fn is_new_without_room(&self) -> bool {
-        self.record.kind == NEW && self.number == 9
+        self.kind() == NEW && self.number == 9
     }
 }
 
@@ -143,8 +159,7 @@ impl List {
         run: &mut impl FnMut(&mut [u16], &[u8], &mut [u16]) -> u16,
     ) -> Result<[u16; 2], String> {
         let place = self.counts.steps;
-        let record = Record::from_bytes(bytes);
-        let say = |e: String| format!("step {place}, {record:?}: {e}");
+        let say = |e: String| format!("step {place}, {bytes:02x?}: {e}");
         let mut left = image.clone();
         let mut answer = [UNTOUCHED; 2];
         let result = run(&mut left, bytes, &mut answer);
@@ -153,7 +168,7 @@ impl List {
         let [number, value] = answer;
         let got = Image::of(image).ok_or("an image of another length")?;
         let left_image = Image::of(&left).ok_or("an image of another length")?;
-        self.check(&Moment { place, record, got, left: left_image, number, value }).map_err(say)?;
+        self.check(&Moment { place, bytes, got, left: left_image, number, value }).map_err(say)?;
         *image = left;
         Ok(answer)
     }
@@ -211,13 +226,12 @@ impl List {
 
     /// A new with no earlier refusal gets the lowest stretch that suffices, or 9 if there is none.
     fn check_room(&self, moment: &Moment) -> Result<(), String> {
-        if moment.record.kind != NEW {
+        if moment.kind() != NEW {
             return ensure(moment.number != 9, || "no room for what is not a new".to_string());
         }
-        if self.plain.refusal(moment.record) != 0 {
+        let Some(size) = self.plain.room_wanted(moment.bytes) else {
             return ensure(moment.number != 9, || "no room before an earlier refusal".to_string());
-        }
-        let size = moment.record.b();
+        };
         let stretch = unused_stretches(moment.got).into_iter().find(|&(_, length)| length >= size);
         let right = match stretch {
             Some((g, _)) => moment.number == 0 && usize::from(moment.value) == g,
@@ -228,14 +242,14 @@ impl List {
 
     /// The players' records on the plain store get the same numbers and values.
     fn check_plain(&mut self, moment: &Moment) -> Result<(), String> {
-        if !moment.record.is_of_a_player() || moment.is_new_without_room() {
+        if !is_of_a_player(moment.bytes) || moment.is_new_without_room() {
             return Ok(());
         }
         if moment.is_accepted(NEW) {
             self.last_new.insert(moment.value, moment.place);
         }
-        let (number, value) = self.plain.step(moment.record, moment.place);
-        let real = match moment.record.kind {
+        let (number, value) = self.plain.step(moment.bytes, moment.place);
+        let real = match moment.kind() {
             NEW | LOAD if moment.number == 0 => Value::Object(self.named(moment.value)?),
             _ => Value::Number(moment.value),
         };
@@ -257,40 +271,38 @@ impl List {
     }
 
     fn count(&mut self, moment: &Moment) {
-        let kind = usize::from(moment.record.kind);
+        let kind = usize::from(moment.kind());
         self.counts.steps += 1;
         self.counts.numbers[usize::from(moment.number)] += 1;
         if !(1..=14).contains(&kind) {
             self.counts.unknown_kinds += 1;
         } else if moment.number == 0 {
             self.counts.accepted[kind] += 1;
-            self.counts.without_packet += usize::from(found_no_packet(moment));
+            self.counts.without_packet += usize::from(found_no_packet(moment.bytes, moment.got, moment.left));
         }
     }
 }
 
 /// A begin gets 3, or 10 in a cycle, or 0; a finish 3, or 10 outside one, or 0.
 fn check_phase(moment: &Moment) -> Result<(), String> {
-    let wrong = match moment.record.kind {
+    let wrong = match moment.kind() {
         BEGIN => moment.got.is_running(),
         FINISH => !moment.got.is_running(),
         _ => return Ok(()),
     };
-    let Record { who, a, b, c, .. } = moment.record;
-    let number = match (who, a, b, c) {
-        (0, 0, 0, 0) if wrong => 10,
-        (0, 0, 0, 0) => 0,
-        _ => 3,
+    let names_nothing = moment.bytes[1..].iter().all(|&byte| byte == 0);
+    let number = match (names_nothing, wrong) {
+        (false, _) => 3,
+        (true, true) => 10,
+        (true, false) => 0,
     };
     ensure(moment.number == number, || format!("number {}, not {number}", moment.number))
 }
 
-/// A tracer that has marked something and then holds no output had no packet for it.
-fn found_no_packet(moment: &Moment) -> bool {
+/// Whether an accepted step found no packet for an object: its tracer has marked something and then holds no output.
+pub fn found_no_packet(bytes: &[u8], got: Image, left: Image) -> bool {
     let marks = |image: Image| image.starts().filter(|&g| image.is_marked(g)).count();
-    matches!(moment.record.kind, SCAN..=CLEAN)
-        && moment.left.tracer(moment.record.who()).output.is_none()
-        && marks(moment.left) > marks(moment.got)
+    matches!(bytes[0], SCAN..=CLEAN) && left.tracer(usize::from(bytes[1])).output.is_none() && marks(left) > marks(got)
 }
 
 fn links<'a>(object: Object<'a>) -> impl Iterator<Item = usize> + 'a {

@@ -1,11 +1,13 @@
-//! The plain store: objects, registers and who owes a barrier. No cards, no marks, no lack of room,
-//! and no object goes.
+//! The plain store: objects, registers and who owes a barrier. No cards, no marks, no lack of room, and no object goes. It shares
+//! no code with the real steps: it has its own reading of a record (`record`) and of the first image (`first`).
 
 use std::collections::BTreeMap;
 
-use crate::image::Image;
-use crate::layout::{GRANULE_WORDS, PLAYERS, REGISTERS};
-use crate::record::*;
+pub mod first;
+pub mod record;
+
+use first::{First, FirstObject};
+use record::{read, Act, Place};
 
 /// "An object of the image is known by its granule there, any other by its new's place in the list."
 #[derive(Clone, Copy, Debug, PartialEq, Eq, PartialOrd, Ord, Hash)]
@@ -32,26 +34,27 @@ struct PlainObject {
 #[derive(Clone, Debug, PartialEq, Eq)]
 pub struct Plain {
     objects: BTreeMap<Name, PlainObject>,
-    registers: [[Reference; REGISTERS]; PLAYERS],
-    owing: [bool; PLAYERS],
+    /// 16 players with 16 registers each.
+    registers: [[Reference; 16]; 16],
+    owing: [bool; 16],
 }
 
-fn named(g: usize) -> Reference {
-    (g != 0).then_some(Name::Granule(g))
+fn named(word: u16) -> Reference {
+    (word != 0).then_some(Name::Granule(usize::from(word)))
 }
 
 impl Plain {
     /// The plain store that starts as an undamaged image.
     pub fn of(words: &[u16]) -> Plain {
-        let image = Image::of(words).expect("an image of fitting length");
-        let plain_object = |object: crate::image::Object| PlainObject {
-            links: object.links.iter().map(|&g| named(usize::from(g))).collect(),
+        let first = First::of(words);
+        let plain_object = |object: &FirstObject| PlainObject {
+            links: object.links.iter().map(|&word| named(word)).collect(),
             levels: object.levels.to_vec(),
         };
         Plain {
-            objects: image.objects().map(|o| (Name::Granule(o.start), plain_object(o))).collect(),
-            registers: std::array::from_fn(|p| std::array::from_fn(|r| named(image.register(p, r)))),
-            owing: std::array::from_fn(|p| image.owed_card(p).is_some()),
+            objects: first.objects().map(|o| (Name::Granule(o.granule), plain_object(&o))).collect(),
+            registers: std::array::from_fn(|p| std::array::from_fn(|r| named(first.register(p, r)))),
+            owing: std::array::from_fn(|p| first.owes(p)),
         }
     }
 
@@ -60,78 +63,97 @@ impl Plain {
     }
 
     /// A player's step at its place in the list: number and value.
-    pub fn step(&mut self, record: Record, place: usize) -> (u16, Value) {
-        assert!(record.is_of_a_player());
-        match self.refusal(record) {
-            0 => (0, self.act(record, place)),
-            number => (number, Value::Number(0)),
+    pub fn step(&mut self, bytes: &[u8], place: usize) -> (u16, Value) {
+        match self.admitted(bytes) {
+            Ok((player, act)) => (0, self.act(player, act, place)),
+            Err(number) => (number, Value::Number(0)),
+        }
+    }
+
+    /// The granules that a record needs, if it is a new that no number but 9 could refuse.
+    pub fn room_wanted(&self, bytes: &[u8]) -> Option<usize> {
+        match self.admitted(bytes) {
+            Ok((_, Act::New { granules, .. })) => Some(granules),
+            _ => None,
         }
     }
 
     /// "A step that numbers 3 to 8 or 11 refuse, read on this state, gets the lowest".
-    pub fn refusal(&self, record: Record) -> u16 {
-        if record.is_unknown() {
-            return 3;
+    fn admitted(&self, bytes: &[u8]) -> Result<(usize, Act), u16> {
+        let (player, act) = read(bytes)?;
+        if self.is_owing(player, act) {
+            return Err(5);
         }
-        if record.is_off_the_desk() {
-            return 4;
-        }
-        if record.players_to_owe_nothing().iter().any(|&p| self.owing[p]) {
-            return 5;
-        }
-        if let Some(r) = record.object_register() {
-            let Some(name) = self.registers[record.who()][r] else { return 6 };
-            let object = &self.objects[&name];
-            if record.is_past_the_end(object.links.len(), object.levels.len()) {
-                return 7;
+        if let Some((register, place)) = act.looks_into() {
+            let name = self.registers[player][register].ok_or(6u16)?;
+            if !self.objects[&name].has(place) {
+                return Err(7);
             }
         }
-        if record.is_bad_size() {
-            return 8;
+        if act.is_bad_size() {
+            return Err(8);
         }
-        if record.kind == BARRIER && !self.owing[record.who()] {
-            return 11;
+        if act == Act::Barrier && !self.owing[player] {
+            return Err(11);
         }
-        0
+        Ok((player, act))
     }
 
-    fn act(&mut self, record: Record, place: usize) -> Value {
-        let player = record.who();
-        match record.kind {
-            NEW => return self.make(record, place),
-            LOAD => return self.load(record),
-            STORE => {
-                let target = self.registers[player][record.c()];
-                self.object_in(player, record.a()).links[record.b()] = target;
+    /// "a player owing a barrier in kinds 1 to 3 and 5 to 8, or receiving in 5"
+    fn is_owing(&self, player: usize, act: Act) -> bool {
+        match act {
+            Act::Barrier => false,
+            Act::Hand { receiver, .. } => self.owing[player] || self.owing[receiver],
+            _ => self.owing[player],
+        }
+    }
+
+    fn act(&mut self, player: usize, act: Act, place: usize) -> Value {
+        match act {
+            Act::New { register, granules, links } => {
+                let name = self.make(granules, links, place);
+                self.registers[player][register] = Some(name);
+                return Value::Object(Some(name));
+            }
+            Act::Load { into, from, link } => {
+                let target = self.object_in(player, from).links[link];
+                self.registers[player][into] = target;
+                return Value::Object(target);
+            }
+            Act::Store { into, link, what } => {
+                let target = self.registers[player][what];
+                self.object_in(player, into).links[link] = target;
                 self.owing[player] = true;
             }
-            BARRIER => self.owing[player] = false,
-            HAND => self.registers[record.b()][record.c()] = self.registers[player][record.a()],
-            DROP => self.registers[player][record.a()] = None,
-            READ => return Value::Number(self.object_in(player, record.a()).levels[record.b()]),
-            WRITE => self.object_in(player, record.a()).levels[record.b()] = record.c,
-            _ => unreachable!("players' kinds are 1 to 8"),
+            Act::Barrier => self.owing[player] = false,
+            Act::Hand { own, receiver, register } => self.registers[receiver][register] = self.registers[player][own],
+            Act::Drop { register } => self.registers[player][register] = None,
+            Act::Read { from, level } => return Value::Number(self.object_in(player, from).levels[level]),
+            Act::Write { into, level, word } => self.object_in(player, into).levels[level] = word,
         }
         Value::Number(0)
     }
 
-    fn object_in(&mut self, player: usize, r: usize) -> &mut PlainObject {
-        let name = self.registers[player][r].expect("the register holds an object");
+    fn object_in(&mut self, player: usize, register: usize) -> &mut PlainObject {
+        let name = self.registers[player][register].expect("the register holds an object");
         self.objects.get_mut(&name).expect("no object goes")
     }
 
-    fn make(&mut self, record: Record, place: usize) -> Value {
-        let levels = GRANULE_WORDS * record.b() - 2 - record.c();
-        let object = PlainObject { links: vec![None; record.c()], levels: vec![0; levels] };
+    /// An object of four words a granule: two for its size and its number of links, the links, and level words in the rest.
+    fn make(&mut self, granules: usize, links: usize, place: usize) -> Name {
+        let object = PlainObject { links: vec![None; links], levels: vec![0; 4 * granules - 2 - links] };
         let name = Name::Place(place);
         self.objects.insert(name, object);
-        self.registers[record.who()][record.a()] = Some(name);
-        Value::Object(Some(name))
+        name
     }
+}
 
-    fn load(&mut self, record: Record) -> Value {
-        let link = self.object_in(record.who(), record.b()).links[record.c()];
-        self.registers[record.who()][record.a()] = link;
-        Value::Object(link)
+impl PlainObject {
+    /// "Links and level words count from 0."
+    fn has(&self, place: Place) -> bool {
+        match place {
+            Place::Link(link) => link < self.links.len(),
+            Place::Level(level) => level < self.levels.len(),
+        }
     }
 }

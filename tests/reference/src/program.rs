@@ -10,7 +10,7 @@ pub const MOST_BYTES: usize = 8192;
 /// The lines for the bytes read from standard input: "place from 1, kind, number, value"; "longer input or a part record prints
 /// `misfit` alone".
 pub fn lines(steps: &[u8]) -> String {
-    if steps.len() > MOST_BYTES || steps.len() % RECORD_BYTES != 0 {
+    if steps.len() > MOST_BYTES || !steps.len().is_multiple_of(RECORD_BYTES) {
         return "misfit\n".to_string();
     }
     let mut answers = vec![0; steps.len() / RECORD_BYTES * 2];

@@ -68,10 +68,6 @@ impl Record {
         usize::from(self.c)
     }
 
-    pub fn is_of_a_player(self) -> bool {
-        (NEW..=WRITE).contains(&self.kind)
-    }
-
     /// Number 3: "kind not 1 to 14, or an unnamed field not 0".
     pub fn is_unknown(self) -> bool {
         let named = match self.kind {

@@ -305,6 +305,30 @@ fn a_step_allowed_to_an_owing_player() {
     });
 }
 
+/// A step that a number should refuse is answered 0 and leaves the store still.
+#[test]
+fn a_refusal_left_out() {
+    for number in [3, 4, 6, 7, 8, 11] {
+        assert_caught(&[PLAIN, "number 0, not 3", "with the stretch"], |done| {
+            if done.answer[0] == number && (1..=8).contains(&done.record.kind) {
+                done.answer[0] = 0;
+            }
+        });
+    }
+}
+
+/// A step that should be accepted is refused.
+#[test]
+fn a_refusal_too_many() {
+    for (kind, number) in [(LOAD, 3), (STORE, 4), (BARRIER, 11), (HAND, 5), (DROP, 5), (READ, 6), (WRITE, 7)] {
+        assert_caught(&[PLAIN, "with the stretch"], |done| {
+            if done.is_accepted(kind) {
+                done.refuse(number);
+            }
+        });
+    }
+}
+
 #[test]
 fn a_refused_step_with_a_value() {
     assert_caught(&["a refused step has a value"], |done| {

@@ -1,11 +1,11 @@
 -- The sweep's code, case by case, and its loop.
-use mathlib.Core.Path.{_≡_, refl, _∙_}
+use mathlib.Core.Path.{_≡_, refl, _∙_, sym}
 use mathlib.Core.Bool.{Bool, true, false}
 use mathlib.Core.List.{List}
 use Prim.Native.Nat.{ℕ, suc, _+_, _*_, _-_, _<_, _≤_}
 use native.Mathlib.Omega.{arith}
 use lib.ListN.{length}
-use borrow.Author.Tests.{lt-ltb, le-ltb}
+use Rattle.finish_laws.proofs.gaps.Runs.{gap-zero, gap-suc, passed-none, passed-keep}
 use Rattle.model.specs.Base.{nth, put}
 use Rattle.model.specs.Image.{Image, marked, firstRun, withHeap, setFirstRun, imageOf}
 use Rattle.finish_laws.specs.Gaps.{edged, runFrom, gap, passed, sweptFrom, sweptAll}
@@ -19,21 +19,17 @@ unfolding runFrom withHeap
 run-done m a e n en m1 m2 m3 m4 e1 e2 e3 e4 = rw (e4, e3, e2, e1, en)
 
 pub gap-some : (m m' : Image) (a e : ℕ) → a < e → m' ≡ runFrom m a e → m' ≡ gap m a e
-unfolding gap
-gap-some m m' a e l q = q ∙ rw (lt-ltb a e l)
+gap-some m m' a e l q = q ∙ sym (gap-suc m a e l)
 
 pub gap-none : (m : Image) (a e : ℕ) → e ≤ a → m ≡ gap m a e
-unfolding gap
-gap-none m a e l = rw (le-ltb a e l)
+gap-none m a e l = sym (gap-zero m a e l)
 
 module _ (m : Image) (h e : ℕ) (r : Bool) (er : r ≡ marked m h) where
   pub sweep-none : r ≡ false → edged e m ≡ passed m h e
-  unfolding passed
-  sweep-none q = rw (← er, q)
+  sweep-none q = sym (passed-none m h e (sym er ∙ q))
 
   pub sweep-keep : r ≡ true → (n : ℕ) → n ≡ nth (m .heap) (4 * h) → (m' : Image) → m' ≡ gap m (h + n) e → edged h m' ≡ passed m h e
-  unfolding passed
-  sweep-keep q n en m' em = rw (← er, q, ← en, em)
+  sweep-keep q n en m' em = rw (em, en) (sym (passed-keep m h e (sym er ∙ q)))
 
 -- ---- the loop
 

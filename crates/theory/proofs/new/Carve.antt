@@ -54,9 +54,9 @@ module _ (m n : Image) (b c r before next : ℕ) (w : Carved m n b c r before ne
   unfolding word
   word-before h i l nb = w .others (4 * h + i) (λ e. omega arith) (λ e. omega arith) (λ u. nb) (λ k. ((λ e. omega arith), (λ e. omega arith)))
 
-  pub word-past : (h i : ℕ) → r + word m r 0 ≤ h → b ≤ word m r 0 → word n h i ≡ word m h i
+  pub word-after : (h i : ℕ) → r + word m r 0 ≤ h → b ≤ word m r 0 → word n h i ≡ word m h i
   unfolding word
-  word-past h i l lb = w .others (4 * h + i) (λ e. omega arith) (λ e. omega arith) (λ u e. omega arith) (λ k. ((λ e. omega arith), (λ e. omega arith)))
+  word-after h i l lb = w .others (4 * h + i) (λ e. omega arith) (λ e. omega arith) (λ u e. omega arith) (λ k. ((λ e. omega arith), (λ e. omega arith)))
 
   bare-same : (x s : ℕ) → ((h : ℕ) → x < h → h < x + s → h ≡ r → ⊥) → Bare (isStart m) x s → Bare (isStart n) x s
   bare-same x s off ba h p q = w .start-old h (off h p q) ∙ ba h p q
@@ -86,13 +86,13 @@ module _ (m n : Image) (b c r before next : ℕ) (w : Carved m n b c r before ne
   behind : {x nx : ℕ} {f : Bool} → b ≤ word m r 0 → PiecesIn m x nx f → r + word m r 0 ≤ x → Now x nx f
   behind lb at-end l = at-end
   behind {x} {nx} lb (at-object o p) l =
-      let e : word n x 0 ≡ word m x 0 = word-past x 0 l lb in
-      at-object (object-same x (λ q. omega arith) e (word-past x 1 l lb) (λ h u v q. omega arith) o)
+      let e : word n x 0 ≡ word m x 0 = word-after x 0 l lb in
+      at-object (object-same x (λ q. omega arith) e (word-after x 1 l lb) (λ h u v q. omega arith) o)
       (subst (λ y. Now (x + y) nx false) (sym e) (behind lb p (omega arith)))
   behind {x} lb (at-run o p) l =
-      let e : word n x 0 ≡ word m x 0 = word-past x 0 l lb in
-      at-run (run-same x (λ q. omega arith) e (λ i k. word-past x (2 + i) l lb) (λ h u v q. omega arith) o)
-      (rw (e, word-past x 1 l lb) (behind lb p (omega arith)))
+      let e : word n x 0 ≡ word m x 0 = word-after x 0 l lb in
+      at-run (run-same x (λ q. omega arith) e (λ i k. word-after x (2 + i) l lb) (λ h u v q. omega arith) o)
+      (rw (e, word-after x 1 l lb) (behind lb p (omega arith)))
 
   -- ---- the run itself
 

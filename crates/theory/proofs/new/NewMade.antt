@@ -15,7 +15,7 @@ use Rattle.theory.specs.New.{placed, reheaped, nextOf, Carved, NewMade}
 use Rattle.theory.proofs.heap.Pieces.{pieces-image}
 use Rattle.theory.proofs.heap.Unused.{clear-one}
 use Rattle.theory.proofs.new.Room.{room-place, room-stretch, place-apart, before-apart}
-use Rattle.theory.proofs.new.Carve.{place-below, carve, word-before, word-past}
+use Rattle.theory.proofs.new.Carve.{place-below, carve, word-before, word-after}
 use Rattle.theory.proofs.new.NewHeap.{placed-sections, placed-granules, placed-length, placed-first, placed-general-word, placed-general-length, placed-starts-length, placed-sized, placed-carved}
 use borrow.Author.Tests.{not-true}
 
@@ -75,7 +75,7 @@ module _ (m : Image) (b c g : ℕ) (o : HeapFilled m) (z : HeapSized m) (hb : 1 
 
       cs : (h + size m h ≤ suc g) ⊎ (suc g + word m (suc g) 0 ≤ h) → word made h i ≡ word m h i
       cs (inl k) = word-before m made b c (suc g) before next is-carved hb below h i (omega arith) (off (before-apart m b (omega arith) place (clear-one m o) (inl refl)))
-      cs (inr k) = word-past m made b c (suc g) before next is-carved hb below h i k (apart-here .1)
+      cs (inr k) = word-after m made b c (suc g) before next is-carved hb below h i k (apart-here .1)
 
   made-granule : (i : ℕ) → i < 4 → nth (made .heap) i ≡ nth (m .heap) i
   made-granule i l = is-carved .others i (λ x. omega arith) (λ x. omega arith) (λ u x. omega arith) (λ k. ((λ x. omega arith), (λ x. omega arith)))

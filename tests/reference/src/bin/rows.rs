@@ -34,18 +34,10 @@ fn main() {
 }
 
 fn print_batch(number: usize, case: &BatchCase) {
-    let call = format!(
-        "batchOf {} ({}) (replicate {} {UNTOUCHED})",
-        runs(&case.image),
-        list(&case.steps),
-        case.answers
-    );
-    let gives = format!(
-        "record {{ result = {}; image = {}; answers = {} }}",
-        case.result,
-        runs(&case.left),
-        list(&case.given)
-    );
+    let call =
+        format!("batchOf {} ({}) (replicate {} {UNTOUCHED})", runs(&case.image), list(&case.steps), case.answers);
+    let gives =
+        format!("record {{ result = {}; image = {}; answers = {} }}", case.result, runs(&case.left), list(&case.given));
     print_theorem(number, "batch", &case.name, "Batch", &call, &gives);
 }
 
@@ -68,7 +60,6 @@ fn list<T: Display>(items: &[T]) -> String {
 
 /// Equal words in a row are written once, with their number before them.
 fn runs(words: &[u16]) -> String {
-    let pairs: Vec<usize> =
-        words.chunk_by(|a, b| a == b).flat_map(|run| [run.len(), usize::from(run[0])]).collect();
+    let pairs: Vec<usize> = words.chunk_by(|a, b| a == b).flat_map(|run| [run.len(), usize::from(run[0])]).collect();
     format!("(runs ({}))", list(&pairs))
 }

@@ -1,18 +1,11 @@
 use borrow.Author.Needs.{needs}
-use Rattle.collector_laws.proofs.Pool.{output-few}
-use Rattle.collector_laws.proofs.Reaching.{emptiest-few, back-places, take-new, take-same}
-use native.Mathlib.Omega.{arith}
+use Rattle.collector_laws.proofs.Tracing.{held-output}
+use Rattle.collector_laws.proofs.Reaching.{take-new, take-same}
 use Rattle.collector.proofs.reaching.take_output.Statement.{statement}
 use Rattle.collector.proofs.reaching.take_output.Tie as tie
 
 lacks-space-requires : tie.Need-lacks-space-requires
-lacks-space-requires c κs = (search needs, search output-few)
-
-emptiest-requires : tie.Need-emptiest-requires
-emptiest-requires c κs = (search needs, search back-places)
-
-cast-e : tie.Need-cast-e
-cast-e c = omega (arith, emptiest-few _ _ (c .emptiest .ensures))
+lacks-space-requires c κs = (search needs, search held-output)
 
 returns : tie.Need-returns
 returns c = search take-new
@@ -23,9 +16,5 @@ returns-2 c = search take-same
 pub take-output-spec : {M : Type 1} → statement M
 take-output-spec =
     tie.close
-    (tie.spec (λ c. search needs) (λ c. search needs) (λ c κs. search needs) (λ c. search needs)
-    lacks-space-requires (λ c κs. search needs)
-    emptiest-requires
-    cast-e (λ c κs. search needs) (λ c. search needs)
-    returns (λ c. search needs)
-    returns-2)
+    (tie.spec (λ c κs. search needs) (λ c. search needs) lacks-space-requires (λ c κs. search needs) (λ c. search needs) returns
+    (λ c. search needs) returns-2)

@@ -4,8 +4,8 @@ use native.Mathlib.Omega.{arith}
 use Rattle.collector.proofs.tracing.trace_packets.Statement.{statement}
 use Rattle.collector.proofs.tracing.trace_packets.Tie as tie
 
-cast-with-input : tie.Need-cast-with-input
-cast-with-input c = omega (arith, fullest-few _ _ (c .before .fullest .ensures))
+cast-packet-becomes-input : tie.Need-cast-packet-becomes-input
+cast-packet-becomes-input c = omega (arith, fullest-few _ _ (c .before .fullest .ensures))
 
 returns : tie.Need-returns
 returns c = search trace-pool-line
@@ -22,9 +22,6 @@ returns-3 c = search trace-no-line
 pub trace-packets-spec : {M : Type 1} → statement M
 trace-packets-spec =
     tie.close
-    (tie.spec (λ c κs. search needs)
-    cast-with-input (λ c κs. search needs) (λ c κs. search needs) (λ c. search needs)
-    returns (λ c. search needs)
-    has-entries-requires (λ c κs. search needs) (λ c κs. search needs) (λ c κs. search needs) (λ c. search needs)
-    returns-2 (λ c. search needs)
-    returns-3)
+    (tie.spec (λ c κs. search needs) cast-packet-becomes-input (λ c κs. search needs) (λ c κs. search needs) (λ c. search needs) returns
+    (λ c. search needs) has-entries-requires (λ c κs. search needs) (λ c κs. search needs) (λ c. search needs) returns-2
+    (λ c. search needs) returns-3)

@@ -62,7 +62,7 @@ use Rattle.image.specs.Layout.{width, recordLength}
 use Rattle.request_laws.specs.Request.{requested, InRange}
 use Rattle.show_store_laws.specs.Run.{recordAt, writtenAt}
 use Rattle.show_store_laws.proofs.Run.{Ran, ran-none, ran-more, ran-end}
-use Rattle.show_store_laws.proofs.Walk.{tyAt, first-of, rest-of, inside, needs3, LentAgain, lends-again, comes-back, Carved, within, without}
+use Rattle.show_store_laws.proofs.Walk.{tyAt, first-of, rest-of, inside, needs3, LentAgain, lends-again, comes-back, LifetimeCarved, within, without}
 use Rattle.show_store.specs.declared.reader.Reader.{Reader}
 use Rattle.request_laws.specs.declared.Request.{Request}
 use Rattle.show_store.proofs.reader.Reader as T
@@ -371,7 +371,7 @@ module _ {M : Type 1} (𝓤 : URA M) (H : Heap 𝓤) (A : Atoms 𝓤) (W : Given
         -- the reader is lent to `next`
         assigns ! (addr ! (from ! (stop !))) (from ! (stop !)) (init ! 18 refl (tt, tt)) $
         move ! (12 ∷ 4 ∷ []) $ use2 W (‵ (mem R .lies (rd i) l₅ 0)) (rests 𝓤 H A W κ₂ (rd i) l₅) $
-        lft-new ! tt (λ ν. move ! (0 ∷ 6 ∷ []) $ use2 W (‵ (flft (ν ∷ κ₂) (PosShare·left q₂)) ⊛ ‵ (flft κ₂ (PosShare·right q₂)) ⊛ raw (Carved 𝓤 H A W ν κ₂ q₂)) (within 𝓤 H A W ν κ₂ q₂) $ split ! $ move ! (1 ∷ []) $ split ! $
+        lft-new ! tt (λ ν. move ! (0 ∷ 6 ∷ []) $ use2 W (‵ (flft (ν ∷ κ₂) (PosShare·left q₂)) ⊛ ‵ (flft κ₂ (PosShare·right q₂)) ⊛ raw (LifetimeCarved 𝓤 H A W ν κ₂ q₂)) (within 𝓤 H A W ν κ₂ q₂) $ split ! $ move ! (1 ∷ []) $ split ! $
         move ! (3 ∷ []) $ use1 W (later (some (λ (δ : GName). ‵ (Lent ν l₅ δ i) ⊛ ‵ (flent (ν ∷ κ₂) (Body (mem R) l₅ 0 δ))))) (lends-ref 𝓤 H A W R (named 0) (ν ∷ κ₂) (rd i) l₅ 0) $ await ! tt $ pick ! (λ δ. split ! $
         move ! (4 ∷ 2 ∷ 0 ∷ []) $ use3 W (raw (Next 𝓤 H A at-mem run .pre (to-next ν l₅ δ i))) (goes-next ν l₅ δ i small) $
         -- [what `next` asks; the lender's part; what makes ν's token whole; the image; its token; the answers; their token; the step bytes; room for _0; _1; _2; _3; _4; _6; _7; …]

@@ -2,18 +2,19 @@ use Prim.Native.Nat.{_-_}
 use borrow.Author.Needs.{needs}
 use Rattle.model.specs.Image.{imageOf}
 use Rattle.image.specs.Layout.{width}
-use Rattle.soundness_laws.specs.Tests.{entryOkAt}
+use Rattle.soundness_laws.specs.Tests.{entryMarked}
 use Rattle.soundness_laws.proofs.Checks.{Checked, checked-none, checked-more, checked-end}
 use Rattle.soundness.proofs.packets.entries_ok.Statement.{statement}
 use Rattle.soundness.proofs.packets.entries_ok.Tie as tie
 
 abbrev Inv-loop : tie.InvT-loop
-Inv-loop im k p ok₀ i₀ ok i = Checked 30 (entryOkAt (imageOf width k im) p) ok i
+Inv-loop im k p n ok₀ i₀ ok i = Checked n (entryMarked (imageOf width k im) p) ok i
 
 abbrev μ-loop : tie.MeasureT-loop
-μ-loop im k p ok₀ i₀ ok i = 30 - i
+μ-loop im k p n ok₀ i₀ ok i = n - i
 
 pub entries-ok-spec : {M : Type 1} → statement M
 entries-ok-spec =
     tie.close
-    (tie.spec Inv-loop μ-loop (λ c. checked-none) (λ c κs. search needs) (λ c. search needs) (λ c. search needs) (λ c. search checked-more) (λ c. search checked-end))
+    (tie.spec Inv-loop μ-loop (λ c. checked-none) (λ c κs. search needs) (λ c. search needs) (λ c. search needs) (λ c. search checked-more)
+    (λ c. search checked-end))

@@ -1,0 +1,15 @@
+// The result of a call, as a word.
+ghost use mathlib.Core.Path.{_≡_};
+ghost use Rattle.image_laws.specs.Result.{resultOf};
+use crate::layout::Word;
+use image_laws::Verdict;
+
+pub fn result(v: Verdict) -> Word
+    ensures { λ r. ⌜ r ≡ resultOf v ⌝ }
+{
+    match v {
+        Verdict::Accepted => 0,
+        Verdict::Misfit => 1,
+        Verdict::Damaged => 2,
+    }
+}

@@ -1,0 +1,95 @@
+//! Shows for the timings of a finish, laid directly in an image with no cycle.
+
+use reference::image::Store;
+use reference::layout::length;
+use reference::random::Random;
+
+use crate::calls::assert_undamaged;
+
+#[derive(Clone, Copy)]
+pub enum Sizes {
+    One,
+    OneToEight,
+    Sixteen,
+}
+
+/// How much of a show a finish has to free, everything else being linked from a register.
+#[derive(Clone, Copy)]
+pub enum Free {
+    Nothing,
+    Half,
+    All,
+}
+
+fn size(random: &mut Random, sizes: Sizes) -> usize {
+    match sizes {
+        Sizes::One => 1,
+        Sizes::OneToEight => random.from_to(1, 8),
+        Sizes::Sixteen => 16,
+    }
+}
+
+/// A full store of objects with two links each. Those that are kept are a tree in an order that has nothing to do with their
+/// places; those to be freed are another, in no register, whose last objects link into the kept one.
+pub fn show(k: usize, sizes: Sizes, free: Free) -> Vec<u16> {
+    let mut random = Random::new(7);
+    let mut words = vec![0; length(k)];
+    let mut store = Store::of(&mut words).expect("a fitting length");
+    let mut objects = lay_objects(&mut random, &mut store, sizes);
+    random.shuffle(&mut objects);
+    let kept = match free {
+        Free::Nothing => objects.len(),
+        Free::Half => objects.len() / 2,
+        Free::All => 0,
+    };
+    let (kept, freed) = objects.split_at(kept);
+    let root = kept.first().copied().unwrap_or(0);
+    link_as_tree(&mut store, kept, 0);
+    link_as_tree(&mut store, freed, root);
+    store.set_register(0, 0, root);
+    assert_undamaged(&words);
+    words
+}
+
+/// Objects side by side from granule 1, and a run where one more has no room; level words are not 0, so that freeing has to clear.
+fn lay_objects(random: &mut Random, store: &mut Store, sizes: Sizes) -> Vec<usize> {
+    let mut objects = Vec::new();
+    let mut g = 1;
+    while g < store.layout.granules() {
+        let left = store.layout.granules() - g;
+        let size = size(random, sizes);
+        if size > left {
+            store.set_run(g, left, 0);
+            store.set_first_run(g);
+            break;
+        }
+        store.set_object(g, size, 2);
+        let levels = store.layout.granule(g) + 4..store.layout.granule(g + size);
+        store.words[levels].fill(0x5aa5);
+        objects.push(g);
+        g += size;
+    }
+    objects
+}
+
+/// Object i links to objects 2i + 1 and 2i + 2, and to `beyond` where there are none.
+fn link_as_tree(store: &mut Store, objects: &[usize], beyond: usize) {
+    for (i, &object) in objects.iter().enumerate() {
+        for link in 0..2 {
+            let target = objects.get(2 * i + 1 + link).copied().unwrap_or(beyond);
+            store.set_link(object, link, target);
+        }
+    }
+}
+
+/// A store full of one-granule objects of two links, 64k - 1 of them, that are one tree: granule g links to 2g and 2g + 1.
+pub fn full_tree(k: usize) -> Vec<u16> {
+    let mut words = vec![0; length(k)];
+    let mut store = Store::of(&mut words).expect("a fitting length");
+    let objects: Vec<usize> = (1..store.layout.granules()).collect();
+    objects.iter().for_each(|&g| store.set_object(g, 1, 2));
+    link_as_tree(&mut store, &objects, 0);
+    store.set_register(0, 0, 1);
+    assert_undamaged(&words);
+    words
+}

@@ -1,0 +1,49 @@
+//! The first image as the plain store reads it, from document 01's layout anew and not by `crate::image`, which the real steps use.
+
+/// The words of an undamaged image of `k` cards.
+pub struct First<'a> {
+    words: &'a [u16],
+    k: usize,
+}
+
+/// An object's links and level words as they stand in the image.
+pub struct FirstObject<'a> {
+    pub granule: usize,
+    pub links: &'a [u16],
+    pub levels: &'a [u16],
+}
+
+impl<'a> First<'a> {
+    /// "Its length is 265 × k + 1384 words"
+    pub fn of(words: &'a [u16]) -> First<'a> {
+        First { words, k: (words.len() - 1384) / 265 }
+    }
+
+    /// "Start bits are set at every object's first granule"; the heap, 4 × 64 × k words, lies before them.
+    fn is_start(&self, granule: usize) -> bool {
+        let word = self.words[256 * self.k + granule / 16];
+        word / (1 << (granule % 16)) % 2 == 1
+    }
+
+    pub fn objects(&self) -> impl Iterator<Item = FirstObject<'a>> + '_ {
+        (1..64 * self.k).filter(|&granule| self.is_start(granule)).map(|granule| self.object(granule))
+    }
+
+    /// "its size in granules, its number of links, the links, then level words"
+    fn object(&self, granule: usize) -> FirstObject<'a> {
+        let size = usize::from(self.words[4 * granule]);
+        let count = usize::from(self.words[4 * granule + 1]);
+        let (links, levels) = self.words[4 * granule + 2..4 * (granule + size)].split_at(count);
+        FirstObject { granule, links, levels }
+    }
+
+    /// "Registers: 16 players of 16 words", after a heap of 256 words a card, bits of 4 and 4, and the card's own word.
+    pub fn register(&self, player: usize, register: usize) -> u16 {
+        self.words[265 * self.k + 16 * player + register]
+    }
+
+    /// "Players, 16 of 2 words: owed card + 1 or 0", after 256 words of registers, 1,024 of packets and 64 of tracers.
+    pub fn owes(&self, player: usize) -> bool {
+        self.words[265 * self.k + 1344 + 2 * player] != 0
+    }
+}
