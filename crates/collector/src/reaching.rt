@@ -1,6 +1,6 @@
 // Reach, by a tracer: "nil or marked, nothing. Else the object is marked and appended to the output packet."
 ghost use mathlib.Core.Path.{_≡_};
-ghost use Prim.Native.Nat.{ℕ, _+_, _*_, _≤_, _<_};
+ghost use Prim.Native.Nat.{_+_, _*_, _<_};
 ghost use Rattle.model.specs.Image.{imageOf, setTracer};
 ghost use Rattle.model.specs.Collect.{emptiest, takeOutput, enter, reach};
 ghost use Rattle.theory.specs.Lines.{Lines, NilOr, Start};

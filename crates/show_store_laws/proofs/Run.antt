@@ -8,7 +8,7 @@ use lib.ListN.{length, set, drop, length-append, length-drop, drop-of-length-le}
 use lib.Seq.{drop-drop}
 use Rattle.model.specs.Base.{table}
 use Rattle.model.specs.Image.{Image, imageOf}
-use Rattle.model.specs.Records.{recordBytes, records}
+use Rattle.model.specs.Records.{Step, recordBytes, records}
 use Rattle.model.specs.Steps.{Done, Event, step, run, after, answersOf}
 use Rattle.theory.specs.Lines.{Undamaged}
 use Rattle.theory.proofs.steps.Kept.{step-keeps}
@@ -16,16 +16,13 @@ use Rattle.theory.proofs.steps.Steps.{run-append}
 use Rattle.image_laws.specs.Sized.{Sized}
 use Rattle.show_store_laws.specs.Run.{recordAt, ran, writtenAt}
 use Rattle.request_laws.specs.Answer.{done}
-use Rattle.request_laws.specs.Request.{requested}
-use Rattle.request_laws.specs.declared.Request.{Request}
 
--- ---- one turn: its record, and its two answer words
+-- ---- one turn: its step, and its two answer words
 
-pub turn : (w : ℕ) (m m₁ : Image) (bytes answers : List ℕ) (i : ℕ) (r : Request) (number value : ℕ)
-    → requested r ≡ recordAt w bytes i → done number value m₁ ≡ step m (requested r)
-    → (m₁ ≡ (step m (recordAt w bytes i)) .image) × (set (set answers (2 * i) number) (2 * i + 1) value ≡ writtenAt answers i (step m (recordAt w bytes i)))
+pub turn : (m m₁ : Image) (answers : List ℕ) (i : ℕ) (s : Step) (number value : ℕ)
+    → done number value m₁ ≡ step m s → (m₁ ≡ (step m s) .image) × (set (set answers (2 * i) number) (2 * i + 1) value ≡ writtenAt answers i (step m s))
 unfolding writtenAt
-turn w m m₁ bytes answers i r number value e d = rw (← e, ← d) (refl, refl)
+turn m m₁ answers i s number value d = rw (← d) (refl, refl)
 
 -- ---- tables, runs and answers with one more at the end
 

@@ -14,5 +14,4 @@ pub finish-spec : {M : Type 1} → statement M
 finish-spec =
     tie.close
     (tie.spec (λ c κs. search needs) (λ c κs. search needs) (λ c κs. search needs) (λ c κs. search needs) (λ c κs. search needs)
-    cast-result (λ c. search needs)
-    returns)
+    cast-result (λ c. search needs) returns)

@@ -60,9 +60,5 @@ returns c =
 pub mark-found-spec : {M : Type 1} → statement M
 mark-found-spec =
     tie.close
-    (tie.spec
-    open-entries-requires
-    open-hands-requires (λ c κs. search needs)
-    hold-all-requires (λ c κs. search needs)
-    mark-all-requires (λ c. search needs)
-    returns)
+    (tie.spec open-entries-requires open-hands-requires (λ c κs. search needs) hold-all-requires (λ c κs. search needs) mark-all-requires
+    (λ c. search needs) returns)

@@ -9,4 +9,5 @@ once-ok-requires c κs = (search needs, search cycle-packed)
 pub cycle-ok-spec : {M : Type 1} → statement M
 cycle-ok-spec =
     tie.close
-    (tie.spec (λ c κs. search needs) (λ c. search cycle-no) (λ c κs. search needs) once-ok-requires (λ c κs. search needs) (λ c κs. search needs) (λ c. search cycle-yes))
+    (tie.spec (λ c κs. search needs) (λ c. search cycle-no) (λ c κs. search needs) once-ok-requires (λ c κs. search needs)
+    (λ c κs. search needs) (λ c. search cycle-yes))

@@ -6,4 +6,5 @@ use Rattle.soundness.proofs.is_sound.Tie as tie
 pub is-sound-spec : {M : Type 1} → statement M
 is-sound-spec =
     tie.close
-    (tie.spec (λ c κs. search needs) (λ c κs. search needs) (λ c κs. search needs) (λ c. search sound-still) (λ c κs. search needs) (λ c κs. search needs) (λ c. search sound-cycle))
+    (tie.spec (λ c κs. search needs) (λ c κs. search needs) (λ c κs. search needs) (λ c. search sound-still) (λ c κs. search needs)
+    (λ c κs. search needs) (λ c. search sound-cycle))

@@ -15,5 +15,5 @@ slice-aggregate-run c = sym (length-take-le _ _ (omega arith))
 pub report-spec : {M : Type 1} → statement M
 report-spec =
     tie.close
-    (tie.spec (λ c. search needs) (λ c. search needs)
-    slice-aggregate-run (λ c κs. search needs) (λ c κs. search needs) (λ c. search needs) (λ c. search needs))
+    (tie.spec (λ c. search needs) (λ c. search needs) slice-aggregate-run (λ c κs. search needs) (λ c κs. search needs) (λ c. search needs)
+    (λ c. search needs))

@@ -28,10 +28,5 @@ returns-2 c = search dirty-end
 pub lowest-dirty-spec : {M : Type 1} → statement M
 lowest-dirty-spec =
     tie.close
-    (tie.spec
-    Inv-loop
-    μ-loop
-    loop-holds (λ c κs. search needs) (λ c. search needs)
-    returns (λ c. search needs) (λ c. search needs)
-    loop-again
-    returns-2)
+    (tie.spec Inv-loop μ-loop loop-holds (λ c κs. search needs) (λ c. search needs) returns (λ c. search needs) (λ c. search needs)
+    loop-again returns-2)

@@ -25,10 +25,6 @@ returns-2 c = search card-object
 pub clean-card-spec : {M : Type 1} → statement M
 clean-card-spec =
     tie.close
-    (tie.spec (λ c. search needs) (λ c. search needs)
-    next-marked-requires (λ c κs. search needs) (λ c κs. search needs) (λ c. search needs)
-    returns (λ c. search needs)
-    cast-object
-    granule-moves-on-requires (λ c κs. search needs)
-    take-object-requires (λ c. search needs)
-    returns-2)
+    (tie.spec (λ c. search needs) (λ c. search needs) next-marked-requires (λ c κs. search needs) (λ c κs. search needs)
+    (λ c. search needs) returns (λ c. search needs) cast-object granule-moves-on-requires (λ c κs. search needs) take-object-requires
+    (λ c. search needs) returns-2)

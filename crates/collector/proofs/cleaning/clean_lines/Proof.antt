@@ -29,11 +29,5 @@ returns-4 c = clean-no-line _ _ _ (c .before .before .before .before .before .be
 pub clean-lines-spec : {M : Type 1} → statement M
 clean-lines-spec =
     tie.close
-    (tie.spec (λ c κs. search needs)
-    trace-hand-requires (λ c. search needs)
-    returns
-    clean-card-requires (λ c. search needs)
-    returns-2 (λ c κs. search needs) (λ c. search needs)
-    take-card-requires (λ c. search needs)
-    returns-3 (λ c. search needs)
-    returns-4)
+    (tie.spec (λ c κs. search needs) trace-hand-requires (λ c. search needs) returns clean-card-requires (λ c. search needs) returns-2
+    (λ c κs. search needs) (λ c. search needs) take-card-requires (λ c. search needs) returns-3 (λ c. search needs) returns-4)

@@ -12,6 +12,5 @@ returns-2 c = search hand-taken
 pub take-object-spec : {M : Type 1} → statement M
 take-object-spec =
     tie.close
-    (tie.spec (λ c κs. search needs) (λ c. search needs)
-    returns (λ c κs. search needs) (λ c κs. search needs) (λ c κs. search needs) (λ c. search needs)
-    returns-2)
+    (tie.spec (λ c κs. search needs) (λ c. search needs) returns (λ c κs. search needs) (λ c κs. search needs) (λ c κs. search needs)
+    (λ c. search needs) returns-2)

@@ -24,8 +24,5 @@ returns c =
 pub trace-hand-spec : {M : Type 1} → statement M
 trace-hand-spec =
     tie.close
-    (tie.spec (λ c κs. search needs) (λ c. search needs)
-    word-requires (λ c. search needs) (λ c. search needs)
-    reach-link-requires
-    advance-requires (λ c. search needs)
-    returns)
+    (tie.spec (λ c κs. search needs) (λ c. search needs) word-requires (λ c. search needs) (λ c. search needs) reach-link-requires
+    advance-requires (λ c. search needs) returns)

@@ -30,9 +30,5 @@ returns c = search emptiest-choice
 pub emptiest-spec : {M : Type 1} → statement M
 emptiest-spec =
     tie.close
-    (tie.spec
-    Inv-loop
-    μ-loop (λ c κs. search needs)
-    loop-holds (λ c κs. search needs) (λ c. search needs) (λ c κs. search needs) (λ c κs. search needs) (λ c. search needs) (λ c. search needs)
-    loop-again
-    returns)
+    (tie.spec Inv-loop μ-loop (λ c κs. search needs) loop-holds (λ c κs. search needs) (λ c. search needs) (λ c κs. search needs)
+    (λ c κs. search needs) (λ c. search needs) (λ c. search needs) loop-again returns)

@@ -34,11 +34,6 @@ returns c = search held-all
 pub held-packets-spec : {M : Type 1} → statement M
 held-packets-spec =
     tie.close
-    (tie.spec
-    Inv-loop
-    μ-loop
-    loop-holds (λ c. search needs) (λ c κs. search needs) (λ c. search needs) (λ c. search needs) (λ c. search needs) (λ c κs. search needs) (λ c. search needs)
-    with-packet-requires
-    with-packet-requires-2 (λ c. search needs) (λ c. search needs)
-    loop-again
-    returns)
+    (tie.spec Inv-loop μ-loop loop-holds (λ c. search needs) (λ c κs. search needs) (λ c. search needs) (λ c. search needs)
+    (λ c. search needs) (λ c κs. search needs) (λ c. search needs) with-packet-requires with-packet-requires-2 (λ c. search needs)
+    (λ c. search needs) loop-again returns)

@@ -16,6 +16,4 @@ pub enter-spec : {M : Type 1} → statement M
 enter-spec =
     tie.close
     (tie.spec (λ c. search needs) (λ c. search needs) (λ c κs. search needs) (λ c. search needs) (λ c κs. search needs) (λ c. search needs)
-    append-entry-requires (λ c. search needs)
-    returns (λ c. search needs)
-    returns-2)
+    append-entry-requires (λ c. search needs) returns (λ c. search needs) returns-2)

@@ -27,11 +27,5 @@ returns-3 c = search reach-new
 pub reach-spec : {M : Type 1} → statement M
 reach-spec =
     tie.close
-    (tie.spec
-    returns
-    is-marked-requires (λ c. search needs)
-    returns-2
-    set-mark-requires
-    take-output-requires
-    enter-requires (λ c. search needs)
-    returns-3)
+    (tie.spec returns is-marked-requires (λ c. search needs) returns-2 set-mark-requires take-output-requires enter-requires
+    (λ c. search needs) returns-3)

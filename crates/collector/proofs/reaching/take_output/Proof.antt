@@ -16,7 +16,5 @@ returns-2 c = search take-same
 pub take-output-spec : {M : Type 1} → statement M
 take-output-spec =
     tie.close
-    (tie.spec (λ c. search needs) (λ c. search needs) (λ c κs. search needs) (λ c. search needs)
-    lacks-space-requires (λ c κs. search needs) (λ c. search needs)
-    returns (λ c. search needs)
-    returns-2)
+    (tie.spec (λ c. search needs) (λ c. search needs) (λ c κs. search needs) (λ c. search needs) lacks-space-requires (λ c κs. search needs)
+    (λ c. search needs) returns (λ c. search needs) returns-2)

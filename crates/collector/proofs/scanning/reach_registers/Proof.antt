@@ -30,10 +30,5 @@ returns c = search scan-end
 pub reach-registers-spec : {M : Type 1} → statement M
 reach-registers-spec =
     tie.close
-    (tie.spec
-    Inv-loop
-    μ-loop
-    loop-holds (λ c κs. search needs)
-    reach-requires (λ c. search needs) (λ c. search needs)
-    loop-again (λ c. search needs)
-    returns)
+    (tie.spec Inv-loop μ-loop loop-holds (λ c κs. search needs) reach-requires (λ c. search needs) (λ c. search needs) loop-again
+    (λ c. search needs) returns)

@@ -12,6 +12,5 @@ returns-2 c = search scanned-now
 pub scan-player-spec : {M : Type 1} → statement M
 scan-player-spec =
     tie.close
-    (tie.spec (λ c κs. search needs) (λ c. search needs)
-    returns (λ c κs. search needs) (λ c κs. search needs) (λ c. search needs)
+    (tie.spec (λ c κs. search needs) (λ c. search needs) returns (λ c κs. search needs) (λ c κs. search needs) (λ c. search needs)
     returns-2)

@@ -10,6 +10,4 @@ returns-2 : tie.Need-returns-2
 returns-2 c = search trace-goes
 
 pub trace-spec : {M : Type 1} → statement M
-trace-spec =
-    tie.close
-    (tie.spec (λ c κs. search needs) (λ c. search needs) returns (λ c κs. search needs) (λ c. search needs) returns-2)
+trace-spec = tie.close (tie.spec (λ c κs. search needs) (λ c. search needs) returns (λ c κs. search needs) (λ c. search needs) returns-2)

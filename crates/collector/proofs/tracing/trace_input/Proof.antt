@@ -21,9 +21,5 @@ returns-2 c = search popped-taken
 pub trace-input-spec : {M : Type 1} → statement M
 trace-input-spec =
     tie.close
-    (tie.spec
-    pop-entry-requires (λ c. search needs)
-    is-dirty-requires (λ c. search needs)
-    returns
-    take-object-requires (λ c. search needs)
+    (tie.spec pop-entry-requires (λ c. search needs) is-dirty-requires (λ c. search needs) returns take-object-requires (λ c. search needs)
     returns-2)

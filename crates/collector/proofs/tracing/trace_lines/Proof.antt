@@ -28,11 +28,5 @@ trace-packets-requires c κs = (search needs, (search needs, (search needs, (sea
 pub trace-lines-spec : {M : Type 1} → statement M
 trace-lines-spec =
     tie.close
-    (tie.spec (λ c κs. search needs)
-    trace-hand-requires (λ c. search needs)
-    returns (λ c. search needs)
-    has-entries-requires
-    sub-trace-input
-    trace-input-requires (λ c. search needs)
-    returns-2
-    trace-packets-requires (λ c. search needs) (λ c. search needs))
+    (tie.spec (λ c κs. search needs) trace-hand-requires (λ c. search needs) returns (λ c. search needs) has-entries-requires
+    sub-trace-input trace-input-requires (λ c. search needs) returns-2 trace-packets-requires (λ c. search needs) (λ c. search needs))

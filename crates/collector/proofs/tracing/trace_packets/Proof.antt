@@ -22,9 +22,6 @@ returns-3 c = search trace-no-line
 pub trace-packets-spec : {M : Type 1} → statement M
 trace-packets-spec =
     tie.close
-    (tie.spec (λ c κs. search needs)
-    cast-packet-becomes-input (λ c κs. search needs) (λ c κs. search needs) (λ c. search needs)
-    returns (λ c. search needs)
-    has-entries-requires (λ c κs. search needs) (λ c κs. search needs) (λ c. search needs)
-    returns-2 (λ c. search needs)
-    returns-3)
+    (tie.spec (λ c κs. search needs) cast-packet-becomes-input (λ c κs. search needs) (λ c κs. search needs) (λ c. search needs) returns
+    (λ c. search needs) has-entries-requires (λ c κs. search needs) (λ c κs. search needs) (λ c. search needs) returns-2
+    (λ c. search needs) returns-3)

@@ -33,11 +33,5 @@ returns c = let S = c .before .before .before in copied-end (starts-words (S .pr
 pub keep-starts-spec : {M : Type 1} → statement M
 keep-starts-spec =
     tie.close
-    (tie.spec
-    Inv-loop
-    μ-loop (λ c. search needs)
-    loop-holds
-    mark-word-requires (λ c κs. search needs) (λ c. search needs) (λ c. search needs)
-    loop-again
-    same-length
-    returns)
+    (tie.spec Inv-loop μ-loop (λ c. search needs) loop-holds mark-word-requires (λ c κs. search needs) (λ c. search needs)
+    (λ c. search needs) loop-again same-length returns)

@@ -34,11 +34,5 @@ returns c = looped-end (c .before .loop .inv) (omega arith)
 pub unscan-spec : {M : Type 1} → statement M
 unscan-spec =
     tie.close
-    (tie.spec
-    Inv-loop
-    μ-loop
-    loop-holds (λ c. search needs) (λ c. search needs)
-    set-player-word-requires (λ c. search needs) (λ c. search needs)
-    loop-again
-    same-length
-    returns)
+    (tie.spec Inv-loop μ-loop loop-holds (λ c. search needs) (λ c. search needs) set-player-word-requires (λ c. search needs)
+    (λ c. search needs) loop-again same-length returns)

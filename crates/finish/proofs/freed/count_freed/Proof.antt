@@ -34,12 +34,4 @@ returns c = counting-end _ _ _ _ _ (c .before .loop .inv) (omega arith)
 pub count-freed-spec : {M : Type 1} → statement M
 count-freed-spec =
     tie.close
-    (tie.spec
-    Inv-loop
-    μ-loop (λ c. search needs)
-    loop-holds
-    goes-at-requires
-    add-f
-    add-h (λ c. search needs)
-    loop-again
-    returns)
+    (tie.spec Inv-loop μ-loop (λ c. search needs) loop-holds goes-at-requires add-f add-h (λ c. search needs) loop-again returns)

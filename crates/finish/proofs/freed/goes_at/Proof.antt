@@ -15,7 +15,5 @@ returns-3 c = (search count-none, search needs)
 pub goes-at-spec : {M : Type 1} → statement M
 goes-at-spec =
     tie.close
-    (tie.spec (λ c κs. search needs) (λ c κs. search needs)
-    returns (λ c. search needs) (λ c κs. search needs) (λ c. search needs)
-    returns-2
-    returns-3)
+    (tie.spec (λ c κs. search needs) (λ c κs. search needs) returns (λ c. search needs) (λ c κs. search needs) (λ c. search needs)
+    returns-2 returns-3)

@@ -29,11 +29,5 @@ returns c = let L = c .before .before .before .before .before .loop in sweeping-
 pub sweep-all-spec : {M : Type 1} → statement M
 sweep-all-spec =
     tie.close
-    (tie.spec
-    Inv-loop
-    μ-loop (λ c κs. search needs) (λ c. search needs) (λ c. search needs)
-    loop-holds (λ c. search needs)
-    sweep-one-requires (λ c. search needs)
-    loop-again
-    close-gap-requires (λ c. search needs)
-    returns)
+    (tie.spec Inv-loop μ-loop (λ c κs. search needs) (λ c. search needs) (λ c. search needs) loop-holds (λ c. search needs)
+    sweep-one-requires (λ c. search needs) loop-again close-gap-requires (λ c. search needs) returns)

@@ -12,6 +12,5 @@ returns-2 c = (sweep-none _ _ _ _ (c .before .is-marked .ensures) (c .if1 .left)
 pub sweep-one-spec : {M : Type 1} → statement M
 sweep-one-spec =
     tie.close
-    (tie.spec (λ c κs. search needs) (λ c. search needs) (λ c κs. search needs) (λ c. search needs) (λ c. search needs) (λ c κs. search needs) (λ c. search needs)
-    returns (λ c. search needs)
-    returns-2)
+    (tie.spec (λ c κs. search needs) (λ c. search needs) (λ c κs. search needs) (λ c. search needs) (λ c. search needs)
+    (λ c κs. search needs) (λ c. search needs) returns (λ c. search needs) returns-2)

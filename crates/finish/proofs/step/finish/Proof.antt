@@ -14,6 +14,4 @@ returns-2 : tie.Need-returns-2
 returns-2 c = search finish-accepted
 
 pub finish-spec : {M : Type 1} → statement M
-finish-spec =
-    tie.close
-    (tie.spec (λ c κs. search needs) (λ c. search needs) returns finish-requires (λ c. search needs) returns-2)
+finish-spec = tie.close (tie.spec (λ c κs. search needs) (λ c. search needs) returns finish-requires (λ c. search needs) returns-2)

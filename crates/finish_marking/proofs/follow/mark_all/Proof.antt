@@ -30,6 +30,4 @@ returns : tie.Need-returns Inv-loop μ-loop
 returns c = turns-end (c .before .loop .inv) (c .loop-test .left)
 
 pub mark-all-spec : {M : Type 1} → statement M
-mark-all-spec =
-    tie.close
-    (tie.spec Inv-loop μ-loop loop-holds turn-requires loop-less loop-again same-length returns)
+mark-all-spec = tie.close (tie.spec Inv-loop μ-loop loop-holds turn-requires loop-less loop-again same-length returns)

@@ -36,12 +36,6 @@ returns-2 c = searching-end (c .before .loop .inv) _ (omega arith)
 pub next-pending-spec : {M : Type 1} → statement M
 next-pending-spec =
     tie.close
-    (tie.spec
-    Inv-loop
-    μ-loop (λ c. search needs) (λ c. search needs) (λ c. search needs)
-    loop-holds (λ c κs. search needs) (λ c. search needs)
-    cast-j-2 (λ c. search needs)
-    add-result
-    returns (λ c. search needs) (λ c. search needs)
-    loop-again (λ c. search needs)
-    returns-2)
+    (tie.spec Inv-loop μ-loop (λ c. search needs) (λ c. search needs) (λ c. search needs) loop-holds (λ c κs. search needs)
+    (λ c. search needs) cast-j-2 (λ c. search needs) add-result returns (λ c. search needs) (λ c. search needs) loop-again
+    (λ c. search needs) returns-2)

@@ -29,10 +29,5 @@ returns c = let L = c .before .before .before .before .before .loop in (links-en
 pub settle-spec : {M : Type 1} → statement M
 settle-spec =
     tie.close
-    (tie.spec
-    Inv-loop
-    μ-loop (λ c κs. search needs)
-    loop-holds (λ c. search needs) (λ c κs. search needs) (λ c. search needs)
-    visit-requires (λ c. search needs) (λ c. search needs)
-    loop-again (λ c κs. search needs) (λ c. search needs)
-    returns)
+    (tie.spec Inv-loop μ-loop (λ c κs. search needs) loop-holds (λ c. search needs) (λ c κs. search needs) (λ c. search needs)
+    visit-requires (λ c. search needs) (λ c. search needs) loop-again (λ c κs. search needs) (λ c. search needs) returns)

@@ -32,11 +32,4 @@ returns c = looped-end (c .before .loop .inv) (omega arith)
 pub hold-all-spec : {M : Type 1} → statement M
 hold-all-spec =
     tie.close
-    (tie.spec
-    Inv-loop
-    μ-loop
-    loop-holds
-    hold-requires (λ c. search needs) (λ c. search needs)
-    loop-again
-    same-length
-    returns)
+    (tie.spec Inv-loop μ-loop loop-holds hold-requires (λ c. search needs) (λ c. search needs) loop-again same-length returns)

@@ -33,11 +33,5 @@ returns c = let L = c .before .loop in listed-end (looped-end (L .inv) (omega ar
 pub list-all-spec : {M : Type 1} → statement M
 list-all-spec =
     tie.close
-    (tie.spec
-    Inv-loop
-    μ-loop
-    loop-holds (λ c. search needs) (λ c. search needs)
-    set-card-requires (λ c. search needs) (λ c. search needs)
-    loop-again (λ c. search needs)
-    same-length
-    returns)
+    (tie.spec Inv-loop μ-loop loop-holds (λ c. search needs) (λ c. search needs) set-card-requires (λ c. search needs) (λ c. search needs)
+    loop-again (λ c. search needs) same-length returns)

@@ -35,11 +35,5 @@ returns c = let L = c .before .loop in card-whole width _ _ _ (sized-width (L .i
 pub open-card-spec : {M : Type 1} → statement M
 open-card-spec =
     tie.close
-    (tie.spec
-    Inv-loop
-    μ-loop
-    loop-holds (λ c. search needs) (λ c. search needs)
-    open-word-requires (λ c. search needs) (λ c. search needs)
-    loop-again
-    same-length
-    returns)
+    (tie.spec Inv-loop μ-loop loop-holds (λ c. search needs) (λ c. search needs) open-word-requires (λ c. search needs) (λ c. search needs)
+    loop-again same-length returns)

@@ -33,11 +33,4 @@ returns c = looped-end (c .before .loop .inv) (omega arith)
 pub open-entries-spec : {M : Type 1} → statement M
 open-entries-spec =
     tie.close
-    (tie.spec
-    Inv-loop
-    μ-loop
-    loop-holds
-    open-entry-requires (λ c. search needs) (λ c. search needs)
-    loop-again
-    same-length
-    returns)
+    (tie.spec Inv-loop μ-loop loop-holds open-entry-requires (λ c. search needs) (λ c. search needs) loop-again same-length returns)

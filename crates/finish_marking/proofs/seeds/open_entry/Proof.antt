@@ -13,6 +13,4 @@ returns-2 : tie.Need-returns-2
 returns-2 c = search entry-one
 
 pub open-entry-spec : {M : Type 1} → statement M
-open-entry-spec =
-    tie.close
-    (tie.spec returns (λ c κs. search needs) (λ c. search needs) open-one-requires (λ c. search needs) returns-2)
+open-entry-spec = tie.close (tie.spec returns (λ c κs. search needs) (λ c. search needs) open-one-requires (λ c. search needs) returns-2)

@@ -34,11 +34,4 @@ returns c = looped-end (c .before .loop .inv) (omega arith)
 pub open-hands-spec : {M : Type 1} → statement M
 open-hands-spec =
     tie.close
-    (tie.spec
-    Inv-loop
-    μ-loop
-    loop-holds
-    open-hand-requires (λ c. search needs) (λ c. search needs)
-    loop-again
-    same-length
-    returns)
+    (tie.spec Inv-loop μ-loop loop-holds open-hand-requires (λ c. search needs) (λ c. search needs) loop-again same-length returns)

@@ -16,7 +16,4 @@ returns-2 c = search fresh-made
 pub make-spec : {M : Type 1} → statement M
 make-spec =
     tie.close
-    (tie.spec (λ c κs. search needs) (λ c. search needs) (λ c. search needs)
-    make-fresh-requires
-    returns (λ c. search needs)
-    returns-2)
+    (tie.spec (λ c κs. search needs) (λ c. search needs) (λ c. search needs) make-fresh-requires returns (λ c. search needs) returns-2)

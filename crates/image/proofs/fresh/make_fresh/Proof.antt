@@ -10,4 +10,7 @@ returns c =
     fresh-written _ _ _ _ _ _ (e .before .before .before .pre) (search needs) (e .clear .ensures) (b .set-word .ensures) (c .before .before .set-first-run .ensures)
 
 pub make-fresh-spec : {M : Type 1} → statement M
-make-fresh-spec = tie.close (tie.spec (λ c κs. search needs) (λ c. search needs) (λ c. search needs) (λ c. search needs) (λ c κs. search needs) (λ c κs. search needs) (λ c. search needs) returns)
+make-fresh-spec =
+    tie.close
+    (tie.spec (λ c κs. search needs) (λ c. search needs) (λ c. search needs) (λ c. search needs) (λ c κs. search needs)
+    (λ c κs. search needs) (λ c. search needs) returns)

@@ -12,5 +12,4 @@ unfolding state nth imageOf image split
 returns c = let A = c .before .args in get-section width (A .k) (A .im .now) cardsAt _ _ (omega arith) (omega arith)
 
 pub card-spec : {M : Type 1} → statement M
-card-spec =
-    tie.close (tie.spec (λ c. search needs) (λ c. search needs) (λ c. search needs) (λ c. search needs) returns)
+card-spec = tie.close (tie.spec (λ c. search needs) (λ c. search needs) (λ c. search needs) (λ c. search needs) returns)

@@ -12,5 +12,4 @@ unfolding nth imageOf image split
 returns c = let A = c .before .args in get-section width (A .k) (A .im .now) marksAt _ _ (omega arith) (omega arith)
 
 pub mark-word-spec : {M : Type 1} → statement M
-mark-word-spec =
-    tie.close (tie.spec (λ c. search needs) (λ c. search needs) (λ c. search needs) (λ c. search needs) returns)
+mark-word-spec = tie.close (tie.spec (λ c. search needs) (λ c. search needs) (λ c. search needs) (λ c. search needs) returns)

@@ -12,5 +12,4 @@ unfolding nth imageOf image split
 returns c = let A = c .before .args in get-section width (A .k) (A .im .now) regsAt _ _ (omega arith) (omega arith)
 
 pub reg-word-spec : {M : Type 1} → statement M
-reg-word-spec =
-    tie.close (tie.spec (λ c. search needs) (λ c. search needs) (λ c. search needs) (λ c. search needs) returns)
+reg-word-spec = tie.close (tie.spec (λ c. search needs) (λ c. search needs) (λ c. search needs) (λ c. search needs) returns)

@@ -12,4 +12,6 @@ unfolding setState put imageOf image split withCards
 returns c = let A = c .args in put-section width (A .k) (A .im .now) cardsAt _ _ (omega arith) (omega arith) (A .v)
 
 pub set-card-spec : {M : Type 1} → statement M
-set-card-spec = tie.close (tie.spec (λ c. search needs) (λ c. search needs) (λ c. search needs) (λ c. search needs) (λ c. search needs) returns)
+set-card-spec =
+    tie.close
+    (tie.spec (λ c. search needs) (λ c. search needs) (λ c. search needs) (λ c. search needs) (λ c. search needs) returns)

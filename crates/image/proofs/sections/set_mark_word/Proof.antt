@@ -12,4 +12,6 @@ unfolding put imageOf image split withMarks
 returns c = let A = c .args in put-section width (A .k) (A .im .now) marksAt _ _ (omega arith) (omega arith) (A .v)
 
 pub set-mark-word-spec : {M : Type 1} → statement M
-set-mark-word-spec = tie.close (tie.spec (λ c. search needs) (λ c. search needs) (λ c. search needs) (λ c. search needs) (λ c. search needs) returns)
+set-mark-word-spec =
+    tie.close
+    (tie.spec (λ c. search needs) (λ c. search needs) (λ c. search needs) (λ c. search needs) (λ c. search needs) returns)

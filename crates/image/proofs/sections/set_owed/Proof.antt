@@ -8,5 +8,4 @@ unfolding setOwed
 returns c = search needs
 
 pub set-owed-spec : {M : Type 1} → statement M
-set-owed-spec =
-    tie.close (tie.spec (λ c. search needs) (λ c κs. search needs) (λ c. search needs) returns)
+set-owed-spec = tie.close (tie.spec (λ c. search needs) (λ c κs. search needs) (λ c. search needs) returns)

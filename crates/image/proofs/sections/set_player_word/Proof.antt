@@ -13,4 +13,6 @@ returns c = let A = c .args in put-section width (A .k) (A .im .now) playersAt _
 
 pub set-player-word-spec : {M : Type 1} → statement M
 set-player-word-spec =
-    tie.close (tie.spec (λ c. search needs) (λ c. search needs) (λ c. search needs) (λ c. search needs) (λ c. search needs) (λ c. search needs) returns)
+    tie.close
+    (tie.spec (λ c. search needs) (λ c. search needs) (λ c. search needs) (λ c. search needs) (λ c. search needs) (λ c. search needs)
+    returns)

@@ -8,6 +8,4 @@ unfolding setReg
 returns c = search needs
 
 pub set-reg-spec : {M : Type 1} → statement M
-set-reg-spec =
-    tie.close
-    (tie.spec (λ c. search needs) (λ c. search needs) (λ c κs. search needs) (λ c. search needs) returns)
+set-reg-spec = tie.close (tie.spec (λ c. search needs) (λ c. search needs) (λ c κs. search needs) (λ c. search needs) returns)

@@ -12,4 +12,6 @@ unfolding put imageOf image split withRegs
 returns c = let A = c .args in put-section width (A .k) (A .im .now) regsAt _ _ (omega arith) (omega arith) (A .v)
 
 pub set-reg-word-spec : {M : Type 1} → statement M
-set-reg-word-spec = tie.close (tie.spec (λ c. search needs) (λ c. search needs) (λ c. search needs) (λ c. search needs) (λ c. search needs) returns)
+set-reg-word-spec =
+    tie.close
+    (tie.spec (λ c. search needs) (λ c. search needs) (λ c. search needs) (λ c. search needs) (λ c. search needs) returns)

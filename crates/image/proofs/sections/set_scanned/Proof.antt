@@ -8,6 +8,4 @@ unfolding setScanned
 returns c = search needs
 
 pub set-scanned-spec : {M : Type 1} → statement M
-set-scanned-spec =
-    tie.close
-    (tie.spec (λ c. search needs) (λ c. search needs) (λ c κs. search needs) (λ c. search needs) returns)
+set-scanned-spec = tie.close (tie.spec (λ c. search needs) (λ c. search needs) (λ c κs. search needs) (λ c. search needs) returns)

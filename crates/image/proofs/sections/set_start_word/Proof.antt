@@ -13,4 +13,5 @@ returns c = let A = c .args in put-section width (A .k) (A .im .now) startsAt _ 
 
 pub set-start-word-spec : {M : Type 1} → statement M
 set-start-word-spec =
-    tie.close (tie.spec (λ c. search needs) (λ c. search needs) (λ c. search needs) (λ c. search needs) (λ c. search needs) returns)
+    tie.close
+    (tie.spec (λ c. search needs) (λ c. search needs) (λ c. search needs) (λ c. search needs) (λ c. search needs) returns)

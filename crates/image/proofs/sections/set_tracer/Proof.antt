@@ -8,6 +8,4 @@ unfolding setTracer
 returns c = search needs
 
 pub set-tracer-spec : {M : Type 1} → statement M
-set-tracer-spec =
-    tie.close
-    (tie.spec (λ c. search needs) (λ c. search needs) (λ c κs. search needs) (λ c. search needs) returns)
+set-tracer-spec = tie.close (tie.spec (λ c. search needs) (λ c. search needs) (λ c κs. search needs) (λ c. search needs) returns)

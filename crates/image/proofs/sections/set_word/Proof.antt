@@ -8,6 +8,4 @@ unfolding setWord
 returns c = search needs
 
 pub set-word-spec : {M : Type 1} → statement M
-set-word-spec =
-    tie.close
-    (tie.spec (λ c. search needs) (λ c. search needs) (λ c κs. search needs) (λ c. search needs) returns)
+set-word-spec = tie.close (tie.spec (λ c. search needs) (λ c. search needs) (λ c κs. search needs) (λ c. search needs) returns)

@@ -24,6 +24,4 @@ unfolding levels size
 returns c = omega arith
 
 pub levels-spec : {M : Type 1} → statement M
-levels-spec =
-    tie.close
-    (tie.spec word-requires (λ c. search needs) links-requires (λ c. search needs) sub-result sub-result-2 returns)
+levels-spec = tie.close (tie.spec word-requires (λ c. search needs) links-requires (λ c. search needs) sub-result sub-result-2 returns)

@@ -51,12 +51,5 @@ returns-3 c = search read-done
 pub read-spec : {M : Type 1} → statement M
 read-spec =
     tie.close
-    (tie.spec (λ c κs. search needs) (λ c. search needs)
-    returns
-    levels-requires
-    returns-2
-    links-requires
-    add-word
-    add-word-2
-    word-requires
+    (tie.spec (λ c κs. search needs) (λ c. search needs) returns levels-requires returns-2 links-requires add-word add-word-2 word-requires
     returns-3)

@@ -51,12 +51,5 @@ returns-3 c = search write-done
 pub write-spec : {M : Type 1} → statement M
 write-spec =
     tie.close
-    (tie.spec (λ c κs. search needs) (λ c. search needs) (λ c. search needs)
-    returns
-    levels-requires (λ c. search needs)
-    returns-2
-    links-requires
-    add-set-word
-    add-set-word-2 (λ c. search needs)
-    set-word-requires (λ c. search needs)
-    returns-3)
+    (tie.spec (λ c κs. search needs) (λ c. search needs) (λ c. search needs) returns levels-requires (λ c. search needs) returns-2
+    links-requires add-set-word add-set-word-2 (λ c. search needs) set-word-requires (λ c. search needs) returns-3)

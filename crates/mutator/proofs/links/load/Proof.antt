@@ -45,10 +45,5 @@ returns-3 c = search load-done
 pub load-spec : {M : Type 1} → statement M
 load-spec =
     tie.close
-    (tie.spec (λ c κs. search needs) (λ c. search needs) (λ c. search needs)
-    returns
-    links-requires (λ c. search needs)
-    returns-2
-    add-word
-    word-requires (λ c κs. search needs) (λ c. search needs)
-    returns-3)
+    (tie.spec (λ c κs. search needs) (λ c. search needs) (λ c. search needs) returns links-requires (λ c. search needs) returns-2 add-word
+    word-requires (λ c κs. search needs) (λ c. search needs) returns-3)

@@ -45,10 +45,6 @@ returns-3 c = search store-done
 pub store-spec : {M : Type 1} → statement M
 store-spec =
     tie.close
-    (tie.spec (λ c κs. search needs) (λ c. search needs) (λ c. search needs)
-    returns
-    links-requires (λ c. search needs)
-    returns-2 (λ c κs. search needs)
-    add-set-word
-    set-word-requires (λ c. search needs) (λ c. search needs) (λ c κs. search needs) (λ c. search needs)
-    returns-3)
+    (tie.spec (λ c κs. search needs) (λ c. search needs) (λ c. search needs) returns links-requires (λ c. search needs) returns-2
+    (λ c κs. search needs) add-set-word set-word-requires (λ c. search needs) (λ c. search needs) (λ c κs. search needs)
+    (λ c. search needs) returns-3)

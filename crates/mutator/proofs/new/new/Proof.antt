@@ -42,13 +42,5 @@ returns-5 c = search new-done
 pub new-spec : {M : Type 1} → statement M
 new-spec =
     tie.close
-    (tie.spec
-    returns
-    returns-2 (λ c. search needs) (λ c. search needs)
-    returns-3
-    find-room-requires (λ c. search needs)
-    returns-4
-    take-run-requires
-    make-object-requires
-    cast-t19 (λ c. search needs)
-    returns-5)
+    (tie.spec returns returns-2 (λ c. search needs) (λ c. search needs) returns-3 find-room-requires (λ c. search needs) returns-4
+    take-run-requires make-object-requires cast-t19 (λ c. search needs) returns-5)

@@ -10,6 +10,4 @@ returns-2 : tie.Need-returns-2
 returns-2 c = search set-next-after
 
 pub set-next-spec : {M : Type 1} → statement M
-set-next-spec =
-    tie.close
-    (tie.spec (λ c κs. search needs) (λ c κs. search needs) (λ c. search needs) returns (λ c. search needs) returns-2)
+set-next-spec = tie.close (tie.spec (λ c κs. search needs) (λ c κs. search needs) (λ c. search needs) returns (λ c. search needs) returns-2)

@@ -16,7 +16,5 @@ returns-2 c = search barrier-done
 pub barrier-spec : {M : Type 1} → statement M
 barrier-spec =
     tie.close
-    (tie.spec (λ c κs. search needs) (λ c. search needs) (λ c. search needs)
-    returns (λ c. search needs)
-    dirty-card-requires (λ c κs. search needs) (λ c. search needs)
-    returns-2)
+    (tie.spec (λ c κs. search needs) (λ c. search needs) (λ c. search needs) returns (λ c. search needs) dirty-card-requires
+    (λ c κs. search needs) (λ c. search needs) returns-2)

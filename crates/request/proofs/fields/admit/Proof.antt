@@ -38,11 +38,4 @@ returns-6 c = search admit-passed
 pub admit-spec : {M : Type 1} → statement M
 admit-spec =
     tie.close
-    (tie.spec
-    returns
-    returns-2 (λ c κs. search needs)
-    returns-3 (λ c κs. search needs)
-    returns-4
-    some-owing-requires
-    returns-5
-    returns-6)
+    (tie.spec returns returns-2 (λ c κs. search needs) returns-3 (λ c κs. search needs) returns-4 some-owing-requires returns-5 returns-6)

@@ -18,5 +18,4 @@ returns-3 : tie.Need-returns-3
 returns-3 c = let q = c .before in no-debt (q .args .n) (q .pre .0) (q .args .i) (q .pre .1) (c .match .rest .0 .1) (c .match .rest .1)
 
 pub asks-debt-spec : {M : Type 1} → statement M
-asks-debt-spec =
-    tie.close (tie.spec (λ c. search needs) (λ c. search needs) returns returns-2 returns-3)
+asks-debt-spec = tie.close (tie.spec (λ c. search needs) (λ c. search needs) returns returns-2 returns-3)

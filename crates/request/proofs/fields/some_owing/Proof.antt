@@ -29,5 +29,4 @@ returns : tie.Need-returns
 returns c = search owing-found
 
 pub some-owing-spec : {M : Type 1} → statement M
-some-owing-spec =
-    tie.close (tie.spec owes-requires owes-requires-2 owes-requires-3 owes-requires-4 returns)
+some-owing-spec = tie.close (tie.spec owes-requires owes-requires-2 owes-requires-3 owes-requires-4 returns)

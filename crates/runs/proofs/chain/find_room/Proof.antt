@@ -37,13 +37,5 @@ returns-2 c = walk-end _ _ _ _ (c .before .loop .inv) (c .loop-test .left)
 pub find-room-spec : {M : Type 1} → statement M
 find-room-spec =
     tie.close
-    (tie.spec
-    Inv-loop
-    μ-loop (λ c κs. search needs) (λ c. search needs)
-    loop-holds
-    run-length-requires
-    returns
-    next-run-requires
-    loop-less
-    loop-again
-    returns-2)
+    (tie.spec Inv-loop μ-loop (λ c κs. search needs) (λ c. search needs) loop-holds run-length-requires returns next-run-requires loop-less
+    loop-again returns-2)

@@ -43,13 +43,5 @@ returns c = count-end _ _ _ (c .before .loop .inv) (c .loop-test .left)
 pub free-granules-spec : {M : Type 1} → statement M
 free-granules-spec =
     tie.close
-    (tie.spec
-    Inv-loop
-    μ-loop (λ c κs. search needs) (λ c. search needs)
-    loop-holds
-    word-requires (λ c. search needs)
-    add-total
-    next-run-requires
-    loop-less
-    loop-again
-    returns)
+    (tie.spec Inv-loop μ-loop (λ c κs. search needs) (λ c. search needs) loop-holds word-requires (λ c. search needs) add-total
+    next-run-requires loop-less loop-again returns)

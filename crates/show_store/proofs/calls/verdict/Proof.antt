@@ -35,11 +35,5 @@ returns-5 c = search batch-damaged
 pub verdict-spec : {M : Type 1} → statement M
 verdict-spec =
     tie.close
-    (tie.spec (λ c κs. search needs) (λ c. search needs) (λ c. search needs)
-    returns (λ c. search needs)
-    returns-2
-    is-undamaged-requires
-    run-all-requires (λ c. search needs) (λ c. search needs)
-    returns-3
-    returns-4 (λ c. search needs)
-    returns-5)
+    (tie.spec (λ c κs. search needs) (λ c. search needs) (λ c. search needs) returns (λ c. search needs) returns-2 is-undamaged-requires
+    run-all-requires (λ c. search needs) (λ c. search needs) returns-3 returns-4 (λ c. search needs) returns-5)

@@ -1,8 +1,4 @@
 use borrow.Author.Needs.{needs}
-use Rattle.image.specs.Layout.{width}
-use Rattle.model.specs.Records.{recordBytes}
-use Rattle.request_laws.specs.Answer.{done}
-use Rattle.show_store_laws.specs.Run.{recordAt}
 use Rattle.show_store_laws.proofs.Run.{turn}
 use native.Mathlib.Omega.{arith}
 use lib.ListN.{length-set}
@@ -13,15 +9,14 @@ slice-write-answers-2 : tie.Need-slice-write-answers-2
 slice-write-answers-2 c = simp length-set (omega arith)
 
 returns : tie.Need-returns
-unfolding recordAt recordBytes
 returns c =
-    let A = c .before .before .before .before .before .before .before .before .before .before .args in
+    let A = c .before .before .before .before .before .before .before .before .args in
     let a = c .before .before .before .before .perform .ensures in
-    turn width _ _ (A .steps .now) (A .answers .now) (A .i) _ _ _ (c .before .before .before .before .before .before .read .ensures .0) (rw (c .before .number .ensures, c .value .ensures) a)
+    turn _ _ (A .answers .now) (A .i) _ _ _ (rw (c .before .number .ensures, c .value .ensures) a)
 
 pub one-spec : {M : Type 1} → statement M
 one-spec =
     tie.close
-    (tie.spec (λ c. search needs) (λ c κs. search needs) (λ c κs. search needs) (λ c κs. search needs) (λ c κs. search needs) (λ c. search needs) (λ c. search needs) (λ c. search needs) (λ c. search needs) (λ c. search needs) (λ c. search needs)
-    slice-write-answers-2 (λ c. search needs) (λ c. search needs)
-    returns)
+    (tie.spec (λ c κs. search needs) (λ c κs. search needs) (λ c κs. search needs) (λ c. search needs) (λ c. search needs)
+    (λ c. search needs) (λ c. search needs) (λ c. search needs) (λ c. search needs) slice-write-answers-2 (λ c. search needs)
+    (λ c. search needs) returns)

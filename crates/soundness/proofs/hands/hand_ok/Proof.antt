@@ -6,4 +6,5 @@ use Rattle.soundness.proofs.hands.hand_ok.Tie as tie
 pub hand-ok-spec : {M : Type 1} → statement M
 hand-ok-spec =
     tie.close
-    (tie.spec (λ c. search hand-nil) (λ c. search needs) (λ c. search hand-out) (λ c κs. search needs) (λ c κs. search needs) (λ c. search hand-marked))
+    (tie.spec (λ c. search hand-nil) (λ c. search needs) (λ c. search hand-out) (λ c κs. search needs) (λ c κs. search needs)
+    (λ c. search hand-marked))

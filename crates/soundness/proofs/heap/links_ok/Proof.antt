@@ -19,4 +19,5 @@ loop-holds c = after-two _ _ _ _ (c .least .ensures) (c .before .first-links .en
 pub links-ok-spec : {M : Type 1} → statement M
 links-ok-spec =
     tie.close
-    (tie.spec Inv-loop μ-loop (λ c κs. search needs) (λ c κs. search needs) loop-holds (λ c κs. search needs) (λ c. search needs) (λ c. search needs) (λ c. search checked-more) (λ c. search checked-end))
+    (tie.spec Inv-loop μ-loop (λ c κs. search needs) (λ c κs. search needs) loop-holds (λ c κs. search needs) (λ c. search needs)
+    (λ c. search needs) (λ c. search checked-more) (λ c. search checked-end))

@@ -36,4 +36,5 @@ pub walk-spec : {M : Type 1} → statement M
 walk-spec =
     tie.close
     (tie.spec Inv-loop μ-loop (λ c. search w-start) (λ c. search needs) (λ c κs. search needs) (λ c κs. search needs) (λ c. search w-stop)
-    object-links-requires (λ c. search w-link) one-more-requires (λ c κs. search needs) (λ c κs. search needs) (λ c. search needs) (λ c. search needs) loop-less loop-again (λ c κs. search needs) (λ c. search w-end))
+    object-links-requires (λ c. search w-link) one-more-requires (λ c κs. search needs) (λ c κs. search needs) (λ c. search needs)
+    (λ c. search needs) loop-less loop-again (λ c κs. search needs) (λ c. search w-end))

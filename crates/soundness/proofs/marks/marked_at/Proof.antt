@@ -6,4 +6,5 @@ use Rattle.soundness.proofs.marks.marked_at.Tie as tie
 pub marked-at-spec : {M : Type 1} → statement M
 marked-at-spec =
     tie.close
-    (tie.spec (λ c. search needs) (λ c. search needs) (λ c κs. search needs) (λ c. search needs) (λ c κs. search needs) (λ c. search mark-at))
+    (tie.spec (λ c. search needs) (λ c. search needs) (λ c κs. search needs) (λ c. search needs) (λ c κs. search needs)
+    (λ c. search mark-at))

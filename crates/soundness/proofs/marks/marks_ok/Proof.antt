@@ -25,5 +25,5 @@ returns c = by-words width _ _ _ _ (c .before .before .before .pre) (g-end (c .b
 pub marks-ok-spec : {M : Type 1} → statement M
 marks-ok-spec =
     tie.close
-    (tie.spec Inv-loop μ-loop (λ c. g-none) (λ c. search needs) (λ c κs. search needs) (λ c κs. search needs) (λ c. search needs) (λ c. search needs)
-    loop-again returns)
+    (tie.spec Inv-loop μ-loop (λ c. g-none) (λ c. search needs) (λ c κs. search needs) (λ c κs. search needs) (λ c. search needs)
+    (λ c. search needs) loop-again returns)

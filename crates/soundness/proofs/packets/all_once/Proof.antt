@@ -14,4 +14,5 @@ abbrev μ-loop : tie.MeasureT-loop
 pub all-once-spec : {M : Type 1} → statement M
 all-once-spec =
     tie.close
-    (tie.spec Inv-loop μ-loop (λ c. search p-none) (λ c κs. search needs) (λ c. search needs) (λ c. search needs) (λ c. search p-more) (λ c. search needs) (λ c. search p-end))
+    (tie.spec Inv-loop μ-loop (λ c. search p-none) (λ c κs. search needs) (λ c. search needs) (λ c. search needs) (λ c. search p-more)
+    (λ c. search needs) (λ c. search p-end))

@@ -28,4 +28,6 @@ loop-again c =
 pub packet-once-spec : {M : Type 1} → statement M
 packet-once-spec =
     tie.close
-    (tie.spec Inv-loop μ-loop (λ c. search needs) (λ c κs. search needs) (λ c. search needs) (λ c. search a-none) (λ c. search needs) (λ c. search needs) (λ c. search needs) packet-word-requires-2 (λ c. search needs) (λ c κs. search a-place) (λ c. search needs) (λ c. search needs) loop-again (λ c. search needs) (λ c. search a-end))
+    (tie.spec Inv-loop μ-loop (λ c. search needs) (λ c κs. search needs) (λ c. search needs) (λ c. search a-none) (λ c. search needs)
+    (λ c. search needs) (λ c. search needs) packet-word-requires-2 (λ c. search needs) (λ c κs. search a-place) (λ c. search needs)
+    (λ c. search needs) loop-again (λ c. search needs) (λ c. search a-end))

@@ -12,4 +12,5 @@ returns c = (ap not (c .has-bit .ensures), rw (c .before .with-bit .ensures) ref
 pub first-time-spec : {M : Type 1} → statement M
 first-time-spec =
     tie.close
-    (tie.spec (λ c. search needs) (λ c. search needs) (λ c. search needs) (λ c κs. search needs) (λ c. search needs) (λ c. search needs) (λ c κs. search needs) (λ c. search needs) returns)
+    (tie.spec (λ c. search needs) (λ c. search needs) (λ c. search needs) (λ c κs. search needs) (λ c. search needs) (λ c. search needs)
+    (λ c κs. search needs) (λ c. search needs) returns)

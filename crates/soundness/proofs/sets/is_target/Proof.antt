@@ -6,4 +6,5 @@ use Rattle.soundness.proofs.sets.is_target.Tie as tie
 pub is-target-spec : {M : Type 1} → statement M
 is-target-spec =
     tie.close
-    (tie.spec (λ c κs. search needs) (λ c. search target-bit) (λ c. search needs) (λ c κs. search needs) (λ c. search target-start) (λ c. search target-past))
+    (tie.spec (λ c κs. search needs) (λ c. search target-bit) (λ c. search needs) (λ c κs. search needs) (λ c. search target-start)
+    (λ c. search target-past))

@@ -28,10 +28,4 @@ returns-3 c = let A = c .before .before .before .before .args in next-found _ _ 
 pub next-marked-spec : {M : Type 1} → statement M
 next-marked-spec =
     tie.close
-    (tie.spec (λ c. search needs)
-    returns (λ c κs. search needs) (λ c. search needs)
-    returns-2
-    cast-t
-    add-result
-    add-result-2
-    returns-3)
+    (tie.spec (λ c. search needs) returns (λ c κs. search needs) (λ c. search needs) returns-2 cast-t add-result add-result-2 returns-3)

@@ -14,6 +14,4 @@ returns : tie.Need-returns
 returns c = search append-done
 
 pub append-entry-spec : {M : Type 1} → statement M
-append-entry-spec =
-    tie.close
-    (tie.spec (λ c κs. search needs) push-requires write-packet-requires (λ c. search needs) returns)
+append-entry-spec = tie.close (tie.spec (λ c κs. search needs) push-requires write-packet-requires (λ c. search needs) returns)

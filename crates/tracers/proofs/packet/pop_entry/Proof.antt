@@ -17,10 +17,4 @@ returns : tie.Need-returns
 returns c = search pop-done
 
 pub pop-entry-spec : {M : Type 1} → statement M
-pop-entry-spec =
-    tie.close
-    (tie.spec (λ c κs. search needs)
-    last-requires
-    pop-requires
-    write-packet-requires (λ c. search needs)
-    returns)
+pop-entry-spec = tie.close (tie.spec (λ c κs. search needs) last-requires pop-requires write-packet-requires (λ c. search needs) returns)

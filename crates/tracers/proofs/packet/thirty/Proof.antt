@@ -27,8 +27,5 @@ returns c = search alike-done
 pub thirty-spec : {M : Type 1} → statement M
 thirty-spec =
     tie.close
-    (tie.spec
-    Inv-loop
-    μ-loop (λ c. search needs) (λ c. search needs) (λ c. search needs) (λ c. search needs) (λ c. search needs) (λ c. search needs) (λ c. search needs)
-    loop-again
-    returns)
+    (tie.spec Inv-loop μ-loop (λ c. search needs) (λ c. search needs) (λ c. search needs) (λ c. search needs) (λ c. search needs)
+    (λ c. search needs) (λ c. search needs) loop-again returns)
