@@ -3,42 +3,47 @@ ghost use mathlib.Core.Path.{_≡_};
 ghost use mathlib.Core.Bool.{true, false, not, _&&_};
 ghost use Prim.Native.Nat.{ℕ, _+_, _*_, _≤_, _<_};
 ghost use lib.Dec.{leb, ltb, eqb};
+ghost use Rattle.model.specs.Base.{testBit};
 ghost use Rattle.model.specs.Image.{imageOf, owed};
 ghost use Rattle.model.specs.Records.{kindOf};
 ghost use Rattle.model.specs.Steps.{unnamed, offDesk, owing};
 ghost use Rattle.theory.specs.Fields.{boundAt};
 ghost use Rattle.image_laws.specs.Sized.{Sized};
 ghost use Rattle.image.specs.Layout.{width};
-ghost use Rattle.request_laws.specs.Request.{requested, InRange, admissionOf, asksDebt};
+ghost use Rattle.request_laws.specs.Request.{requested, InRange, admissionOf, asksDebt, roleDigit, roleLimit};
 use image::layout::VALUES;
 use image::layout::Word;
 use request_laws::Admission;
 use request_laws::Request;
 
-// What a field stays below: not named, a player, a register, a tracer, any number.
-const U: usize = 0;
+// The roles of each field, two bits a kind, with kind 0 lowest: 0 not named, 1 a player or a register, 2 a tracer, 3 any number. The kinds, from
+// the highest down: due, finish, clean, trace, scan, begin, write, read, drop, hand, barrier, store, load, new, none.
+const WHO: u64 = 0b00_00_10_10_10_00_01_01_01_01_01_01_01_01_11;
 
-const P: usize = 16;
+const A: u64 = 0b11_00_00_00_01_00_01_01_01_01_00_01_01_01_11;
 
-const R: usize = 16;
+const B: u64 = 0b00_00_00_00_00_00_11_11_00_01_00_11_01_11_11;
 
-const T: usize = 8;
+const C: u64 = 0b00_00_00_00_00_00_11_00_00_01_00_01_11_11_11;
 
-const N: usize = VALUES;
+// The kinds whose field is a player who must owe nothing, a bit a kind; a and c never are.
+const WHO_OWES_NONE: u64 = 0b000000111101110;
 
-// The limits of each field by kind, from 0 on: none, new, load, store, barrier, hand, drop, read, write, begin, scan, trace, clean, finish, due.
-const WHO: [usize; 15] = [N, P, P, P, P, P, P, P, P, U, T, T, T, U, U];
+const B_OWES_NONE: u64 = 0b000000000100000;
 
-const A: [usize; 15] = [N, R, R, R, U, R, R, R, R, U, P, U, U, U, N];
-
-const B: [usize; 15] = [N, N, R, N, U, P, U, N, N, U, U, U, U, U, U];
-
-const C: [usize; 15] = [N, N, N, R, U, R, U, U, N, U, U, U, U, U, U];
-
-// 1 where the field is a player who must owe nothing; a and c never are.
-const WHO_OWES_NONE: [u8; 15] = [0, 1, 1, 1, 0, 1, 1, 1, 1, 0, 0, 0, 0, 0, 0];
-
-const B_OWES_NONE: [u8; 15] = [0, 0, 0, 0, 0, 1, 0, 0, 0, 0, 0, 0, 0, 0, 0];
+// What a field of kind n stays below, by the roles t.
+fn limit_by(t: u64, n: usize) -> usize
+    requires { ⌜ n < 15 ⌝ }
+    ensures { λ r. ⌜ r ≡ roleLimit width (roleDigit t n) ⌝ }
+{
+    let role = (t >> (2 * n as u64)) & 3;
+    match role {
+        0 => 0,
+        1 => 16,
+        2 => 8,
+        _ => VALUES,
+    }
+}
 
 // Field i (who, a, b, c) of kind n, in a store of k cards, which a field that names a card stays below; no kind has one yet.
 fn limit(k: usize, n: usize, i: usize) -> usize
@@ -46,11 +51,18 @@ fn limit(k: usize, n: usize, i: usize) -> usize
     ensures { λ r. ⌜ r ≡ boundAt width k (kindOf n) i ⌝ }
 {
     match i {
-        0 => WHO[n],
-        1 => A[n],
-        2 => B[n],
-        _ => C[n],
+        0 => limit_by(WHO, n),
+        1 => limit_by(A, n),
+        2 => limit_by(B, n),
+        _ => limit_by(C, n),
     }
+}
+
+fn has_kind(t: u64, n: usize) -> bool
+    requires { ⌜ n < 15 ⌝ }
+    ensures { λ r. ⌜ r ≡ testBit t n ⌝ }
+{
+    (t >> (n as u64)) & 1 == 1
 }
 
 fn asks_debt(n: usize, i: usize) -> bool
@@ -58,8 +70,8 @@ fn asks_debt(n: usize, i: usize) -> bool
     ensures { λ r. ⌜ r ≡ asksDebt (kindOf n) i ⌝ }
 {
     match i {
-        0 => WHO_OWES_NONE[n] == 1,
-        2 => B_OWES_NONE[n] == 1,
+        0 => has_kind(WHO_OWES_NONE, n),
+        2 => has_kind(B_OWES_NONE, n),
         _ => false,
     }
 }

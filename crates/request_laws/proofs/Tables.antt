@@ -1,38 +1,55 @@
--- Constant tables with an entry for each kind, held against the model's table of kinds.
+-- Constant tables with an entry for each kind in one number, held against the model's table of kinds.
 use mathlib.Core.Path.{_≡_, refl, sym, _∙_}
 use mathlib.Core.Bool.{Bool, true, false, not, cond}
-use Prim.Native.Nat.{ℕ, zero, suc, _<_}
-use native.Mathlib.Omega.{arith}
+use Prim.Native.Nat.{ℕ, zero, suc, _^_, _<_}
 use lib.Dec.{eqb}
-use lib.ListN.{getD}
-use borrow.Author.Tests.{not-true}
-use Rattle.model.specs.Base.{all, table}
+use borrow.Author.Tests.{eqb-true, not-true}
+use Rattle.model.specs.Base.{all, testBit}
 use Rattle.model.specs.Records.{kindOf}
-use Rattle.model.proofs.Laws.{all-use}
+use Rattle.model.proofs.Laws.{false≢, all-use}
 use Rattle.theory.specs.Fields.{boundAt}
 use Rattle.theory.proofs.steps.Fields.{four}
-use Rattle.request_laws.specs.Request.{asksDebt, limits, debtors}
+use Rattle.request_laws.specs.Request.{asksDebt, roleDigit, roleLimit}
 
-table-at : (n : ℕ) (f : ℕ → ℕ) (i : ℕ) → i < n → getD (table n f) i 0 ≡ f i
-unfolding table
-table-at zero f i h = absurd (omega arith)
-table-at (suc n) f zero h = refl
-table-at (suc n) f (suc i) h = table-at n (λ j. f (suc j)) i (omega arith)
+-- ---- a limit by its role
 
+module _ (w d : ℕ) where
+  pub limit-unused : d ≡ 0 → 0 ≡ roleLimit w d
+  unfolding roleLimit
+  limit-unused e = rw e
+
+  pub limit-desk : d ≡ 1 → 16 ≡ roleLimit w d
+  unfolding roleLimit
+  limit-desk e = rw e
+
+  pub limit-tracer : d ≡ 2 → 8 ≡ roleLimit w d
+  unfolding roleLimit
+  limit-tracer e = rw e
+
+pub limit-number : (w d : ℕ) → (d ≡ 0 → ⊥) → (d ≡ 1 → ⊥) → (d ≡ 2 → ⊥) → 2 ^ w ≡ roleLimit w d
+unfolding roleLimit
+limit-number w zero a b c = absurd (a refl)
+limit-number w (suc zero) a b c = absurd (b refl)
+limit-number w (suc (suc zero)) a b c = absurd (c refl)
+limit-number w (suc (suc (suc d))) a b c = refl
+
+-- ---- whole tables: t is right for field i
+
+same-bool : (a b : Bool) → cond a b (not b) ≡ true → a ≡ b
+same-bool true true e = refl
+same-bool true false e = false≢ e
+same-bool false true e = false≢ e
+same-bool false false e = refl
+
+module _ (n : ℕ) (h : n < 15) (i j : ℕ) (q : j ≡ i) where
+  pub limit-at : (w k t r : ℕ) → r ≡ roleLimit w (roleDigit t n) → all 15 (λ n. eqb (roleLimit w (roleDigit t n)) (boundAt w k (kindOf n) i)) ≡ true → r ≡ boundAt w k (kindOf n) j
+  limit-at w k t r f e = f ∙ (eqb-true _ _ (all-use 15 (λ n. eqb (roleLimit w (roleDigit t n)) (boundAt w k (kindOf n) i)) e n h) ∙ rw q)
+
+  pub debt-at : (t : ℕ) (r : Bool) → r ≡ testBit t n → all 15 (λ n. cond (testBit t n) (asksDebt (kindOf n) i) (not (asksDebt (kindOf n) i))) ≡ true → r ≡ asksDebt (kindOf n) j
+  debt-at t r f e = f ∙ (same-bool _ _ (all-use 15 (λ n. cond (testBit t n) (asksDebt (kindOf n) i) (not (asksDebt (kindOf n) i))) e n h) ∙ rw q)
+
+-- fields a and c never are players who must owe nothing
 module _ (n : ℕ) (h : n < 15) where
-  pub limit-at : (w k i j : ℕ) → j ≡ i → getD (limits w k i) n 0 ≡ boundAt w k (kindOf n) j
-  unfolding limits
-  limit-at w k i j e = table-at 15 (λ n. boundAt w k (kindOf n) i) n h ∙ rw e
-
-  pub debt-at : (i j : ℕ) → j ≡ i → eqb (getD (debtors i) n 0) 1 ≡ asksDebt (kindOf n) j
-  unfolding debtors
-  debt-at i j e = one (asksDebt (kindOf n) i) _ (table-at 15 (λ n. cond (asksDebt (kindOf n) i) 1 0) n h) ∙ rw e
-    where
-      one : (b : Bool) (x : ℕ) → x ≡ cond b 1 0 → eqb x 1 ≡ b
-      one true x e = rw e
-      one false x e = rw e
-
-  -- fields a and c
   none-a : all 15 (λ n. not (asksDebt (kindOf n) 1)) ≡ true
   unfolding all kindOf asksDebt
   none-a = refl

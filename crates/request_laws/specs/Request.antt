@@ -1,8 +1,7 @@
 -- A request as the model's record, the range of its fields, and what numbers 3 to 5 say of a record.
-use mathlib.Core.Bool.{Bool, true, false, cond, _&&_}
-use mathlib.Core.List.{List}
-use Prim.Native.Nat.{ℕ, _^_, _<_}
-use Rattle.model.specs.Base.{table}
+use mathlib.Core.Bool.{Bool, true, false, _&&_}
+use Prim.Native.Nat.{ℕ, zero, suc, _*_, _/_, _%_, _^_, _<_}
+use Rattle.model.specs.Base.{all, testBit}
 use Rattle.model.specs.Image.{Image}
 use Rattle.model.specs.Records.{Step, Kind, kindOf}
 use Rattle.model.specs.Rows.{rowOf, isPlayer}
@@ -39,14 +38,20 @@ unfoldable pub asksDebt : Kind → ℕ → Bool
 unfolding rowOf isPlayer roleAt
 asksDebt n i = (rowOf n) .unowing && isPlayer (roleAt n i)
 
--- what a table has for field i of each kind's number from 0 on: limits, and 1 for a player who must owe nothing
-unfoldable pub limits : ℕ → ℕ → ℕ → List ℕ
-limits w k i = table 15 (λ n. boundAt w k (kindOf n) i)
+-- ---- tables of roles in one number, two bits a kind
 
-unfoldable pub debtors : ℕ → List ℕ
-debtors i = table 15 (λ n. cond (asksDebt (kindOf n) i) 1 0)
+-- the two bits of kind n
+unfoldable pub roleDigit : ℕ → ℕ → ℕ
+roleDigit t n = t / 2 ^ (2 * n) % 4
 
--- opens what computes the two
+-- what a field stays below by its two bits: not named, a player or a register, a tracer, any number of w bits
+unfoldable pub roleLimit : ℕ → ℕ → ℕ
+roleLimit w zero = 0
+roleLimit w (suc zero) = 16
+roleLimit w (suc (suc zero)) = 8
+roleLimit w (suc (suc (suc d))) = 2 ^ w
+
+-- opens what computes such tables
 unfoldable pub tables-open : ℕ
-unfolding table kindOf boundAt asksDebt limits debtors
+unfolding all testBit kindOf boundAt asksDebt roleDigit roleLimit
 tables-open = 0

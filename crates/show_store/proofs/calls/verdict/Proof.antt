@@ -23,7 +23,11 @@ run-all-requires c κs = (search cards-sized, (judged-undamaged width _ _ _ _ (c
 
 returns-3 : tie.Need-returns-3
 unfolding recordBytes
-returns-3 c = search batch-run
+returns-3 c =
+    let R = c .before .before .before .before in
+    let J = R .before .before .before .before in
+    let S = J .before .before .before .before .before in
+    batch-run width _ _ _ _ (S .before .before .cards .ensures) _ (S .s .given .1) (omega arith) (omega arith) _ (J .is-undamaged .ensures) (R .before .before .before .if3 .taken) _ _ (omega arith) (R .run-all .ensures .0) (R .run-all .ensures .1)
 
 returns-4 : tie.Need-returns-4
 returns-4 c = search batch-misfit
