@@ -1,6 +1,6 @@
 // Kind 12: clean, "object in hand, as in trace", then a card's marked objects, then the lowest dirty card.
 ghost use mathlib.Core.Path.{_≡_};
-ghost use Prim.Native.Nat.{ℕ, _+_, _*_, _≤_, _<_};
+ghost use Prim.Native.Nat.{_<_};
 ghost use lib.Dec.{eqb};
 ghost use Rattle.model.specs.Image.{imageOf};
 ghost use Rattle.model.specs.Collect.{cleanCard, takeCard, cleanLine, cleanStep};

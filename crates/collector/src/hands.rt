@@ -1,6 +1,6 @@
 // The object in a tracer's hand: "that link is reached, and after the last the hand is empty".
 ghost use mathlib.Core.Path.{_≡_};
-ghost use Prim.Native.Nat.{ℕ, suc, _+_, _*_, _≤_, _<_};
+ghost use Prim.Native.Nat.{_+_, _*_, _<_};
 ghost use Rattle.model.specs.Image.{imageOf, hand, nextLink, links, link};
 ghost use Rattle.model.specs.Collect.{reach, traceHand, takeObject};
 ghost use Rattle.theory.specs.Lines.{Lines, Start};

@@ -1,24 +1,22 @@
 // Reach, by a tracer: "nil or marked, nothing. Else the object is marked and appended to the output packet."
 ghost use mathlib.Core.Path.{_≡_};
-ghost use Prim.Native.Nat.{ℕ, _+_, _*_, _≤_, _<_};
+ghost use Prim.Native.Nat.{_+_, _*_, _<_};
 ghost use Rattle.model.specs.Image.{imageOf, setTracer};
 ghost use Rattle.model.specs.Collect.{emptiest, takeOutput, enter, reach};
 ghost use Rattle.theory.specs.Lines.{Lines, NilOr, Start};
 ghost use Rattle.image_laws.specs.Sized.{Sized};
 ghost use Rattle.image.specs.Layout.{width};
-ghost use Rattle.tracers_laws.specs.Tracer.{tracerAt};
-ghost use Rattle.tracers.specs.Plain.{tracerOf};
 ghost use Rattle.collector_laws.specs.Pool.{Spare};
 use image::layout::Word;
-use tracers::tracer::Tracer;
 
 // "first goes back and the pool packet .. is taken. If there is none, no packet is held as output"
-fn change_output(im: &mut [Word], k: usize, t: usize, x: Tracer)
+fn change_output(im: &mut [Word], k: usize, t: usize)
     requires { ⌜ Sized width k (now im) ⌝ }
     requires { ⌜ Lines (imageOf width k (now im)) ⌝ }
-    requires { ⌜ (t < 8) × (tracerOf x ≡ tracerAt (imageOf width k (now im)) t) ⌝ }
+    requires { ⌜ t < 8 ⌝ }
     ensures { λ _. ⌜ imageOf width k (now (im .exit)) ≡ setTracer (imageOf width k (now (im .entry))) t 1 (emptiest (setTracer (imageOf width k (now (im .entry))) t 1 0)) ⌝ }
 {
+    let x = tracers::tracer::read_tracer(im, k, t);
     let y = x.output_goes_back();
     tracers::tracer::write_tracer(im, k, t, y);
     let p = crate::pool::emptiest(im, k);
@@ -33,9 +31,9 @@ pub fn take_output(im: &mut [Word], k: usize, t: usize)
     requires { ⌜ t < 8 ⌝ }
     ensures { λ _. ⌜ imageOf width k (now (im .exit)) ≡ takeOutput (imageOf width k (now (im .entry))) t ⌝ }
 {
-    let x = tracers::tracer::read_tracer(im, k, t);
-    if crate::pool::lacks_space(im, k, x.output as usize) {
-        change_output(im, k, t, x);
+    let x = image::sections::tracer_word(im, k, 8 * t + 1) as usize;
+    if crate::pool::lacks_space(im, k, x) {
+        change_output(im, k, t);
     }
 }
 

@@ -1,7 +1,7 @@
 // Kind 11: trace "does the first that applies".
 ghost use mathlib.Core.Path.{_≡_};
 ghost use mathlib.Core.Bool.{false};
-ghost use Prim.Native.Nat.{ℕ, suc, _+_, _*_, _≤_, _<_};
+ghost use Prim.Native.Nat.{suc, _<_};
 ghost use lib.Dec.{eqb};
 ghost use Rattle.model.specs.Image.{imageOf, input, count};
 ghost use Rattle.model.specs.Collect.{traceInput, traceLine, traceStep, hasEntries};

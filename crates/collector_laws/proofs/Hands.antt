@@ -1,14 +1,11 @@
 -- The object in hand: what the lines say of it, its link reached, the hand moved on.
 use mathlib.Core.Path.{_≡_, sym, _∙_}
-use mathlib.Core.Bool.{Bool, true, false, cond}
 use mathlib.Core.List.{List}
-use Prim.Native.Nat.{ℕ, suc, _+_, _*_, _≤_, _<_}
-use native.Mathlib.Numerals.{add-one}
+use Prim.Native.Nat.{ℕ, _+_, _*_, _<_}
 use native.Mathlib.Omega.{arith}
-use lib.Dec.{ltb}
-use borrow.Author.Tests.{lt-ltb, le-ltb, eq-eqb, ne-eqb}
+use borrow.Author.Tests.{eq-eqb, ne-eqb}
 use Rattle.model.specs.Image.{Image, imageOf, image, granules, isStart, marked, word, links, link, hand, nextLink}
-use Rattle.model.specs.Collect.{putHand, reach, traceHand, takeObject}
+use Rattle.model.specs.Collect.{reach, traceHand, takeObject}
 use Rattle.theory.specs.Heap.{ObjectAt}
 use Rattle.theory.specs.Lines.{NilOr, Start, Lines}
 use Rattle.theory.proofs.heap.Walk.{object-at}
@@ -18,7 +15,6 @@ use Rattle.theory.proofs.steps.Tracing.{in-hand-ok}
 use Rattle.image_laws.specs.Sized.{Sized}
 use Rattle.tracers_laws.specs.Tracer.{Tracer, tracerAt, linkDone, objectInHand, withTracer}
 use Rattle.tracers_laws.proofs.Tracer.{tracers-long, link-done-written, object-written}
-use lib.ListN.{length}
 
 -- ---- a link of an object
 

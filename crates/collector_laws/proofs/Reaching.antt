@@ -18,7 +18,6 @@ use Rattle.tracers_laws.specs.Packet.{Tidy}
 use Rattle.tracers_laws.specs.Tracer.{Tracer, tracerAt, outputGoesBack, outputTaken, withTracer}
 use Rattle.tracers_laws.proofs.Tracer.{written-again, output-back-written, output-taken-written}
 use Rattle.collector_laws.specs.Pool.{lacksSpace, Spare}
-use Rattle.collector_laws.proofs.Tracing.{read-output}
 
 -- ---- the output packet
 
@@ -27,32 +26,32 @@ unfolding emptiest
 emptiest-few m zero e = omega arith
 emptiest-few m (suc p) e = best-ok _ _ 32 p (sym e) .0
 
-module _ (m : Image) (t : ℕ) (x : Tracer) (e : x ≡ tracerAt m t) (o : Lines m) (h : t < 8) where
-  module _ (y : Tracer) (q : y ≡ outputGoesBack x) (n₁ : Image) (r : n₁ ≡ withTracer m t y) where
-    gone-back : n₁ ≡ setTracer m t 1 0
-    gone-back = r ∙ rw (q, e) (output-back-written m t h (o .tracers-ok .sized))
+module _ (m : Image) (t : ℕ) (o : Lines m) (h : t < 8) (x y : Tracer) (e : x ≡ tracerAt m t) (q : y ≡ outputGoesBack x) (n₁ : Image) (r : n₁ ≡ withTracer m t y) where
+  gone-back : n₁ ≡ setTracer m t 1 0
+  gone-back = r ∙ rw (q, e) (output-back-written m t h (o .tracers-ok .sized))
 
-    pub back-places : HeldOk (n₁ .tracers)
-    unfolding setTracer withTracers
-    back-places = rw gone-back (hold-ok (o .tracers-ok) t h 1 0 (omega arith) (omega arith) (λ u j p hu hj x y. absurd (omega arith)) .places)
+  pub back-places : HeldOk (n₁ .tracers)
+  unfolding setTracer withTracers
+  back-places = rw gone-back (hold-ok (o .tracers-ok) t h 1 0 (omega arith) (omega arith) (λ u j p hu hj x y. absurd (omega arith)) .places)
 
-    pub output-changed : (p : ℕ) → p ≡ emptiest n₁ → (z : Tracer) → z ≡ outputTaken y p → (n₂ : Image) → n₂ ≡ withTracer n₁ t z → n₂ ≡ setTracer m t 1 (emptiest (setTracer m t 1 0))
-    unfolding outputGoesBack outputTaken
-    output-changed p u z v n₂ w =
-        let i : n₂ ≡ withTracer m t (outputTaken (tracerAt m t) p) = w ∙ rw (r, v, q, e) (written-again m t h (o .tracers-ok .sized) _ _) in
-        i ∙ (output-taken-written m t h (o .tracers-ok .sized) p ∙ rw (← gone-back, u))
+  pub output-changed : (p : ℕ) → p ≡ emptiest n₁ → (z : Tracer) → z ≡ outputTaken y p → (n₂ : Image) → n₂ ≡ withTracer n₁ t z → n₂ ≡ setTracer m t 1 (emptiest (setTracer m t 1 0))
+  unfolding outputGoesBack outputTaken
+  output-changed p u z v n₂ w =
+      let i : n₂ ≡ withTracer m t (outputTaken (tracerAt m t) p) = w ∙ rw (r, v, q, e) (written-again m t h (o .tracers-ok .sized) _ _) in
+      i ∙ (output-taken-written m t h (o .tracers-ok .sized) p ∙ rw (← gone-back, u))
 
-  module _ (b : Bool) (a : b ≡ lacksSpace m (x .output)) where
-    same-space : lacksSpace m (output m t) ≡ b
-    same-space = ap (lacksSpace m) (sym (read-output m t x e)) ∙ sym a
+module _ (m : Image) (t x : ℕ) (f : x ≡ nth (m .tracers) (8 * t + 1)) (b : Bool) (e : b ≡ lacksSpace m x) where
+  same-space : lacksSpace m (output m t) ≡ b
+  unfolding output
+  same-space = rw (← f) (sym e)
 
-    pub take-new : b ≡ true → (n : Image) → n ≡ setTracer m t 1 (emptiest (setTracer m t 1 0)) → n ≡ takeOutput m t
-    unfolding takeOutput noOutput lacksSpace
-    take-new q n r = r ∙ rw (same-space, q)
+  pub take-new : b ≡ true → (n : Image) → n ≡ setTracer m t 1 (emptiest (setTracer m t 1 0)) → n ≡ takeOutput m t
+  unfolding takeOutput noOutput lacksSpace
+  take-new q n r = r ∙ rw (same-space, q)
 
-    pub take-same : b ≡ false → m ≡ takeOutput m t
-    unfolding takeOutput noOutput lacksSpace output setTracer withTracers put nth
-    take-same q = rw (same-space, q) (ap (withTracers m) (sym (set-getD (m .tracers) (8 * t + 1) 0)))
+  pub take-same : b ≡ false → m ≡ takeOutput m t
+  unfolding takeOutput noOutput lacksSpace output setTracer withTracers put nth
+  take-same q = rw (same-space, q) (ap (withTracers m) (sym (set-getD (m .tracers) (8 * t + 1) 0)))
 
 -- ---- an object entered
 

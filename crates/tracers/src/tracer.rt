@@ -1,6 +1,6 @@
 // Tracers by value: "input packet + 1, output packet + 1, object in hand, its next link, card in hand + 1, next granule on it".
 ghost use mathlib.Core.Path.{_≡_};
-ghost use Prim.Native.Nat.{ℕ, _+_, _*_, _^_, _<_};
+ghost use Prim.Native.Nat.{_+_, _*_, _^_, _<_};
 ghost use Rattle.model.specs.Image.{imageOf};
 ghost use Rattle.image_laws.specs.Sized.{Sized};
 ghost use Rattle.image.specs.Layout.{width};

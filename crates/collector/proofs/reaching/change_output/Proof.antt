@@ -16,5 +16,5 @@ returns c = search output-changed
 pub change-output-spec : {M : Type 1} → statement M
 change-output-spec =
     tie.close
-    (tie.spec (λ c κs. search needs) (λ c κs. search needs) emptiest-requires cast-output-taken (λ c κs. search needs)
+    (tie.spec (λ c κs. search needs) (λ c κs. search needs) (λ c κs. search needs) emptiest-requires cast-output-taken (λ c κs. search needs)
     (λ c κs. search needs) (λ c. search needs) returns)
