@@ -1,4 +1,4 @@
-//! Halts of a store that goes on: a batch of one finish, timed where the show has come to. Only printed.
+//! Halts of a store that goes on: a batch of one finish, timed where the show has come to.
 
 use std::time::Duration;
 
@@ -7,7 +7,7 @@ use reference::random::Random;
 use reference::record::*;
 
 use crate::calls::Pair;
-use crate::timing::{in_turn, pass, timed};
+use crate::timing::pass_time;
 use crate::work;
 
 /// What halts took, in microseconds: the batch with the finish, and the judging of the same image alone.
@@ -32,8 +32,8 @@ impl Halts {
         self.whole.len()
     }
 
-    /// A plain pass over such an image stands beside: it tells how fast the machine was.
-    pub fn print(&self, image: &[u16]) {
+    /// A plain pass over such an image stands beside. Gives the mean halt in plain passes.
+    pub fn print(&self, image: &[u16]) -> f64 {
         for (what, times) in [("with judging", &self.whole), ("judging alone", &self.judging)] {
             let mut sorted = times.clone();
             sorted.sort_by(f64::total_cmp);
@@ -42,8 +42,10 @@ impl Halts {
             let longest = sorted[sorted.len() - 1];
             println!("  halt, {what:13} mean {mean:7.1}, 99 of 100 within {of_a_hundred:7.1}, longest {longest:7.1}");
         }
-        let [plain_pass] = in_turn(3, [&mut || timed(|| pass(image))]);
-        println!("  a plain pass over the image  {:7.1}", plain_pass / 1000.0);
+        let plain_pass = pass_time(image) / 1000.0;
+        let mean = self.whole.iter().sum::<f64>() / self.whole.len() as f64;
+        println!("  a plain pass over the image  {plain_pass:7.1}, the mean halt {:.2} of them", mean / plain_pass);
+        mean / plain_pass
     }
 }
 

@@ -56,8 +56,9 @@ pub fn judging(goals: &mut Goals) {
             let ratio = ours / theirs;
             println!("  k = {k:3}, {what:18} {ours:11.0} {theirs:10.0} {ratio:14.2} {passes:8.1} {most_passes:5.1}");
             goals.at_most("judge against the second implementation", ratio, NOT_SLOWER);
-            if k == 512 && !what.starts_with("in a cycle") {
-                goals.at_most("judge with no cycle at k = 512, in plain passes", passes, 5.0);
+            if k == 512 {
+                let limit = if what.starts_with("in a cycle") { 5.0 } else { 3.0 };
+                goals.at_most(&format!("judge at k = 512, {what}, in plain passes"), passes, limit);
             }
         }
     }

@@ -23,9 +23,9 @@ const PARTS: [(&str, Part); 8] = [
     ("fresh", judging::making),
     ("steps", stepping::stepping),
     ("finish", stepping::finishing),
-    ("pauses", |_| pauses::pauses()),
+    ("pauses", pauses::pauses),
     ("show", |_| halts::longest()),
-    ("trees", |_| trees::trees()),
+    ("trees", trees::trees),
 ];
 
 fn main() {

@@ -11,6 +11,7 @@ pub enum Sizes {
     One,
     OneToEight,
     Sixteen,
+    OneBetweenRuns,
 }
 
 /// How much of a show a finish has to free, everything else being linked from a register.
@@ -23,7 +24,7 @@ pub enum Free {
 
 fn size(random: &mut Random, sizes: Sizes) -> usize {
     match sizes {
-        Sizes::One => 1,
+        Sizes::One | Sizes::OneBetweenRuns => 1,
         Sizes::OneToEight => random.from_to(1, 8),
         Sizes::Sixteen => 16,
     }
@@ -51,8 +52,12 @@ pub fn show(k: usize, sizes: Sizes, free: Free) -> Vec<u16> {
     words
 }
 
-/// Objects side by side from granule 1, and a run where one more has no room; level words are not 0, so that freeing has to clear.
+/// Objects side by side from granule 1, or with runs between them, and a run where one more has no room; level words are not 0, so
+/// that freeing has to clear.
 fn lay_objects(random: &mut Random, store: &mut Store, sizes: Sizes) -> Vec<usize> {
+    if matches!(sizes, Sizes::OneBetweenRuns) {
+        return lay_between_runs(store);
+    }
     let mut objects = Vec::new();
     let mut g = 1;
     while g < store.layout.granules() {
@@ -69,6 +74,20 @@ fn lay_objects(random: &mut Random, store: &mut Store, sizes: Sizes) -> Vec<usiz
         objects.push(g);
         g += size;
     }
+    objects
+}
+
+/// Objects of one granule at odd places, and a run of one granule behind each but the last, which ends the heap.
+fn lay_between_runs(store: &mut Store) -> Vec<usize> {
+    let granules = store.layout.granules();
+    let objects: Vec<usize> = (1..granules).step_by(2).collect();
+    for &g in &objects {
+        store.set_object(g, 1, 2);
+        if g + 1 < granules {
+            store.set_run(g + 1, 1, if g + 3 < granules { g + 3 } else { 0 });
+        }
+    }
+    store.set_first_run(2);
     objects
 }
 

@@ -31,6 +31,12 @@ pub fn pass(image: &[u16]) {
     black_box(black_box(image).iter().map(|&word| u64::from(word)).sum::<u64>());
 }
 
+/// What a plain pass over an image takes, in nanoseconds: it tells how fast the machine is.
+pub fn pass_time(image: &[u16]) -> f64 {
+    let [five] = in_turn(8, [&mut || timed(|| (0..5).for_each(|_| pass(image)))]);
+    five / 5.0
+}
+
 /// Never slower than the second implementation, within the error of measuring.
 pub const NOT_SLOWER: f64 = 1.05;
 
@@ -51,6 +57,14 @@ impl Goals {
         let limit = if self.check { SLACK * limit } else { limit };
         if ratio > limit {
             println!("  NOT REACHED: {what}: {ratio:.2}, at most {limit}");
+            self.missed += 1;
+        }
+    }
+
+    pub fn at_least(&mut self, what: &str, ratio: f64, limit: f64) {
+        let limit = if self.check { limit / SLACK } else { limit };
+        if ratio < limit {
+            println!("  NOT REACHED: {what}: {ratio:.2}, at least {limit}");
             self.missed += 1;
         }
     }
