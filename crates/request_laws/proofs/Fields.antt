@@ -13,7 +13,7 @@ use Rattle.model.specs.Steps.{unnamed, offDesk, owes, owing, step}
 use Rattle.model.proofs.Laws.{false≢, and-split}
 use Rattle.model.proofs.Rows.{kind-known, kind-unknown}
 use Rattle.theory.specs.Fields.{fieldAt, roleAt, bound, boundAt}
-use Rattle.theory.proofs.steps.Fields.{four, unnamed-by, off-by, unknown-kind, field-below}
+use Rattle.theory.proofs.steps.Fields.{four, unnamed-by, off-by, field-below}
 use Rattle.request_laws.specs.Answer.{done}
 use Rattle.request_laws.specs.Passed.{Passed}
 use Rattle.request_laws.specs.Request.{requested, InRange, admissionBy, admissionOf, asksDebt}

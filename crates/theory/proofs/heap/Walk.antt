@@ -174,10 +174,6 @@ starts-at {st} {g} (f-run n next rest t ba f) h p q e = cs (λ u v w. starts-at 
 -- ---- of an image
 
 -- the line `filled` of "undamaged"
-pub filled-use : (m : Image) → filled m ≡ true → Filled (isStart m) 1 (drop 4 (m .heap)) (firstRun m) false
-unfolding filled
-filled-use m e = fill-use (isStart m) (granules m) 1 (drop 4 (m .heap)) (firstRun m) false e
-
 pub filled-make : (m : Image) → 1 ≤ granules m → HeapFilled m → filled m ≡ true
 unfolding filled
 filled-make m h o = fill-make (granules m) (o .heap-filled) (omega (arith, length-drop 4 (m .heap), o .heap-words))
