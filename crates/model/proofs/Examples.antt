@@ -1,4 +1,4 @@
--- What the worked images give, by computation.
+-- What is said of the worked images, by computation.
 use mathlib.Core.Path.{_≡_, refl, sym, _∙_}
 use mathlib.Core.Bool.{true}
 use Rattle.model.specs.Image.{parts}

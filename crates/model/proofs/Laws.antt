@@ -181,7 +181,7 @@ length-put l i v = length-set l i v
 
 -- ---- choices
 
--- what `best` gives passes
+-- what `best` returns passes
 pub best-ok : (better : ℕ → ℕ → Bool) (ok : ℕ → Bool) (n p : ℕ) → best better ok n ≡ suc p → (p < n) × (ok p ≡ true)
 unfolding best
 best-ok better ok zero p e = absurd (omega arith)
@@ -203,7 +203,7 @@ best-ok better ok (suc n) p e = go (best-ok better ok n) (best better ok n) refl
     go ih zero a r = end (ok n) refl r
     go ih (suc q) a r = more ih q a (ok n && better n q) refl r
 
--- and where it gives nothing, none passes
+-- and where it returns nothing, none passes
 pub best-none : (better : ℕ → ℕ → Bool) (ok : ℕ → Bool) (n : ℕ) → best better ok n ≡ 0 → (i : ℕ) → i < n → ok i ≡ false
 unfolding best
 best-none better ok zero e i h = absurd (omega arith)

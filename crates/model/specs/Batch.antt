@@ -11,7 +11,7 @@ use Rattle.model.specs.Records.{recordBytes, records}
 use Rattle.model.specs.Finish.{Finish, finishStep}
 use Rattle.model.specs.Steps.{Event, run, after, answersOf}
 
--- what a batch gives and leaves: its result, and the words of the image and the answer space at exit
+-- what a batch returns and leaves: its result, and the words of the image and the answer space at exit
 pub record Batch : Type 0 where
   pub result : ℕ
   pub image : List ℕ

@@ -1,5 +1,5 @@
 // The library: a fresh store made, an image judged, a batch of steps run. None asks anything of its caller (demand 1a of docs/DEMANDS.md);
-// each contract says all that the call gives and leaves (1c, 1d, 2a).
+// each contract says all that the call returns and leaves (1c, 1d, 2a).
 ghost use mathlib.Core.Path.{_≡_};
 ghost use Rattle.model.specs.Batch.{freshOf, judgeOf, batchOf};
 ghost use Rattle.image_laws.specs.Fresh.{madeOf};

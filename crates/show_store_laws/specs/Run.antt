@@ -20,6 +20,6 @@ ran w m bytes n = run m (table n (recordAt w bytes))
 unfoldable pub writtenAt : List ℕ → ℕ → Done → List ℕ
 writtenAt answers i d = set (set answers (2 * i) (d .number)) (2 * i + 1) (d .value)
 
--- what a batch gives and leaves, as the model's record
+-- what a batch returns and leaves, as the model's record
 abbrev pub batched : ℕ → List ℕ → List ℕ → Batch
 batched r image answers = record { result = r; image = image; answers = answers }

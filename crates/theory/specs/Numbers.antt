@@ -6,7 +6,7 @@ use Rattle.model.specs.Image.{Image, state, count, input, output, hand, handCar
 use Rattle.model.specs.Records.{Step}
 use Rattle.model.specs.Steps.{step}
 
--- the step is refused with number n just where P holds, and else accepted
+-- the step is refused with number n exactly where P holds, and else accepted
 pub record RefusedWhere (m : Image) (s : Step) (n : ℕ) (P : Type 0) : Type 0 where
   pub refused-if : P → (step m s) .number ≡ n
   pub only-if : (step m s) .number ≡ n → P

@@ -1,4 +1,4 @@
--- Judging words gives 0 where their image passes, and the words of an image that passes are judged 0.
+-- Judging words returns 0 where their image passes, and the words of an image that passes are judged 0.
 use mathlib.Core.Path.{_≡_, refl, ap, subst, _∙_}
 use mathlib.Core.Bool.{Bool, true, not}
 use mathlib.Core.List.{List, [], _∷_}

@@ -113,7 +113,7 @@ module _ (m : Image) (b : ℕ) where
         cs (yes l) = absurd (place-blocked hb (room-place g e) u ((s u (omega arith) (omega arith)) .in-range .0) l s)
         cs (no l) = omega arith
 
-    -- no run is found just where there is no stretch
+    -- no run is found exactly where there is no stretch
     pub no-room : 1 ≤ b → ((roomFor m b) .run ≡ 0) ↔ ((u : ℕ) → Stretch m b u → ⊥)
     unfolding roomFor
     no-room hb = (none, λ f. some f ((roomFor m b) .run) refl)

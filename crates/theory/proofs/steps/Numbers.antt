@@ -1,4 +1,4 @@
--- Numbers 9 and 11 over steps: each is given just where document 01's condition holds, and else the step is accepted.
+-- Numbers 9 and 11 over steps: each is given exactly where document 01's condition holds, and else the step is accepted.
 use mathlib.Core.Path.{_≡_, refl, sym, ap, _∙_}
 use mathlib.Core.Logic.{_⊎_, inl, inr}
 use mathlib.Core.Bool.{Bool, true, false, not, cond, _||_}
@@ -25,7 +25,7 @@ use Rattle.theory.proofs.steps.Steps.{step-number, line, accepted, good
 
 -- ---- from the test of one line to the number
 
--- n is given where b passes, and else 0; b passes just where P holds
+-- n is given where b passes, and else 0; b passes exactly where P holds
 refused-where : (m : Image) (s : Step) (n : ℕ) {P : Type 0} (b : Bool) → (step m s) .number ≡ cond b (suc n) 0 → (b ≡ true → P) → (P → b ≡ true) → RefusedWhere m s (suc n) P
 refused-where m s n {P} b e f g = record { refused-if = λ p. e ∙ ap (λ x. cond x (suc n) 0) (g p); only-if = λ q. f (is b (sym e ∙ q)); else-accepted = λ np. e ∙ no b (λ t. np (f t)) }
   where
@@ -69,13 +69,13 @@ module _ (m : Image) (s : Step) (u : Undamaged m) (k : kindOf (s .kind) ≡ new)
       )
       (room-line (eqb ((roomFor m (s .b)) .run) 0)))
 
-  -- number 9 just where no stretch of b unused granules starts anywhere
+  -- number 9 exactly where no stretch of b unused granules starts anywhere
   pub no-room-number : GoodNew m s → RefusedWhere m s 9 ((v : ℕ) → Stretch m (s .b) v → ⊥)
   no-room-number f =
       let r = no-room m (s .b) (heap-filled-of (u .sound .lines)) (heap-sized-of (u .sound .lines)) (f .some-granules) in
       refused-where m s 8 (eqb ((roomFor m (s .b)) .run) 0) (new-number f) (λ e. r .0 (eqb-true _ _ e)) (λ p. eq-eqb _ _ (r .1 p))
 
-  -- an accepted new gives the lowest stretch
+  -- the value of an accepted new is the lowest stretch
   pub room-value : (step m s) .number ≡ 0 → Stretch m (s .b) ((step m s) .value) × ((v : ℕ) → Stretch m (s .b) v → (step m s) .value ≤ v)
   unfolding noRoom
   room-value e = go ((roomFor m (s .b)) .run) refl (eqb-false _ _ (line m s new r 6))
