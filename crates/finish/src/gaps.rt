@@ -16,16 +16,16 @@ pub struct Edge {
     pub free: usize,
 }
 
-// The words of granule a, where a run starts.
+// The words of granule a, the first of a run.
 pub fn set_head(im: &mut [Word], k: usize, a: usize, length: Word, next: Word)
     requires { ⌜ Sized width k (now im) ⌝ }
     requires { ⌜ a < 64 * k ⌝ }
-    ensures { λ _. ⌜ imageOf width k (now (im .exit)) ≡ withHeap (imageOf width k (now (im .entry))) (headAt (4 * a) length next (imageOf width k (now (im .entry)) .heap)) ⌝ }
+    ensures { λ _. ⌜ imageOf width k (now (im .exit)) ≡ headAt (imageOf width k (now (im .entry))) a length next ⌝ }
 {
-    image::sections::set_heap_word(im, k, 4 * a, length);
-    image::sections::set_heap_word(im, k, 4 * a + 1, next);
-    image::sections::set_heap_word(im, k, 4 * a + 2, 0);
-    image::sections::set_heap_word(im, k, 4 * a + 3, 0);
+    image::sections::set_word(im, k, a, 0, length);
+    image::sections::set_word(im, k, a, 1, next);
+    image::sections::set_word(im, k, a, 2, 0);
+    image::sections::set_word(im, k, a, 3, 0);
 }
 
 // The granules behind a, up to e, are cleared.
@@ -77,7 +77,7 @@ pub fn keep_at(im: &mut [Word], k: usize, h: usize, s: Edge) -> Edge
     if e == h + 1 {
         return Edge { start: h, free: f };
     }
-    let size = image::sections::heap_word(im, k, 4 * h) as usize;
+    let size = image::sections::word(im, k, h, 0) as usize;
     let n = close_gap(im, k, h + size, e);
     Edge {
         start: h,

@@ -1,10 +1,8 @@
 -- The sweep of a finish as the code does it: from the last granule down, by mark bits; and the granules of the runs, counted.
 use Prim.Native.Nat.{ℕ, zero, suc, _+_, _*_, _-_}
 use mathlib.Core.Bool.{cond}
-use mathlib.Core.List.{List}
 use lib.Dec.{ltb, eqb}
-use Rattle.model.specs.Base.{nth, put}
-use Rattle.model.specs.Image.{Image, marked, firstRun, withHeap, setFirstRun}
+use Rattle.model.specs.Image.{Image, marked, size, firstRun, withHeap, setFirstRun, setWord}
 use Rattle.image_laws.specs.Clearing.{zeroed}
 
 -- an image, the first granule of the lowest kept object so far, and the granules of the runs behind it
@@ -16,13 +14,13 @@ pub record Edged : Type 0 where
 abbrev pub edged : ℕ → ℕ → Image → Edged
 edged e f m = record { start = e; free = f; image = m }
 
--- the granule from word i on as the first of a run
-unfoldable pub headAt : ℕ → ℕ → ℕ → List ℕ → List ℕ
-headAt i length next l = put (put (put (put l i length) (i + 1) next) (i + 2) 0) (i + 3) 0
+-- granule a becomes the first of a run
+unfoldable pub headAt : Image → ℕ → ℕ → ℕ → Image
+headAt m a length next = setWord (setWord (setWord (setWord m a 0 length) a 1 next) a 2 0) a 3 0
 
 -- granules a to e become a run, the first one
 unfoldable pub runFrom : Image → ℕ → ℕ → Image
-runFrom m a e = setFirstRun (withHeap m (zeroed (4 * a + 4) (4 * e) (headAt (4 * a) (e - a) (firstRun m) (m .heap)))) a
+runFrom m a e = let h = headAt m a (e - a) (firstRun m) in setFirstRun (withHeap h (zeroed (4 * a + 4) (4 * e) (h .heap))) a
 
 -- what lies between a and e, if anything
 unfoldable pub gap : Image → ℕ → ℕ → Image
@@ -34,7 +32,7 @@ closedAt h a s = edged h (s .free + (s .start - a)) (gap (s .image) a (s .start)
 
 -- the kept object at h; where the next one starts right behind h, its size is not asked
 unfoldable pub keptAt : ℕ → Edged → Edged
-keptAt h s = cond (eqb (s .start) (h + 1)) (edged h (s .free) (s .image)) (closedAt h (h + nth (s .image .heap) (4 * h)) s)
+keptAt h s = cond (eqb (s .start) (h + 1)) (edged h (s .free) (s .image)) (closedAt h (h + size (s .image) h) s)
 
 -- granule h
 unfoldable pub passed : Edged → ℕ → Edged

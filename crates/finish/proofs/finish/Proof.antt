@@ -19,7 +19,5 @@ returns c = let E = c .before .before in let K = E .before .before .before .befo
 pub finish-spec : {M : Type 1} → statement M
 finish-spec =
     tie.close
-    (tie.spec
-    free-granules-requires (λ c κs. search needs) (λ c κs. search needs) (λ c κs. search needs) (λ c κs. search needs)
-    sub-result (λ c. search needs) (λ c. search needs)
-    returns)
+    (tie.spec free-granules-requires (λ c κs. search needs) (λ c κs. search needs) (λ c κs. search needs) (λ c κs. search needs)
+    sub-result (λ c. search needs) (λ c. search needs) returns)

@@ -7,8 +7,7 @@ use native.Mathlib.Nat.{mul-suc}
 use native.Mathlib.Omega.{arith}
 use lib.ListN.{length, take-append-drop}
 use borrow.Author.Tests.{eq-eqb, ne-eqb}
-use Rattle.model.specs.Base.{nth, put}
-use Rattle.model.specs.Image.{Image, firstRun, withHeap, setFirstRun, imageOf}
+use Rattle.model.specs.Image.{Image, word, size, firstRun, withHeap, setFirstRun, setWord, imageOf}
 use Rattle.image_laws.specs.Clearing.{zeroed}
 use Rattle.image_laws.specs.Sized.{Sized}
 use Rattle.image_laws.proofs.Lengths.{sized-as, sized-width}
@@ -19,10 +18,9 @@ use Rattle.finish_laws.proofs.gaps.Runs.{gap-zero, gap-suc}
 
 -- ---- a run
 
-pub head-set : (m : Image) (i x y : ℕ) (m1 m2 m3 m4 : Image) → m1 ≡ withHeap m (put (m .heap) i x) → m2 ≡ withHeap m1 (put (m1 .heap) (i + 1) y) → m3 ≡ withHeap m2 (put (m2 .heap) (i + 2) 0)
-    → m4 ≡ withHeap m3 (put (m3 .heap) (i + 3) 0) → m4 ≡ withHeap m (headAt i x y (m .heap))
-unfolding headAt withHeap
-head-set m i x y m1 m2 m3 m4 e1 e2 e3 e4 = rw (e4, e3, e2, e1)
+pub head-set : (m : Image) (a x y : ℕ) (m1 m2 m3 m4 : Image) → m1 ≡ setWord m a 0 x → m2 ≡ setWord m1 a 1 y → m3 ≡ setWord m2 a 2 0 → m4 ≡ setWord m3 a 3 0 → m4 ≡ headAt m a x y
+unfolding headAt
+head-set m a x y m1 m2 m3 m4 e1 e2 e3 e4 = rw (e4, e3, e2, e1)
 
 pub behind-none : (m : Image) (a e : ℕ) → a < e → e ≤ a + 1 → m ≡ withHeap m (zeroed (4 * a + 4) (4 * e) (m .heap))
 unfolding withHeap zeroed
@@ -31,9 +29,8 @@ behind-none m a e l h =
     let p : 4 * a + 4 - (4 * a + 4) ≡ 0 = omega arith in
     rw (q, p, take-append-drop (4 * a + 4) (m .heap))
 
-pub run-done : (m : Image) (a e n : ℕ) → n ≡ firstRun m → (m1 m2 m3 : Image) → m1 ≡ withHeap m (headAt (4 * a) (e - a) n (m .heap)) → m2 ≡ withHeap m1 (zeroed (4 * a + 4) (4 * e) (m1 .heap))
-    → m3 ≡ setFirstRun m2 a → m3 ≡ runFrom m a e
-unfolding runFrom withHeap
+pub run-done : (m : Image) (a e n : ℕ) → n ≡ firstRun m → (m1 m2 m3 : Image) → m1 ≡ headAt m a (e - a) n → m2 ≡ withHeap m1 (zeroed (4 * a + 4) (4 * e) (m1 .heap)) → m3 ≡ setFirstRun m2 a → m3 ≡ runFrom m a e
+unfolding runFrom
 run-done m a e n en m1 m2 m3 e1 e2 e3 = rw (e3, e2, e1, en)
 
 pub gap-some : (m m' : Image) (a e : ℕ) → a < e → m' ≡ runFrom m a e → m' ≡ gap m a e
@@ -49,8 +46,8 @@ module _ (m : Image) (h e f : ℕ) where
   unfolding keptAt
   keep-next q = rw (eq-eqb e (h + 1) q)
 
-  pub keep-behind : (e ≡ h + 1 → ⊥) → (s : ℕ) → s ≡ nth (m .heap) (4 * h) → (m' : Image) → m' ≡ gap m (h + s) e → (n : ℕ) → n ≡ e - (h + s) → edged h (f + n) m' ≡ keptAt h (edged e f m)
-  unfolding keptAt closedAt
+  pub keep-behind : (e ≡ h + 1 → ⊥) → (s : ℕ) → s ≡ word m h 0 → (m' : Image) → m' ≡ gap m (h + s) e → (n : ℕ) → n ≡ e - (h + s) → edged h (f + n) m' ≡ keptAt h (edged e f m)
+  unfolding keptAt closedAt size
   keep-behind q s es m' em n en = rw (ne-eqb e (h + 1) q, ← es, em, en)
 
 -- ---- the loop: the words from i on are swept

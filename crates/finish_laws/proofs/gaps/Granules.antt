@@ -5,9 +5,8 @@ use Prim.Native.Nat.{ℕ, zero, suc, _+_, _*_, _-_, _<_, _≤_}
 use native.Mathlib.Omega.{arith}
 use lib.Dec.{ltb, eqb}
 use borrow.Author.Tests.{eq-eqb}
-use Rattle.model.specs.Base.{nth}
-use Rattle.model.specs.Image.{Image, marked, withHeap, withGeneral, setFirstRun}
-use Rattle.finish_laws.specs.Gaps.{Edged, edged, runFrom, gap, closedAt, keptAt, passed, sweptFrom}
+use Rattle.model.specs.Image.{Image, marked, size, withHeap, withGeneral, setFirstRun, setWord}
+use Rattle.finish_laws.specs.Gaps.{Edged, edged, headAt, runFrom, gap, closedAt, keptAt, passed, sweptFrom}
 
 -- ---- marks stay
 
@@ -16,7 +15,7 @@ unfolding gap
 gap-marks m a e g = go (ltb a e)
   where
     go : (b : Bool) → marked (cond b (runFrom m a e) m) g ≡ marked m g
-    go true = unfold runFrom setFirstRun withHeap withGeneral marked in refl
+    go true = unfold runFrom headAt setWord setFirstRun withHeap withGeneral marked in refl
     go false = refl
 
 kept-marks : (h : ℕ) (s : Edged) (g : ℕ) → marked (keptAt h s .image) g ≡ marked (s .image) g
@@ -24,7 +23,7 @@ unfolding keptAt closedAt
 kept-marks h s g = go (eqb (s .start) (h + 1))
   where
     a : ℕ
-    a = h + nth (s .image .heap) (4 * h)
+    a = h + size (s .image) h
 
     go : (b : Bool) → marked (cond b (edged h (s .free) (s .image)) (edged h (s .free + (s .start - a)) (gap (s .image) a (s .start))) .image) g ≡ marked (s .image) g
     go true = refl

@@ -10,7 +10,7 @@ use lib.ListN.{length, take, drop, length-append}
 use lib.Seq.{take-add, take-at, take-all, drop-at, drop-drop, length-take-le}
 use borrow.Author.Tests.{eqb-true}
 use Rattle.model.specs.Base.{nth}
-use Rattle.model.specs.Image.{Image, word, isStart, marked, withHeap, withGeneral, setFirstRun}
+use Rattle.model.specs.Image.{Image, word, isStart, marked, size, withHeap, withGeneral, setFirstRun}
 use Rattle.model.specs.Mutate.{freeFrom}
 use Rattle.model.specs.Finish.{runTail, Swept, sweptWords, firstOf, swept, sweep}
 use Rattle.model.proofs.Entries.{nth-take, nth-drop}
@@ -29,12 +29,12 @@ unfolding closedAt
 closed-at h a s = refl
 
 -- the size of a kept object need not be read where the next one starts right behind its first granule
-kept-closed : (h : ℕ) (s : Edged) → 1 ≤ nth (s .image .heap) (4 * h) → keptAt h s ≡ closedAt h (h + nth (s .image .heap) (4 * h)) s
+kept-closed : (h : ℕ) (s : Edged) → 1 ≤ size (s .image) h → keptAt h s ≡ closedAt h (h + size (s .image) h) s
 unfolding keptAt
 kept-closed h s l = go (eqb (s .start) (h + 1)) refl
   where
     a : ℕ
-    a = h + nth (s .image .heap) (4 * h)
+    a = h + size (s .image) h
 
     go : (b : Bool) → eqb (s .start) (h + 1) ≡ b → cond b (edged h (s .free) (s .image)) (closedAt h a s) ≡ closedAt h a s
     go true q =
@@ -47,9 +47,9 @@ marked-with-sweep : (m : Image) (hs : List ℕ) (f h : ℕ) → marked (withSwee
 unfolding withSweep setFirstRun withHeap withGeneral marked
 marked-with-sweep m hs f h = refl
 
-heap-with-sweep : (m : Image) (hs : List ℕ) (f : ℕ) → withSweep m hs f .heap ≡ hs
-unfolding withSweep setFirstRun withHeap withGeneral
-heap-with-sweep m hs f = refl
+size-with-sweep : (m : Image) (hs : List ℕ) (f h : ℕ) → size (withSweep m hs f) h ≡ nth hs (4 * h)
+unfolding withSweep setFirstRun withHeap withGeneral size word
+size-with-sweep m hs f h = ap (nth hs) (add-zero (4 * h))
 
 -- ---- the words of a piece
 
@@ -110,10 +110,10 @@ module _ (G : ℕ) (m old : Image) (H : List ℕ) (lH : length H ≡ 4 * G) (hg 
         let q : 4 * (g + s) ≡ 4 * g + 4 * s = omega arith in
         ap (λ (i : ℕ). take i H) q ∙ take-add (4 * g) (4 * s) H ∙ ap (λ (l : List ℕ). take (4 * g) H ++ l) (ap (take (4 * s)) ew ∙ take-at (s ∷ ws) rest (4 * s) lw)
 
-    size-here : nth (from m H hg (g + s) r .heap) (4 * g) ≡ s
+    size-here : size (from m H hg (g + s) r) g ≡ s
     size-here =
         let k : length (take (4 * (g + s + r .free)) H) ≡ 4 * (g + s + r .free) = length-take-le _ H hl in
-        ap (λ (l : List ℕ). nth l (4 * g)) (heap-with-sweep m _ _) ∙ nth-left (take (4 * (g + s + r .free)) H) (r .rest) (4 * g) (omega arith) ∙ nth-take (4 * (g + s + r .free)) H (4 * g) (omega arith) ∙ size-first H g s ws rest ew
+        size-with-sweep m _ _ g ∙ nth-left (take (4 * (g + s + r .free)) H) (r .rest) (4 * g) (omega arith) ∙ nth-take (4 * (g + s + r .free)) H (4 * g) (omega arith) ∙ size-first H g s ws rest ew
 
     stays : marked m g ≡ true → passed (done (g + s) r c) g ≡ done g (record { free = 0; rest = (s ∷ ws) ++ sweptWords r; next = firstOf (g + s) r; freed = x }) (c + r .free)
     stays u =

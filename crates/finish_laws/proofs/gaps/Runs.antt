@@ -7,7 +7,7 @@ use lib.ListN.{length, set, take, drop, replicate, length-append, length-drop}
 use lib.Seq.{take-add, take-at, drop-at, drop-append-le, length-take-le, set-set}
 use borrow.Author.Tests.{lt-ltb, le-ltb}
 use Rattle.model.specs.Base.{nth, put}
-use Rattle.model.specs.Image.{Image, firstRun, withHeap, withGeneral, setFirstRun}
+use Rattle.model.specs.Image.{Image, firstRun, withHeap, withGeneral, setFirstRun, setWord}
 use Rattle.model.specs.Finish.{runTail, Swept, sweptWords, firstOf}
 use Rattle.model.proofs.Laws.{nth-put-same}
 use Rattle.theory.specs.Heap.{runWords}
@@ -24,13 +24,18 @@ set-four [] (a ∷ b ∷ c ∷ []) x y h = absurd (omega arith)
 set-four [] (a ∷ b ∷ c ∷ d ∷ l) x y h = refl
 set-four (a ∷ p) l x y h = ap (λ (l : List ℕ). a ∷ l) (set-four p l x y h)
 
-head-words : (p l : List ℕ) (i x y : ℕ) → length p ≡ i → 4 ≤ length l → headAt i x y (p ++ l) ≡ p ++ (x ∷ y ∷ 0 ∷ 0 ∷ drop 4 l)
-unfolding headAt put
+-- the words of the granule from word i on
+unfoldable headPut : ℕ → ℕ → ℕ → List ℕ → List ℕ
+headPut i x y l = put (put (put (put l (i + 0) x) (i + 1) y) (i + 2) 0) (i + 3) 0
+
+head-words : (p l : List ℕ) (i x y : ℕ) → length p ≡ i → 4 ≤ length l → headPut i x y (p ++ l) ≡ p ++ (x ∷ y ∷ 0 ∷ 0 ∷ drop 4 l)
+unfolding headPut put
 head-words p l i x y e h =
+    let z : i + 0 ≡ length p = omega arith in
     let a : i + 1 ≡ suc (length p) = omega arith in
     let b : i + 2 ≡ suc (suc (length p)) = omega arith in
     let c : i + 3 ≡ suc (suc (suc (length p))) = omega arith in
-    rw (a, b, c, ← e) (set-four p l x y h)
+    rw (z, a, b, c) (set-four p l x y h)
 
 cleared : (p l r : List ℕ) (a e : ℕ) → length p ≡ a → a + length l ≡ e → zeroed a e (p ++ (l ++ r)) ≡ p ++ (replicate (length l) 0 ++ r)
 unfolding zeroed
@@ -40,10 +45,10 @@ cleared p l r a e ep el =
     rw (take-at p (l ++ r) a ep, q, d)
 
 module _ (H R : List ℕ) (a n : ℕ) (hl : 4 * (a + suc n) ≤ length H) where
-  run-words : (next : ℕ) → zeroed (4 * a + 4) (4 * (a + suc n)) (headAt (4 * a) (suc n) next (take (4 * (a + suc n)) H ++ R)) ≡ take (4 * a) H ++ (runWords n next ++ R)
+  run-words : (next : ℕ) → zeroed (4 * a + 4) (4 * (a + suc n)) (headPut (4 * a) (suc n) next (take (4 * (a + suc n)) H ++ R)) ≡ take (4 * a) H ++ (runWords n next ++ R)
   unfolding runTail
   run-words next =
-      ap (λ (l : List ℕ). zeroed (4 * a + 4) (4 * (a + suc n)) (headAt (4 * a) (suc n) next l)) parted
+      ap (λ (l : List ℕ). zeroed (4 * a + 4) (4 * (a + suc n)) (headPut (4 * a) (suc n) next l)) parted
       ∙ ap (zeroed (4 * a + 4) (4 * (a + suc n))) (head-words p (l ++ R) (4 * a) (suc n) next lp (omega (arith, length-append l R, ll)) ∙ ap (λ (t : List ℕ). p ++ (suc n ∷ next ∷ 0 ∷ 0 ∷ t)) (drop-append-le 4 l R (omega (arith, ll))) ∙ sym (append-assoc p h (drop 4 l ++ R)))
       ∙ cleared (p ++ h) (drop 4 l) R (4 * a + 4) (4 * (a + suc n)) (length-append p h ∙ omega (arith, lp)) (omega (arith, length-drop 4 l, ll))
       ∙ append-assoc p h (replicate (length (drop 4 l)) 0 ++ R)
@@ -78,8 +83,8 @@ module _ (H R : List ℕ) (a n : ℕ) (hl : 4 * (a + suc n) ≤ length H) where
 unfoldable pub withSweep : Image → List ℕ → ℕ → Image
 withSweep m hs f = setFirstRun (withHeap m hs) f
 
-run-with-sweep : (m : Image) (hs : List ℕ) (f a e : ℕ) → 1 < length (m .general) → runFrom (withSweep m hs f) a e ≡ withSweep m (zeroed (4 * a + 4) (4 * e) (headAt (4 * a) (e - a) f hs)) a
-unfolding runFrom withSweep setFirstRun withHeap withGeneral firstRun
+run-with-sweep : (m : Image) (hs : List ℕ) (f a e : ℕ) → 1 < length (m .general) → runFrom (withSweep m hs f) a e ≡ withSweep m (zeroed (4 * a + 4) (4 * e) (headPut (4 * a) (e - a) f hs)) a
+unfolding runFrom headAt headPut setWord withSweep setFirstRun withHeap withGeneral firstRun
 run-with-sweep m hs f a e h = rw (nth-put-same (m .general) 1 f h, put-put)
   where
     put-put : put (put (m .general) 1 f) 1 a ≡ put (m .general) 1 a

@@ -11,26 +11,11 @@ Inv-loop im₀ k s₀ i₀ im s i = Sweeping width k im₀ im (s .start) (s .fre
 abbrev μ-loop : tie.MeasureT-loop
 μ-loop im₀ k s₀ i₀ im s i = i
 
-set-first-run-requires : tie.Need-set-first-run-requires Inv-loop μ-loop
-set-first-run-requires c κs = search needs
-
-mul-i : tie.Need-mul-i Inv-loop μ-loop
-mul-i c = search needs
-
-mul-i-2 : tie.Need-mul-i-2 Inv-loop μ-loop
-mul-i-2 c = search needs
-
 loop-holds : tie.Need-loop-holds Inv-loop μ-loop
 loop-holds c = sweeping-none (search needs)
 
-sub-i : tie.Need-sub-i Inv-loop μ-loop
-sub-i c = search needs
-
 sweep-word-requires : tie.Need-sweep-word-requires Inv-loop μ-loop
 sweep-word-requires c κs = let L = c .before .before .loop in (L .inv .sized, sweeping-word (L .inv) (c .before .loop-test .taken))
-
-loop-less : tie.Need-loop-less Inv-loop μ-loop
-loop-less c = search needs
 
 loop-again : tie.Need-loop-again Inv-loop μ-loop
 loop-again c = let L = c .before .before .before .before .before .loop in sweeping-more (L .inv) (c .before .before .before .before .loop-test .taken) _ _ _ (search needs) (c .before .before .sweep-word .ensures .0) (c .before .before .sweep-word .ensures .1)
@@ -38,30 +23,11 @@ loop-again c = let L = c .before .before .before .before .before .loop in sweepi
 close-gap-requires : tie.Need-close-gap-requires Inv-loop μ-loop
 close-gap-requires c κs = let L = c .before .before .loop in (L .inv .sized, omega (arith, L .inv .room))
 
-add-result : tie.Need-add-result Inv-loop μ-loop
-add-result c = search needs
-
-same-length : tie.Need-same-length Inv-loop μ-loop
-same-length c = search needs
-
 returns : tie.Need-returns Inv-loop μ-loop
 returns c = let L = c .before .before .before .before .before .loop in let G = c .before .before .close-gap in (sweeping-end (L .inv) _ (c .before .before .before .before .before .before .before .before .set-first-run .ensures) (c .before .before .before .before .loop-test .left) _ (G .ensures .0) _ (G .ensures .1), omega (arith, L .inv .room, G .ensures .1))
 
 pub sweep-all-spec : {M : Type 1} → statement M
 sweep-all-spec =
     tie.close
-    (tie.spec
-    Inv-loop
-    μ-loop
-    set-first-run-requires
-    mul-i
-    mul-i-2
-    loop-holds
-    sub-i
-    sweep-word-requires
-    loop-less
-    loop-again
-    close-gap-requires
-    add-result
-    same-length
-    returns)
+    (tie.spec Inv-loop μ-loop (λ c κs. search needs) (λ c. search needs) (λ c. search needs) loop-holds (λ c. search needs)
+    sweep-word-requires (λ c. search needs) loop-again close-gap-requires (λ c. search needs) (λ c. search needs) returns)

@@ -11,14 +11,8 @@ Inv-loop im₀ k i x₀ t₀ im x t = Taking width k i (t₀ .start) (t₀ .free
 abbrev μ-loop : tie.MeasureT-loop
 μ-loop im₀ k i x₀ t₀ im x t = x
 
-mark-word-requires : tie.Need-mark-word-requires Inv-loop μ-loop
-mark-word-requires c κs = search needs
-
 loop-holds : tie.Need-loop-holds Inv-loop μ-loop
 loop-holds c = taking-none (search needs) (c .mark-word .ensures) (omega arith) (search needs) (search needs)
-
-cast-j : tie.Need-cast-j Inv-loop μ-loop
-cast-j c = search needs
 
 cast-j-2 : tie.Need-cast-j-2 Inv-loop μ-loop
 cast-j-2 c = omega (arith, taking-few (c .before .loop .inv) (c .loop-test .taken))
@@ -31,12 +25,6 @@ cast-without-bit c = omega (arith, taking-within (c .before .loop .inv) (c .loop
 
 without-bit-requires : tie.Need-without-bit-requires Inv-loop μ-loop
 without-bit-requires c κs = taking-within (c .before .loop .inv) (c .loop-test .taken)
-
-mul-keep-at : tie.Need-mul-keep-at Inv-loop μ-loop
-mul-keep-at c = search needs
-
-add-keep-at : tie.Need-add-keep-at Inv-loop μ-loop
-add-keep-at c = search needs
 
 keep-at-requires : tie.Need-keep-at-requires Inv-loop μ-loop
 keep-at-requires c κs = let L = c .before .before .before .loop in (L .inv .sized, taking-room (L .inv) (c .before .before .loop-test .taken) (search needs))
@@ -56,20 +44,5 @@ returns c = let I = c .before .loop .inv in (taking-end I (c .loop-test .left), 
 pub sweep-bits-spec : {M : Type 1} → statement M
 sweep-bits-spec =
     tie.close
-    (tie.spec
-    Inv-loop
-    μ-loop
-    mark-word-requires
-    loop-holds
-    cast-j
-    cast-j-2
-    sub-j
-    cast-without-bit
-    without-bit-requires
-    mul-keep-at
-    add-keep-at
-    keep-at-requires
-    loop-less
-    loop-again
-    same-length
-    returns)
+    (tie.spec Inv-loop μ-loop (λ c κs. search needs) loop-holds (λ c. search needs) cast-j-2 sub-j cast-without-bit without-bit-requires
+    (λ c. search needs) (λ c. search needs) keep-at-requires loop-less loop-again same-length returns)
