@@ -12,7 +12,7 @@ abbrev μ-loop : tie.MeasureT-loop
 μ-loop im₀ k i x₀ t₀ im x t = x
 
 loop-holds : tie.Need-loop-holds Inv-loop μ-loop
-loop-holds c = taking-none (search needs) (c .mark-word .ensures) (omega arith) (search needs) (search needs)
+loop-holds c = taking-none (search needs) (search needs) (omega arith) (search needs) (search needs)
 
 cast-j-2 : tie.Need-cast-j-2 Inv-loop μ-loop
 cast-j-2 c = omega (arith, taking-few (c .before .loop .inv) (c .loop-test .taken))

@@ -5,7 +5,7 @@ use Rattle.finish.proofs.gaps.sweep_word.Statement.{statement}
 use Rattle.finish.proofs.gaps.sweep_word.Tie as tie
 
 returns : tie.Need-returns
-returns c = (word-full _ _ _ _ _ _ _ (c .before .mark-word .ensures) (c .if2 .taken) (c .before .before .before .if1 .taken), (omega arith, search needs))
+returns c = (word-full _ _ _ _ _ _ _ (search needs) (c .if2 .taken) (c .before .before .before .if1 .taken), (omega arith, search needs))
 
 pub sweep-word-spec : {M : Type 1} → statement M
 sweep-word-spec =
