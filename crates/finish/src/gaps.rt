@@ -1,6 +1,6 @@
 // The sweep, from the last word of mark bits down: a kept object closes the gap behind it, and what lies between kept objects becomes runs.
 ghost use mathlib.Core.Path.{_≡_};
-ghost use Prim.Native.Nat.{ℕ, _+_, _*_, _-_, _/_, _≤_, _<_};
+ghost use Prim.Native.Nat.{_+_, _*_, _-_, _/_, _≤_, _<_};
 ghost use Rattle.model.specs.Image.{imageOf, withHeap};
 ghost use Rattle.image_laws.specs.Sized.{Sized};
 ghost use Rattle.image_laws.specs.Clearing.{zeroed};

@@ -27,7 +27,6 @@ use Rattle.finish_laws.proofs.gaps.Pieces.{SweptRuns, swept-all}
 use Rattle.finish_laws.proofs.gaps.Runs.{withSweep}
 use Rattle.image_laws.specs.Sized.{Sized}
 use Rattle.image_laws.proofs.Lengths.{width-image, cards-image, sized-width, starts-words, marks-words, cards-words}
-use Rattle.image_laws.proofs.Places.{granules-small}
 use Rattle.image_laws.proofs.Sections.{image-fits, granules-image}
 use Rattle.image_laws.proofs.Words.{zero-words, bit-words}
 use Rattle.finish_marking_laws.specs.Seeds.{KeptMarked}

@@ -8,8 +8,8 @@ use native.Mathlib.Decide.{ℕ-discrete, decLt}
 use lib.ListN.{length}
 use lib.Count.{leadingZeros}
 use lib.Pow.{pow-mono}
-use Rattle.model.specs.Base.{nth, testBit, bit}
-use Rattle.model.specs.Image.{Image, marked, imageOf, image}
+use Rattle.model.specs.Base.{nth, testBit}
+use Rattle.model.specs.Image.{marked, imageOf, image}
 use Rattle.model.proofs.Laws.{false≢}
 use Rattle.image_laws.specs.Bits.{withoutBit}
 use Rattle.image_laws.specs.Sized.{Sized}

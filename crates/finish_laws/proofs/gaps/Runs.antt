@@ -1,12 +1,12 @@
 -- What lies between kept objects becomes a run, in words.
-use mathlib.Core.Path.{_≡_, refl, sym, ap, subst, _∙_}
+use mathlib.Core.Path.{_≡_, refl, sym, ap, _∙_}
 use mathlib.Core.List.{List, [], _∷_, _++_, append-assoc}
 use Prim.Native.Nat.{ℕ, zero, suc, _+_, _*_, _-_, _<_, _≤_}
 use native.Mathlib.Omega.{arith}
 use lib.ListN.{length, set, take, drop, replicate, length-append, length-drop}
 use lib.Seq.{take-add, take-at, drop-at, drop-append-le, length-take-le, set-set}
 use borrow.Author.Tests.{lt-ltb, le-ltb}
-use Rattle.model.specs.Base.{nth, put}
+use Rattle.model.specs.Base.{put}
 use Rattle.model.specs.Image.{Image, firstRun, withHeap, withGeneral, setFirstRun, setWord}
 use Rattle.model.specs.Finish.{runTail, Swept, sweptWords, firstOf}
 use Rattle.model.proofs.Laws.{nth-put-same}
