@@ -10,20 +10,19 @@ ghost use Rattle.finish_laws.specs.Ending.{finished};
 use image::layout::Word;
 
 pub mod ending; // ending.rt: the end of a finish
-pub mod freed; // freed.rt: the granules freed
 pub mod gaps; // gaps.rt: the sweep
 pub mod step; // step.rt: kind 13, the finish as a step
 
-// The value: granules freed.
+// The value: granules freed, by which the free runs grow.
 pub fn finish(im: &mut [Word], k: usize) -> Word
     requires { ⌜ Sized width k (now im) ⌝ }
     requires { ⌜ sound (imageOf width k (now im)) ≡ true ⌝ }
     ensures { λ r. ⌜ finished r (imageOf width k (now (im .exit))) ≡ finishStep (imageOf width k (now (im .entry))) ⌝ }
 {
+    let before = runs::chain::free_granules(im, k);
     finish_marking::mark_found(im, k);
-    let f = freed::count_freed(im, k);
-    gaps::sweep_all(im, k);
+    let after = gaps::sweep_all(im, k);
     ending::keep_starts(im, k);
     ending::end_cycle(im, k);
-    f as Word
+    (after - before) as Word
 }

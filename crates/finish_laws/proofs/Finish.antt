@@ -2,13 +2,14 @@
 use mathlib.Core.Path.{_≡_, refl, sym, ap, subst, fun-ext, _∙_}
 use mathlib.Core.Bool.{Bool, true, false}
 use mathlib.Core.List.{List, _++_}
-use Prim.Native.Nat.{ℕ, _+_, _*_, _<_, _^_}
+use Prim.Native.Nat.{ℕ, _+_, _*_, _-_, _^_, _<_, _≤_}
 use native.Mathlib.Omega.{arith}
 use lib.ListN.{length, getD, set, take, drop, length-drop}
 use lib.Seq.{set-comm}
 use Rattle.model.specs.Base.{nth, put, zeros, bit, addBits}
 use Rattle.model.specs.Image.{Image, granules, isStart, marked, firstRun, imageOf, withHeap, withStarts, withMarks, withPackets, withTracers, withPlayers, withGeneral, setFirstRun, words}
 use Rattle.model.specs.Undamaged.{sound}
+use Rattle.model.specs.Mutate.{freeFrom, freeGranules}
 use Rattle.model.specs.Finish.{Kept, kept-marked, kept-found, keptSet, Swept, sweptWords, firstOf, sweep, finishWith, finishStep}
 use Rattle.model.proofs.Words.{Fits, parts-words, words-fit}
 use Rattle.theory.specs.Lines.{Lines}
@@ -17,17 +18,15 @@ use Rattle.model.proofs.Sited.{Sited, sited}
 use Rattle.model.proofs.Found.{found-start, set-kept, kept-set}
 use Rattle.theory.specs.Heap.{Filled, HeapFilled}
 use Rattle.theory.proofs.heap.Facts.{heap-filled-of}
+use Rattle.theory.proofs.heap.Walk.{no-start-zero}
 use Rattle.model.proofs.Laws.{same-test}
 use Rattle.finish_laws.specs.Ending.{StartsKept, scannedOffTo, ended, finished}
-use Rattle.finish_laws.specs.Freed.{goes, freedBelow}
-use Rattle.finish_laws.specs.Gaps.{sweptAll}
+use Rattle.finish_laws.specs.Gaps.{Edged, edged, sweptAll}
 use Rattle.finish_laws.proofs.Ending.{off-to-all}
-use Rattle.finish_laws.proofs.Freed.{freed-counted, freed-small}
-use Rattle.finish_laws.proofs.gaps.Pieces.{swept-all}
+use Rattle.finish_laws.proofs.gaps.Pieces.{SweptRuns, swept-all}
 use Rattle.finish_laws.proofs.gaps.Runs.{withSweep}
 use Rattle.image_laws.specs.Sized.{Sized}
 use Rattle.image_laws.proofs.Lengths.{width-image, cards-image, sized-width, starts-words, marks-words, cards-words}
-use Rattle.image_laws.proofs.Places.{granules-small}
 use Rattle.image_laws.proofs.Sections.{image-fits, granules-image}
 use Rattle.image_laws.proofs.Words.{zero-words, bit-words}
 use Rattle.finish_marking_laws.specs.Seeds.{KeptMarked}
@@ -130,27 +129,23 @@ module _ {w k : ℕ} {ws ws1 : List ℕ} (z : Sized w k ws) (z1 : Sized w k ws1)
   kept : (g : ℕ) → marked m1 g ≡ true → isStart m1 g ≡ true
   kept = marks-starts m m1 (sited-of m (image-fits z) e) (sound-lines z e) q
 
-  swept-image : sweptAll k m1 ≡ withSweep m1 (take 4 (m1 .heap) ++ sweptWords marks-sweep) (firstOf 1 marks-sweep)
+  swept-runs : SweptRuns k m1 m (firstRun m) marks-sweep
   unfolding marks-sweep
-  swept-image = swept-all k m1 (z .low) long (omega (arith, fits-sizes m1 (image-fits z1) .general-size)) kept (granules m) filled enough behind
+  swept-runs =
+      swept-all k m1 m (z .low) long (omega (arith, fits-sizes m1 (image-fits z1) .general-size)) (q .heap) kept (granules m) filled (q .starts 0 ∙ no-start-zero heap-filled) enough behind
 
   -- ---- the value
 
-  nothing-first : freedBelow m1 1 ≡ 0
-  unfolding freedBelow goes
-  nothing-first = rw (none (isStart m1 0) refl)
-    where
-      none : (b : Bool) → isStart m1 0 ≡ b → isStart m1 0 ≡ false
-      none true h = absurd (omega (arith, heap-filled .start-range 0 (sym (q .starts 0) ∙ h)))
-      none false h = h
+  -- the runs have what was free and what is freed
+  runs-grow : (a b : ℕ) (m2 : Image) → a ≡ freeGranules m → edged 0 b m2 ≡ sweptAll k m1 → b ≡ marks-sweep .freed + a
+  unfolding freeGranules
+  runs-grow a b m2 ea eb =
+      let u : b ≡ swept-runs .runs = ap (λ (s : Edged). s .free) (eb ∙ swept-runs .image) in
+      let c : freeFrom m (64 * k) (firstRun m) ≡ a = ap (λ (n : ℕ). freeFrom m n (firstRun m)) (sym (granules-image w k ws)) ∙ sym ea in
+      omega (arith, swept-runs .count)
 
-  freed-is : freedBelow m1 (64 * k) ≡ marks-sweep .freed
-  unfolding marks-sweep
-  freed-is = freed-counted m1 kept (64 * k) (granules m) filled enough behind refl ∙ omega (arith, nothing-first)
-
-  pub freed-fits : freedBelow m1 (64 * k) < 2 ^ w
-  unfolding marks-sweep
-  freed-fits = omega (arith, freed-is, freed-small m1 kept (granules m) filled enough, behind, granules-small w k (sized-width z) (z .high))
+  pub value-fits : (a b : ℕ) (m2 : Image) → a ≡ freeGranules m → edged 0 b m2 ≡ sweptAll k m1 → a ≤ b
+  value-fits a b m2 ea eb = omega (arith, runs-grow a b m2 ea eb)
 
   -- ---- the sections
 
@@ -168,12 +163,15 @@ module _ {w k : ℕ} {ws ws1 : List ℕ} (z : Sized w k ws) (z1 : Sized w k ws1)
   unfolding put
   general-is = set-comm (m1 .general) 1 0 (firstOf 1 marks-sweep) 0 (omega arith) ∙ ap (λ (r : Swept). set (set (m1 .general) 0 0) 1 (firstOf 1 r)) same-sweep ∙ ap (λ (l : List ℕ). set (set l 0 0) 1 (firstOf 1 kept-sweep)) (same-section (q .rest) 4)
 
-  pub finish-whole : (f : ℕ) (m2 m3 m4 : Image) → f ≡ freedBelow m1 (64 * k) → m2 ≡ sweptAll k m1 → StartsKept w m2 m3 → m4 ≡ ended m3 → finished f m4 ≡ finishStep m
+  pub finish-whole : (a b : ℕ) (m2 m3 m4 : Image) → a ≡ freeGranules m → edged 0 b m2 ≡ sweptAll k m1 → StartsKept w m2 m3 → m4 ≡ ended m3 → finished (b - a) m4 ≡ finishStep m
   unfolding finishStep finishWith kept-sweep
-  finish-whole f m2 m3 m4 ef e2 s e4 = λ x. record { image = image-is x; value = (ef ∙ freed-is ∙ ap (λ (r : Swept). r .freed) same-sweep) x }
+  finish-whole a b m2 m3 m4 ea e2 s e4 = λ x. record { image = image-is x; value = (value-is ∙ ap (λ (r : Swept). r .freed) same-sweep) x }
     where
+      value-is : b - a ≡ marks-sweep .freed
+      value-is = omega (arith, runs-grow a b m2 ea e2)
+
       whole : m2 ≡ withSweep m1 (take 4 (m1 .heap) ++ sweptWords marks-sweep) (firstOf 1 marks-sweep)
-      whole = e2 ∙ swept-image
+      whole = ap (λ (t : Edged). t .image) (e2 ∙ swept-runs .image)
 
       same-marks : m2 .marks ≡ m1 .marks
       same-marks = ap (λ (i : Image). i .marks) whole ∙ unfold withSweep setFirstRun withHeap withGeneral in refl

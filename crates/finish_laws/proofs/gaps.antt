@@ -1,4 +1,7 @@
 -- The sweep.
+pub mod Leading
 pub mod Runs
+pub mod Granules
+pub mod Bits
 pub mod Pieces
 pub mod Code

@@ -1,22 +1,37 @@
--- The sweep's code, case by case, and its loop.
-use mathlib.Core.Path.{_≡_, refl, _∙_, sym}
-use mathlib.Core.Bool.{Bool, true, false}
+-- The sweep's code, case by case, and its loop over words.
+use mathlib.Core.Path.{_≡_, refl, sym, ap, _∙_}
 use mathlib.Core.List.{List}
-use Prim.Native.Nat.{ℕ, suc, _+_, _*_, _-_, _<_, _≤_}
+use Prim.Native.Nat.{ℕ, _+_, _*_, _-_, _/_, _<_, _≤_}
+use native.Mathlib.Numerals.{add-one}
+use native.Mathlib.Nat.{mul-suc}
 use native.Mathlib.Omega.{arith}
-use lib.ListN.{length}
-use Rattle.finish_laws.proofs.gaps.Runs.{gap-zero, gap-suc, passed-none, passed-keep}
-use Rattle.model.specs.Base.{nth, put}
-use Rattle.model.specs.Image.{Image, marked, firstRun, withHeap, setFirstRun, imageOf}
-use Rattle.finish_laws.specs.Gaps.{edged, runFrom, gap, passed, sweptFrom, sweptAll}
+use lib.ListN.{length, take-append-drop}
+use borrow.Author.Tests.{eq-eqb, ne-eqb}
+use Rattle.model.specs.Image.{Image, word, size, firstRun, withHeap, setFirstRun, setWord, imageOf}
 use Rattle.image_laws.specs.Clearing.{zeroed}
 use Rattle.image_laws.specs.Sized.{Sized}
-use Rattle.image_laws.proofs.Lengths.{sized-as}
+use Rattle.image_laws.proofs.Lengths.{sized-as, sized-width}
+use Rattle.image_laws.proofs.Places.{words-full}
+use Rattle.finish_laws.specs.Gaps.{Edged, edged, headAt, runFrom, gap, closedAt, keptAt, sweptFrom, sweptAll}
+use Rattle.finish_laws.proofs.gaps.Granules.{from-none, from-add}
+use Rattle.finish_laws.proofs.gaps.Runs.{gap-zero, gap-suc}
 
-pub run-done : (m : Image) (a e n : ℕ) → n ≡ firstRun m → (m1 m2 m3 m4 : Image) → m1 ≡ withHeap m (zeroed (4 * a) (4 * e) (m .heap)) → m2 ≡ withHeap m1 (put (m1 .heap) (4 * a) (e - a))
-    → m3 ≡ withHeap m2 (put (m2 .heap) (4 * a + 1) n) → m4 ≡ setFirstRun m3 a → m4 ≡ runFrom m a e
-unfolding runFrom withHeap
-run-done m a e n en m1 m2 m3 m4 e1 e2 e3 e4 = rw (e4, e3, e2, e1, en)
+-- ---- a run
+
+pub head-set : (m : Image) (a x y : ℕ) (m1 m2 m3 m4 : Image) → m1 ≡ setWord m a 0 x → m2 ≡ setWord m1 a 1 y → m3 ≡ setWord m2 a 2 0 → m4 ≡ setWord m3 a 3 0 → m4 ≡ headAt m a x y
+unfolding headAt
+head-set m a x y m1 m2 m3 m4 e1 e2 e3 e4 = rw (e4, e3, e2, e1)
+
+pub behind-none : (m : Image) (a e : ℕ) → a < e → e ≤ a + 1 → m ≡ withHeap m (zeroed (4 * a + 4) (4 * e) (m .heap))
+unfolding withHeap zeroed
+behind-none m a e l h =
+    let q : 4 * e ≡ 4 * a + 4 = omega arith in
+    let p : 4 * a + 4 - (4 * a + 4) ≡ 0 = omega arith in
+    rw (q, p, take-append-drop (4 * a + 4) (m .heap))
+
+pub run-done : (m : Image) (a e n : ℕ) → n ≡ firstRun m → (m1 m2 m3 : Image) → m1 ≡ headAt m a (e - a) n → m2 ≡ withHeap m1 (zeroed (4 * a + 4) (4 * e) (m1 .heap)) → m3 ≡ setFirstRun m2 a → m3 ≡ runFrom m a e
+unfolding runFrom
+run-done m a e n en m1 m2 m3 e1 e2 e3 = rw (e3, e2, e1, en)
 
 pub gap-some : (m m' : Image) (a e : ℕ) → a < e → m' ≡ runFrom m a e → m' ≡ gap m a e
 gap-some m m' a e l q = q ∙ sym (gap-suc m a e l)
@@ -24,53 +39,79 @@ gap-some m m' a e l q = q ∙ sym (gap-suc m a e l)
 pub gap-none : (m : Image) (a e : ℕ) → e ≤ a → m ≡ gap m a e
 gap-none m a e l = sym (gap-zero m a e l)
 
-module _ (m : Image) (h e : ℕ) (r : Bool) (er : r ≡ marked m h) where
-  pub sweep-none : r ≡ false → edged e m ≡ passed m h e
-  sweep-none q = sym (passed-none m h e (sym er ∙ q))
+-- ---- a kept object
 
-  pub sweep-keep : r ≡ true → (n : ℕ) → n ≡ nth (m .heap) (4 * h) → (m' : Image) → m' ≡ gap m (h + n) e → edged h m' ≡ passed m h e
-  sweep-keep q n en m' em = rw (em, en) (sym (passed-keep m h e (sym er ∙ q)))
+module _ (m : Image) (h e f : ℕ) where
+  pub keep-next : e ≡ h + 1 → edged h f m ≡ keptAt h (edged e f m)
+  unfolding keptAt
+  keep-next q = rw (eq-eqb e (h + 1) q)
 
--- ---- the loop
+  pub keep-behind : (e ≡ h + 1 → ⊥) → (s : ℕ) → s ≡ word m h 0 → (m' : Image) → m' ≡ gap m (h + s) e → (n : ℕ) → n ≡ e - (h + s) → edged h (f + n) m' ≡ keptAt h (edged e f m)
+  unfolding keptAt closedAt size
+  keep-behind q s es m' em n en = rw (ne-eqb e (h + 1) q, ← es, em, en)
 
-pub record Sweeping (w k : ℕ) (im₀ im : List ℕ) (e h : ℕ) : Type 0 where
-  pub low : 1 ≤ h
-  pub high : h ≤ 64 * k
+-- ---- the loop: the words from i on are swept
+
+pub record Sweeping (w k : ℕ) (im₀ im : List ℕ) (e f i : ℕ) : Type 0 where
+  pub high : i ≤ 64 * k / w
   pub sized : Sized w k im
   pub same : length im ≡ length im₀
-  pub top : e ≤ 64 * k
-  pub state : edged e (imageOf w k im) ≡ sweptFrom (64 * k) (imageOf w k im₀) (64 * k - h)
+  pub low : w * i ≤ e
+  pub top : w * i ≤ 64 * k
+  pub room : e + f ≤ 64 * k
+  pub state : edged e f (imageOf w k im) ≡ sweptFrom (64 * k) (edged (64 * k) 0 (imageOf w k im₀)) (64 * k - w * i)
 
-pub sweeping-none : {w k : ℕ} {im : List ℕ} → Sized w k im → Sweeping w k im im (64 * k) (64 * k)
-unfolding sweptFrom
+pub sweeping-none : {w k : ℕ} {im : List ℕ} → Sized w k im → Sweeping w k im im (64 * k) 0 (64 * k / w)
 sweeping-none {w} {k} {im} z =
+    let u : w * (64 * k / w) ≡ 64 * k = words-full w k (sized-width z) in
+    let q : 64 * k - w * (64 * k / w) ≡ 0 = omega arith in
     record {
-      low = omega (arith, z .low);
       high = omega arith;
       sized = z;
       same = refl;
+      low = omega arith;
       top = omega arith;
-      state = (let q : 64 * k - 64 * k ≡ 0 = omega arith in rw q);
+      room = omega arith;
+      state = rw q (sym (from-none (64 * k) (edged (64 * k) 0 (imageOf w k im))));
     }
 
-module _ {w k : ℕ} {im₀ im : List ℕ} {e h : ℕ} (t : Sweeping w k im₀ im e h) where
-  pub sweeping-more : 1 < h → (e' : ℕ) (im' : List ℕ) → length im' ≡ length im → e' ≤ 64 * k → edged e' (imageOf w k im') ≡ passed (imageOf w k im) (h - 1) e → Sweeping w k im₀ im' e' (h - 1)
-  unfolding sweptFrom
-  sweeping-more l e' im' ll te s =
+module _ {w k : ℕ} {im₀ im : List ℕ} {e f i : ℕ} (t : Sweeping w k im₀ im e f i) where
+  s₀ : Edged
+  s₀ = edged (64 * k) 0 (imageOf w k im₀)
+
+  -- the word before word i
+  word-before : 0 < i → w * i ≡ w * (i - 1) + w
+  word-before l = let q : i ≡ i - 1 + 1 = omega arith in ap (λ (j : ℕ). w * j) q ∙ rw (add-one (i - 1)) (mul-suc w (i - 1))
+
+  pub sweeping-word : 0 < i → (i - 1 < 64 * k / w) × (e + f ≤ 64 * k) × (w * (i - 1) + w ≤ e)
+  sweeping-word l = (omega (arith, t .high), t .room, omega (arith, t .low, word-before l))
+
+  pub sweeping-more : 0 < i → (e' f' : ℕ) (im' : List ℕ) → length im' ≡ length im → edged e' f' (imageOf w k im') ≡ sweptFrom (w * (i - 1) + w) (edged e f (imageOf w k im)) w
+      → (w * (i - 1) ≤ e') × (e' + f' ≤ 64 * k) → Sweeping w k im₀ im' e' f' (i - 1)
+  unfolding s₀
+  sweeping-more l e' f' im' ll s r =
+      let b : w * i ≡ w * (i - 1) + w = word-before l in
       record {
-        low = omega arith;
         high = omega (arith, t .high);
         sized = sized-as (t .sized) ll;
         same = ll ∙ t .same;
-        top = te;
+        low = r .0;
+        top = omega (arith, t .top);
+        room = r .1;
         state =
-            (let q : 64 * k - (h - 1) ≡ suc (64 * k - h) = omega (arith, t .high) in
-            let p : 64 * k - suc (64 * k - h) ≡ h - 1 = omega (arith, t .high) in
-            s ∙ rw (q, p, ← (t .state)));
+            (let q : 64 * k - w * (i - 1) ≡ 64 * k - w * i + w = omega (arith, t .top) in
+            let p : 64 * k - (64 * k - w * i) ≡ w * (i - 1) + w = omega (arith, t .top) in
+            s
+            ∙ ap (λ (y : Edged). sweptFrom (w * (i - 1) + w) y w) (t .state)
+            ∙ ap (λ (n : ℕ). sweptFrom n (sweptFrom (64 * k) s₀ (64 * k - w * i)) w) (sym p)
+            ∙ sym (from-add (64 * k) s₀ (64 * k - w * i) w)
+            ∙ ap (sweptFrom (64 * k) s₀) (sym q));
       }
 
-  pub sweeping-end : (m : Image) → imageOf w k im₀ ≡ setFirstRun m 0 → h ≤ 1 → (im' : List ℕ) → imageOf w k im' ≡ gap (imageOf w k im) 1 e → imageOf w k im' ≡ sweptAll k m
-  unfolding sweptAll
-  sweeping-end m em l im' s =
-      let q : 64 * k - 1 ≡ 64 * k - h = omega (arith, t .low) in
-      s ∙ rw (q, ← em, ← (t .state))
+  pub sweeping-end : (m : Image) → imageOf w k im₀ ≡ setFirstRun m 0 → i ≤ 0 → (im' : List ℕ) → imageOf w k im' ≡ gap (imageOf w k im) 1 e → (n : ℕ) → n ≡ e - 1 → edged 0 (f + n) (imageOf w k im') ≡ sweptAll k m
+  unfolding sweptAll closedAt
+  sweeping-end m em l im' s n en =
+      let z : w * i ≡ 0 = (let q : i ≡ 0 = omega arith in ap (λ (j : ℕ). w * j) q ∙ omega arith) in
+      let q : 64 * k - w * i ≡ 64 * k = omega arith in
+      let st : edged e f (imageOf w k im) ≡ sweptFrom (64 * k) (edged (64 * k) 0 (setFirstRun m 0)) (64 * k) = t .state ∙ ap (sweptFrom (64 * k) (edged (64 * k) 0 (imageOf w k im₀))) q ∙ ap (λ (i : Image). sweptFrom (64 * k) (edged (64 * k) 0 i) (64 * k)) em in
+      rw (s, en) (ap (closedAt 0 1) st)

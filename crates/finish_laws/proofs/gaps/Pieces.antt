@@ -1,105 +1,211 @@
--- The sweep from the last granule down is the model's sweep over the pieces.
-use mathlib.Core.Path.{_≡_, refl, sym, ap, _∙_}
+-- The sweep from the last granule down is the model's sweep over the pieces; and its runs have what was free and what is freed.
+use mathlib.Core.Path.{_≡_, refl, sym, ap, subst, _∙_}
 use mathlib.Core.Bool.{Bool, true, false, cond}
 use mathlib.Core.List.{List, [], _∷_, _++_, append-assoc, append-nil}
 use Prim.Native.Nat.{ℕ, zero, suc, _+_, _*_, _-_, _<_, _≤_}
 use native.Mathlib.Omega.{arith}
 use native.Mathlib.Nat.{add-zero}
+use lib.Dec.{eqb}
 use lib.ListN.{length, take, drop, length-append}
-use lib.Seq.{take-add, take-at, take-all, length-take-le}
+use lib.Seq.{take-add, take-at, take-all, drop-at, drop-drop, length-take-le}
+use borrow.Author.Tests.{eqb-true}
 use Rattle.model.specs.Base.{nth}
-use Rattle.model.specs.Image.{Image, isStart, marked, withHeap, withGeneral, setFirstRun}
+use Rattle.model.specs.Image.{Image, word, isStart, marked, size, withHeap, withGeneral, setFirstRun}
+use Rattle.model.specs.Mutate.{freeFrom}
 use Rattle.model.specs.Finish.{runTail, Swept, sweptWords, firstOf, swept, sweep}
-use Rattle.model.proofs.Entries.{nth-take}
-use Rattle.theory.specs.Heap.{Filled, f-end, f-object, f-run, Bare}
-use Rattle.theory.proofs.heap.Lists.{nth-left, length-run}
+use Rattle.model.proofs.Entries.{nth-take, nth-drop}
+use Rattle.theory.specs.Heap.{Filled, f-end, f-object, f-run, runWords, Bare}
+use Rattle.theory.proofs.heap.Free.{chain-end}
+use Rattle.theory.proofs.heap.Lists.{nth-head, nth-left, length-run, run-next}
 use Rattle.theory.proofs.finish.Sweep.{not-kept, sweep-piece}
-use Rattle.finish_laws.specs.Gaps.{Edge, edged, gap, passed, sweptFrom, sweptAll}
-use Rattle.finish_laws.proofs.gaps.Runs.{withSweep, from, gap-done, passed-none, passed-keep, swept-suc-granule, marked-with-sweep, heap-with-sweep, words-behind, size-first}
+use Rattle.finish_laws.specs.Gaps.{Edged, edged, gap, closedAt, keptAt, passed, sweptFrom, sweptAll}
+use Rattle.finish_laws.proofs.gaps.Granules.{passed-none, passed-keep, from-suc}
+use Rattle.finish_laws.proofs.gaps.Runs.{withSweep, from, gap-zero, gap-done}
 
-module _ (G : ℕ) (m : Image) (H : List ℕ) (lH : length H ≡ 4 * G) (hg : 1 < length (m .general)) (kept : (g : ℕ) → marked m g ≡ true → isStart m g ≡ true) where
-  abbrev m₀ : Image
-  m₀ = withSweep m H 0
+-- ---- one granule
 
-  -- the state after the granules from g on
-  abbrev done : ℕ → Swept → Edge
-  done g r = edged (g + r .free) (from m H hg g r)
+closed-at : (h a : ℕ) (s : Edged) → closedAt h a s ≡ edged h (s .free + (s .start - a)) (gap (s .image) a (s .start))
+unfolding closedAt
+closed-at h a s = refl
+
+-- the size of a kept object need not be read where the next one starts right behind its first granule
+kept-closed : (h : ℕ) (s : Edged) → 1 ≤ size (s .image) h → keptAt h s ≡ closedAt h (h + size (s .image) h) s
+unfolding keptAt
+kept-closed h s l = go (eqb (s .start) (h + 1)) refl
+  where
+    a : ℕ
+    a = h + size (s .image) h
+
+    go : (b : Bool) → eqb (s .start) (h + 1) ≡ b → cond b (edged h (s .free) (s .image)) (closedAt h a s) ≡ closedAt h a s
+    go true q =
+        let u : s .start ≡ h + 1 = eqb-true _ _ q in
+        let z : s .free ≡ s .free + (s .start - a) = omega arith in
+        ap (λ (f : ℕ). edged h f (s .image)) z ∙ ap (edged h (s .free + (s .start - a))) (sym (gap-zero (s .image) a (s .start) (omega arith))) ∙ sym (closed-at h a s)
+    go false q = refl
+
+marked-with-sweep : (m : Image) (hs : List ℕ) (f h : ℕ) → marked (withSweep m hs f) h ≡ marked m h
+unfolding withSweep setFirstRun withHeap withGeneral marked
+marked-with-sweep m hs f h = refl
+
+size-with-sweep : (m : Image) (hs : List ℕ) (f h : ℕ) → size (withSweep m hs f) h ≡ nth hs (4 * h)
+unfolding withSweep setFirstRun withHeap withGeneral size word
+size-with-sweep m hs f h = ap (nth hs) (add-zero (4 * h))
+
+-- ---- the words of a piece
+
+-- the words behind a piece
+words-behind : (H : List ℕ) (g s : ℕ) (ws rest : List ℕ) → drop (4 * g) H ≡ (s ∷ ws) ++ rest → suc (length ws) ≡ 4 * s → drop (4 * (g + s)) H ≡ rest
+words-behind H g s ws rest ew lw =
+    let q : 4 * (g + s) ≡ 4 * g + 4 * s = omega arith in
+    ap (λ (i : ℕ). drop i H) q ∙ sym (drop-drop (4 * s) (4 * g) H) ∙ ap (drop (4 * s)) ew ∙ drop-at (s ∷ ws) rest (4 * s) lw
+
+-- the size of a piece is its first word
+size-first : (H : List ℕ) (g s : ℕ) (ws rest : List ℕ) → drop (4 * g) H ≡ (s ∷ ws) ++ rest → nth H (4 * g) ≡ s
+size-first H g s ws rest ew =
+    let z : 4 * g ≡ 4 * g + 0 = omega arith in
+    ap (nth H) z ∙ sym (nth-drop (4 * g) H 0) ∙ ap (λ (l : List ℕ). nth l 0) ew ∙ nth-head s (ws ++ rest)
+
+-- ---- the fold: heap H with marks of m, and the chain of runs as `old` has it
+
+module _ (G : ℕ) (m old : Image) (H : List ℕ) (lH : length H ≡ 4 * G) (hg : 1 < length (m .general)) (rd : (g i : ℕ) → word old g i ≡ nth H (4 * g + i)) (kept : (g : ℕ) → marked m g ≡ true → isStart m g ≡ true) where
+  abbrev s₀ : Edged
+  s₀ = edged G 0 (withSweep m H 0)
+
+  -- the state after the granules from g on; the runs behind the free granules in front have c granules
+  abbrev done : ℕ → Swept → ℕ → Edged
+  done g r c = edged (g + r .free) c (from m H hg g r)
 
   -- granules behind the first of a piece change nothing
-  skip : (g s : ℕ) (r : Swept) → g + s ≤ G → sweptFrom G m₀ (G - (g + s)) ≡ done (g + s) r → Bare (isStart m) g s → (j : ℕ) → j < s → sweptFrom G m₀ (G - (g + s) + j) ≡ done (g + s) r
-  skip g s r hG d ba zero l = ap (sweptFrom G m₀) (omega arith) ∙ d
-  skip g s r hG d ba (suc j) l =
+  skip : (g s : ℕ) (r : Swept) (c : ℕ) → g + s ≤ G → sweptFrom G s₀ (G - (g + s)) ≡ done (g + s) r c → Bare (isStart m) g s → (j : ℕ) → j < s → sweptFrom G s₀ (G - (g + s) + j) ≡ done (g + s) r c
+  skip g s r c hG d ba zero l = ap (sweptFrom G s₀) (omega arith) ∙ d
+  skip g s r c hG d ba (suc j) l =
       let q : G - (g + s) + suc j ≡ suc (G - (g + s) + j) = omega arith in
-      ap (sweptFrom G m₀) q
-      ∙ swept-suc-granule G m₀ (G - (g + s) + j)
-      ∙ ap (λ (p : Edge). passed (p .image) (G - suc (G - (g + s) + j)) (p .edge)) (skip g s r hG d ba j (omega arith))
-      ∙ passed-none (from m H hg (g + s) r) (G - suc (G - (g + s) + j)) (g + s + r .free)
+      ap (sweptFrom G s₀) q
+      ∙ from-suc G s₀ (G - (g + s) + j)
+      ∙ ap (λ (p : Edged). passed p (G - suc (G - (g + s) + j))) (skip g s r c hG d ba j (omega arith))
+      ∙ passed-none (done (g + s) r c) (G - suc (G - (g + s) + j))
       (marked-with-sweep m _ _ (G - suc (G - (g + s) + j)) ∙ not-kept (isStart m) (marked m) kept _ (ba (G - suc (G - (g + s) + j)) (omega arith) (omega arith)))
 
   -- the first granule of a piece, after those behind it
-  at-first : (g s : ℕ) (r : Swept) → 1 ≤ s → g + s ≤ G → sweptFrom G m₀ (G - (g + s)) ≡ done (g + s) r → Bare (isStart m) g s → sweptFrom G m₀ (G - g) ≡ passed (from m H hg (g + s) r) g (g + s + r .free)
-  at-first g s r h1 hG d ba =
+  at-first : (g s : ℕ) (r : Swept) (c : ℕ) → 1 ≤ s → g + s ≤ G → sweptFrom G s₀ (G - (g + s)) ≡ done (g + s) r c → Bare (isStart m) g s → sweptFrom G s₀ (G - g) ≡ passed (done (g + s) r c) g
+  at-first g s r c h1 hG d ba =
       let q : G - g ≡ suc (G - (g + s) + (s - 1)) = omega arith in
       let k : G - suc (G - (g + s) + (s - 1)) ≡ g = omega arith in
-      ap (sweptFrom G m₀) q
-      ∙ swept-suc-granule G m₀ (G - (g + s) + (s - 1))
-      ∙ ap (λ (p : Edge). passed (p .image) (G - suc (G - (g + s) + (s - 1))) (p .edge)) (skip g s r hG d ba (s - 1) (omega arith))
-      ∙ ap (λ (x : ℕ). passed (from m H hg (g + s) r) x (g + s + r .free)) k
+      ap (sweptFrom G s₀) q
+      ∙ from-suc G s₀ (G - (g + s) + (s - 1))
+      ∙ ap (λ (p : Edged). passed p (G - suc (G - (g + s) + (s - 1)))) (skip g s r c hG d ba (s - 1) (omega arith))
+      ∙ ap (passed (done (g + s) r c)) k
 
   -- a piece that goes
-  gone : (g s x : ℕ) (r : Swept) → marked m g ≡ false → passed (from m H hg (g + s) r) g (g + s + r .free) ≡ done g (record { free = s + r .free; rest = r .rest; next = r .next; freed = x })
-  gone g s x r u =
+  gone : (g s x : ℕ) (r : Swept) (c : ℕ) → marked m g ≡ false → passed (done (g + s) r c) g ≡ done g (record { free = s + r .free; rest = r .rest; next = r .next; freed = x }) c
+  gone g s x r c u =
       let q : g + s + r .free ≡ g + (s + r .free) = omega arith in
-      passed-none (from m H hg (g + s) r) g (g + s + r .free) (marked-with-sweep m _ _ g ∙ u)
-      ∙ ap (λ (i : ℕ). edged i (withSweep m (take (4 * i) H ++ r .rest) (r .next))) q
+      passed-none (done (g + s) r c) g (marked-with-sweep m _ _ g ∙ u)
+      ∙ ap (λ (i : ℕ). edged i c (withSweep m (take (4 * i) H ++ r .rest) (r .next))) q
 
   -- a piece that is kept
-  module _ (g s x : ℕ) (ws rest : List ℕ) (r : Swept) (ew : drop (4 * g) H ≡ (s ∷ ws) ++ rest) (lw : suc (length ws) ≡ 4 * s) (hl : 4 * (g + s + r .free) ≤ length H) where
+  module _ (g s x : ℕ) (ws rest : List ℕ) (r : Swept) (c : ℕ) (ew : drop (4 * g) H ≡ (s ∷ ws) ++ rest) (lw : suc (length ws) ≡ 4 * s) (hl : 4 * (g + s + r .free) ≤ length H) where
     front : take (4 * (g + s)) H ≡ take (4 * g) H ++ (s ∷ ws)
     front =
         let q : 4 * (g + s) ≡ 4 * g + 4 * s = omega arith in
         ap (λ (i : ℕ). take i H) q ∙ take-add (4 * g) (4 * s) H ∙ ap (λ (l : List ℕ). take (4 * g) H ++ l) (ap (take (4 * s)) ew ∙ take-at (s ∷ ws) rest (4 * s) lw)
 
-    size-here : nth (from m H hg (g + s) r .heap) (4 * g) ≡ s
+    size-here : size (from m H hg (g + s) r) g ≡ s
     size-here =
         let k : length (take (4 * (g + s + r .free)) H) ≡ 4 * (g + s + r .free) = length-take-le _ H hl in
-        ap (λ (l : List ℕ). nth l (4 * g)) (heap-with-sweep m _ _) ∙ nth-left (take (4 * (g + s + r .free)) H) (r .rest) (4 * g) (omega arith) ∙ nth-take (4 * (g + s + r .free)) H (4 * g) (omega arith) ∙ size-first H g s ws rest ew
+        size-with-sweep m _ _ g ∙ nth-left (take (4 * (g + s + r .free)) H) (r .rest) (4 * g) (omega arith) ∙ nth-take (4 * (g + s + r .free)) H (4 * g) (omega arith) ∙ size-first H g s ws rest ew
 
-    stays : marked m g ≡ true → passed (from m H hg (g + s) r) g (g + s + r .free) ≡ done g (record { free = 0; rest = (s ∷ ws) ++ sweptWords r; next = firstOf (g + s) r; freed = x })
+    stays : marked m g ≡ true → passed (done (g + s) r c) g ≡ done g (record { free = 0; rest = (s ∷ ws) ++ sweptWords r; next = firstOf (g + s) r; freed = x }) (c + r .free)
     stays u =
-        passed-keep (from m H hg (g + s) r) g (g + s + r .free) (marked-with-sweep m _ _ g ∙ u)
-        ∙ ap (λ (n : ℕ). edged g (gap (from m H hg (g + s) r) (g + n) (g + s + r .free))) size-here
-        ∙ ap (edged g) (gap-done m H hg (g + s) r hl ∙ ap (λ (l : List ℕ). withSweep m l (firstOf (g + s) r)) (ap (λ (l : List ℕ). l ++ sweptWords r) front ∙ append-assoc (take (4 * g) H) (s ∷ ws) (sweptWords r)))
-        ∙ ap (λ (i : ℕ). edged i (withSweep m (take (4 * i) H ++ ((s ∷ ws) ++ sweptWords r)) (firstOf (g + s) r))) (sym (add-zero g))
+        let q : g + s + r .free - (g + s) ≡ r .free = omega arith in
+        passed-keep (done (g + s) r c) g (marked-with-sweep m _ _ g ∙ u)
+        ∙ kept-closed g (done (g + s) r c) (omega (arith, size-here))
+        ∙ ap (λ (n : ℕ). closedAt g (g + n) (done (g + s) r c)) size-here
+        ∙ closed-at g (g + s) (done (g + s) r c)
+        ∙ ap (λ (n : ℕ). edged g (c + n) (gap (from m H hg (g + s) r) (g + s) (g + s + r .free))) q
+        ∙ ap (edged g (c + r .free)) (gap-done m H hg (g + s) r hl ∙ ap (λ (l : List ℕ). withSweep m l (firstOf (g + s) r)) (ap (λ (l : List ℕ). l ++ sweptWords r) front ∙ append-assoc (take (4 * g) H) (s ∷ ws) (sweptWords r)))
+        ∙ ap (λ (i : ℕ). edged i (c + r .free) (withSweep m (take (4 * i) H ++ ((s ∷ ws) ++ sweptWords r)) (firstOf (g + s) r))) (sym (add-zero g))
 
-  unfoldable pub Good : ℕ → Swept → Type 0
-  Good g r = (sweptFrom G m₀ (G - g) ≡ done g r) × (4 * (g + r .free) ≤ length H)
+  -- the state; and the granules of its runs, which are those freed and those of the chain from `next` on
+  pub record Good (g next : ℕ) (r : Swept) : Type 0 where
+    pub runs : ℕ
+    pub state : sweptFrom G s₀ (G - g) ≡ done g r runs
+    pub inside : 4 * (g + r .free) ≤ length H
+    pub count : (n : ℕ) → G ≤ g + n → runs + r .free ≡ r .freed + freeFrom old n next
 
-  good-end : (g : ℕ) → 4 * g + 0 ≡ 4 * G → Good g (record { free = 0; rest = []; next = 0; freed = 0 })
-  unfolding Good sweptFrom
+  good-end : (g : ℕ) → 4 * g + 0 ≡ 4 * G → Good g 0 (record { free = 0; rest = []; next = 0; freed = 0 })
+  unfolding sweptFrom
   good-end g e =
       let q : G - g ≡ 0 = omega arith in
       let w : G ≡ g + 0 = omega arith in
-      (rw q (ap (λ (i : ℕ). edged i m₀) w ∙ ap (λ (l : List ℕ). edged (g + 0) (withSweep m l 0)) (sym (append-nil _ ∙ take-all (4 * (g + 0)) H (omega (arith, lH))))), omega (arith, lH))
+      record {
+        runs = 0;
+        state = rw q (ap (λ (i : ℕ). edged i 0 (withSweep m H 0)) w ∙ ap (λ (l : List ℕ). edged (g + 0) 0 (withSweep m l 0)) (sym (append-nil _ ∙ take-all (4 * (g + 0)) H (omega (arith, lH)))));
+        inside = omega (arith, lH);
+        count = λ n l. omega (arith, chain-end old n);
+      }
 
-  good-object : (g s : ℕ) (ws rest : List ℕ) (r : Swept) → Bare (isStart m) g s → drop (4 * g) H ≡ (s ∷ ws) ++ rest → suc (length ws) ≡ 4 * s → g + s ≤ G
-      → Good (g + s) r → (b : Bool) → marked m g ≡ b → Good g (swept (isStart m) g s (s ∷ ws) b r)
-  unfolding Good swept
-  good-object g s ws rest r ba ew lw hG (d, hl) true u = (at-first g s r (omega arith) hG d ba ∙ stays g s (r .freed) ws rest r ew lw hl u, omega (arith, lH))
-  good-object g s ws rest r ba ew lw hG (d, hl) false u = (at-first g s r (omega arith) hG d ba ∙ gone g s (cond (isStart m g) s 0 + r .freed) r u, omega arith)
+  -- what a piece adds to the runs, and to what is freed and was free
+  abbrev Counts : ℕ → ℕ → ℕ → ℕ → List ℕ → Swept → Bool → Type 0
+  Counts g s next next' ws r b = (n : ℕ) → G ≤ g + n → (c : ℕ) → ((i : ℕ) → G ≤ g + s + i → c ≡ r .freed + freeFrom old i next') → cond b 0 s + c ≡ swept (isStart m) g s ws b r .freed + freeFrom old n next
 
-  pub fold : {g next : ℕ} {b : Bool} {ws : List ℕ} (n : ℕ) → Filled (isStart m) g ws next b → length ws < 4 * n → 4 * g + length ws ≡ 4 * G → drop (4 * g) H ≡ ws → Good g (sweep (isStart m) (marked m) n g ws)
+  good-piece : (g s next next' : ℕ) (ws rest : List ℕ) (r : Swept) → Bare (isStart m) g s → drop (4 * g) H ≡ (s ∷ ws) ++ rest → suc (length ws) ≡ 4 * s → g + s ≤ G
+      → Good (g + s) next' r → (b : Bool) → marked m g ≡ b → Counts g s next next' (s ∷ ws) r b → Good g next (swept (isStart m) g s (s ∷ ws) b r)
+  unfolding swept
+  good-piece g s next next' ws rest r ba ew lw hG d true u cc =
+      record {
+        runs = d .runs + r .free;
+        state = at-first g s r (d .runs) (omega arith) hG (d .state) ba ∙ stays g s (r .freed) ws rest r (d .runs) ew lw (d .inside) u;
+        inside = omega (arith, lH);
+        count = λ n l. omega (arith, cc n l (d .runs + r .free) (λ i q. d .count i q));
+      }
+  good-piece g s next next' ws rest r ba ew lw hG d false u cc =
+      record {
+        runs = d .runs;
+        state = at-first g s r (d .runs) (omega arith) hG (d .state) ba ∙ gone g s (cond (isStart m g) s 0 + r .freed) r (d .runs) u;
+        inside = omega (arith, d .inside);
+        count = λ n l. omega (arith, cc n l (d .runs + r .free) (λ i q. d .count i q));
+      }
+
+  object-counts : (g s next : ℕ) (ws : List ℕ) (r : Swept) (b : Bool) → isStart m g ≡ true → Counts g s next next ws r b
+  unfolding swept
+  object-counts g s next ws r true t n l c f = omega (arith, f n (omega arith))
+  object-counts g s next ws r false t n l c f = rw t (omega (arith, f n (omega arith)))
+
+  run-counts : (g j next : ℕ) (rest ws : List ℕ) (r : Swept) → isStart m g ≡ false → 1 ≤ g → g + suc j ≤ G → drop (4 * g) H ≡ runWords j next ++ rest → Counts g (suc j) g next ws r false
+  unfolding swept freeFrom
+  run-counts zero j next rest ws r t h hG ew n l c f = absurd (omega arith)
+  run-counts (suc g) j next rest ws r t h hG ew zero l c f = absurd (omega arith)
+  run-counts (suc g) j next rest ws r t h hG ew (suc n) l c f = rw (t, second) (omega (arith, first, f n (omega arith)))
+    where
+      first : word old (suc g) 0 ≡ suc j
+      first = let z : 4 * suc g + 0 ≡ 4 * suc g = omega arith in rd (suc g) 0 ∙ ap (nth H) z ∙ size-first H (suc g) (suc j) (runTail j next) rest ew
+
+      second : word old (suc g) 1 ≡ next
+      second = rd (suc g) 1 ∙ sym (nth-drop (4 * suc g) H 1) ∙ ap (λ (l : List ℕ). nth l 1) ew ∙ run-next j next rest
+
+  sweep-end : (n g : ℕ) → sweep (isStart m) (marked m) (suc n) g [] ≡ record { free = 0; rest = []; next = 0; freed = 0 }
   unfolding sweep
-  fold zero f l e ew = absurd (omega arith)
-  fold {g} (suc n) f-end l e ew = good-end g e
-  fold {g} (suc n) (f-object s ws rest t o ba f) l e ew =
-      rw (sweep-piece (isStart m) (marked m) kept n g s ws rest (o .long))
-      (good-object g s ws rest (sweep (isStart m) (marked m) n (g + s) rest) ba ew (o .long) (omega (arith, length-append ws rest, o .long))
-      (fold n f (omega (arith, length-append ws rest, o .long)) (omega (arith, length-append ws rest, o .long)) (words-behind H g s ws rest ew (o .long))) (marked m g) refl)
-  fold {g} (suc n) (f-run j next rest t ba f) l e ew =
-      rw (sweep-piece (isStart m) (marked m) kept n g (suc j) (runTail j next) rest (length-run j next))
-      (good-object g (suc j) (runTail j next) rest (sweep (isStart m) (marked m) n (g + suc j) rest) ba ew (length-run j next) (omega (arith, length-append (runTail j next) rest, length-run j next))
-      (fold n f (omega (arith, length-append (runTail j next) rest, length-run j next)) (omega (arith, length-append (runTail j next) rest, length-run j next)) (words-behind H g (suc j) (runTail j next) rest ew (length-run j next))) (marked m g) refl)
+  sweep-end n g = refl
+
+  pub fold : {g next : ℕ} {b : Bool} {ws : List ℕ} (n : ℕ) → Filled (isStart m) g ws next b → 1 ≤ g → length ws < 4 * n → 4 * g + length ws ≡ 4 * G → drop (4 * g) H ≡ ws → Good g next (sweep (isStart m) (marked m) n g ws)
+  fold zero f h l e ew = absurd (omega arith)
+  fold {g} (suc n) f-end h l e ew = subst (Good g 0) (sym (sweep-end n g)) (good-end g e)
+  fold {g} {next} (suc n) (f-object s ws rest t o ba f) h l e ew =
+      let la : length (ws ++ rest) ≡ length ws + length rest = length-append ws rest in
+      let lo : suc (length ws) ≡ 4 * s = o .long in
+      subst (Good g next) (sym (sweep-piece (isStart m) (marked m) kept n g s ws rest (o .long)))
+      (good-piece g s next next ws rest (sweep (isStart m) (marked m) n (g + s) rest) ba ew (o .long) (omega arith)
+      (fold n f (omega arith) (omega arith) (omega arith) (words-behind H g s ws rest ew (o .long))) (marked m g) refl
+      (object-counts g s next (s ∷ ws) (sweep (isStart m) (marked m) n (g + s) rest) (marked m g) t))
+  fold {g} (suc n) (f-run j next rest t ba f) h l e ew =
+      let la : length (runTail j next ++ rest) ≡ length (runTail j next) + length rest = length-append (runTail j next) rest in
+      let lr : suc (length (runTail j next)) ≡ 4 * suc j = length-run j next in
+      let u : marked m g ≡ false = not-kept (isStart m) (marked m) kept g t in
+      subst (Good g g) (sym (sweep-piece (isStart m) (marked m) kept n g (suc j) (runTail j next) rest (length-run j next) ∙ ap (λ (b : Bool). swept (isStart m) g (suc j) (runWords j next) b (sweep (isStart m) (marked m) n (g + suc j) rest)) u))
+      (good-piece g (suc j) g next (runTail j next) rest (sweep (isStart m) (marked m) n (g + suc j) rest) ba ew (length-run j next) (omega arith)
+      (fold n f (omega arith) (omega arith) (omega arith) (words-behind H g (suc j) (runTail j next) rest ew (length-run j next))) false u
+      (run-counts g j next rest (runWords j next) (sweep (isStart m) (marked m) n (g + suc j) rest) t h (omega arith) ew))
 
 -- ---- the whole sweep
 
@@ -107,13 +213,46 @@ first-with-sweep : (m : Image) (f : ℕ) → setFirstRun m f ≡ withSweep m (m 
 unfolding withSweep setFirstRun withHeap withGeneral
 first-with-sweep m f = refl
 
-module _ (k : ℕ) (m : Image) (hk : 1 ≤ k) (lH : length (m .heap) ≡ 4 * (64 * k)) (hg : 1 < length (m .general)) (kept : (g : ℕ) → marked m g ≡ true → isStart m g ≡ true) where
-  pub swept-all : {next : ℕ} {b : Bool} (n : ℕ) → Filled (isStart m) 1 (drop 4 (m .heap)) next b → length (drop 4 (m .heap)) < 4 * n → 4 + length (drop 4 (m .heap)) ≡ 4 * (64 * k)
-      → let r = sweep (isStart m) (marked m) n 1 (drop 4 (m .heap)) in sweptAll k m ≡ withSweep m (take 4 (m .heap) ++ sweptWords r) (firstOf 1 r)
-  unfolding sweptAll Good
-  swept-all n f l e =
-      let r = sweep (isStart m) (marked m) n 1 (drop 4 (m .heap)) in
-      let q = fold (64 * k) m (m .heap) lH hg kept n f l (omega arith) refl in
-      ap (λ (i : Image). gap (sweptFrom (64 * k) i (64 * k - 1) .image) 1 (sweptFrom (64 * k) i (64 * k - 1) .edge)) (first-with-sweep m 0)
-      ∙ ap (λ (p : Edge). gap (p .image) 1 (p .edge)) (q .0)
-      ∙ gap-done m (m .heap) hg 1 r (q .1)
+-- what the sweep leaves, where r is the model's
+pub record SweptRuns (k : ℕ) (m old : Image) (next : ℕ) (r : Swept) : Type 0 where
+  pub runs : ℕ
+  pub image : sweptAll k m ≡ edged 0 runs (withSweep m (take 4 (m .heap) ++ sweptWords r) (firstOf 1 r))
+  pub count : runs ≡ r .freed + freeFrom old (64 * k) next
+
+module _ (k : ℕ) (m old : Image) (hk : 1 ≤ k) (lH : length (m .heap) ≡ 4 * (64 * k)) (hg : 1 < length (m .general)) (eh : m .heap ≡ old .heap) (kept : (g : ℕ) → marked m g ≡ true → isStart m g ≡ true) where
+  pub swept-all : {next : ℕ} {b : Bool} (n : ℕ) → Filled (isStart m) 1 (drop 4 (m .heap)) next b → isStart m 0 ≡ false → length (drop 4 (m .heap)) < 4 * n → 4 + length (drop 4 (m .heap)) ≡ 4 * (64 * k)
+      → SweptRuns k m old next (sweep (isStart m) (marked m) n 1 (drop 4 (m .heap)))
+  unfolding sweptAll
+  swept-all {next} n f none l e = record { runs = q .runs + r .free; image = image-is; count = q .count (64 * k) (omega arith) }
+    where
+      r : Swept
+      r = sweep (isStart m) (marked m) n 1 (drop 4 (m .heap))
+
+      rd : (g i : ℕ) → word old g i ≡ nth (m .heap) (4 * g + i)
+      rd g i = unfold word in ap (λ (l : List ℕ). nth l (4 * g + i)) (sym eh)
+
+      q : Good (64 * k) m old (m .heap) lH hg rd kept 1 next r
+      q = fold (64 * k) m old (m .heap) lH hg rd kept n f (omega arith) l (omega arith) refl
+
+      t : Edged
+      t = edged (64 * k) 0 (withSweep m (m .heap) 0)
+
+      -- granule 0 is not marked
+      last : sweptFrom (64 * k) t (64 * k) ≡ edged (1 + r .free) (q .runs) (from m (m .heap) hg 1 r)
+      last =
+          let u : 64 * k ≡ suc (64 * k - 1) = omega arith in
+          let z : 64 * k - suc (64 * k - 1) ≡ 0 = omega arith in
+          ap (sweptFrom (64 * k) t) u
+          ∙ from-suc (64 * k) t (64 * k - 1)
+          ∙ ap (λ (p : Edged). passed p (64 * k - suc (64 * k - 1))) (q .state)
+          ∙ ap (passed (edged (1 + r .free) (q .runs) (from m (m .heap) hg 1 r))) z
+          ∙ passed-none (edged (1 + r .free) (q .runs) (from m (m .heap) hg 1 r)) 0 (marked-with-sweep m _ _ 0 ∙ not-kept (isStart m) (marked m) kept 0 none)
+
+      image-is : closedAt 0 1 (sweptFrom (64 * k) (edged (64 * k) 0 (setFirstRun m 0)) (64 * k)) ≡ edged 0 (q .runs + r .free) (withSweep m (take 4 (m .heap) ++ sweptWords r) (firstOf 1 r))
+      image-is =
+          let u : 1 + r .free - 1 ≡ r .free = omega arith in
+          ap (λ (i : Image). closedAt 0 1 (sweptFrom (64 * k) (edged (64 * k) 0 i) (64 * k))) (first-with-sweep m 0)
+          ∙ ap (closedAt 0 1) last
+          ∙ closed-at 0 1 (edged (1 + r .free) (q .runs) (from m (m .heap) hg 1 r))
+          ∙ ap (λ (x : ℕ). edged 0 (q .runs + x) (gap (from m (m .heap) hg 1 r) 1 (1 + r .free))) u
+          ∙ ap (edged 0 (q .runs + r .free)) (gap-done m (m .heap) hg 1 r (q .inside))

@@ -1,48 +1,81 @@
--- What lies between kept objects becomes a run, in words; and one granule passed.
-use mathlib.Core.Path.{_≡_, refl, sym, ap, subst, _∙_}
-use mathlib.Core.Bool.{true, false}
-use mathlib.Core.List.{List, [], _∷_, _++_}
+-- What lies between kept objects becomes a run, in words.
+use mathlib.Core.Path.{_≡_, refl, sym, ap, _∙_}
+use mathlib.Core.List.{List, [], _∷_, _++_, append-assoc}
 use Prim.Native.Nat.{ℕ, zero, suc, _+_, _*_, _-_, _<_, _≤_}
 use native.Mathlib.Omega.{arith}
-use native.Mathlib.Numerals.{add-one}
-use lib.ListN.{length, set, take, drop, replicate}
-use lib.Seq.{drop-drop, take-append-le, take-take, drop-at, length-take-le, set-set}
+use lib.ListN.{length, set, take, drop, replicate, length-append, length-drop}
+use lib.Seq.{take-add, take-at, drop-at, drop-append-le, length-take-le, set-set}
 use borrow.Author.Tests.{lt-ltb, le-ltb}
-use Rattle.model.specs.Base.{nth, put}
-use Rattle.model.specs.Image.{Image, marked, firstRun, withHeap, withGeneral, setFirstRun}
+use Rattle.model.specs.Base.{put}
+use Rattle.model.specs.Image.{Image, firstRun, withHeap, withGeneral, setFirstRun, setWord}
 use Rattle.model.specs.Finish.{runTail, Swept, sweptWords, firstOf}
 use Rattle.model.proofs.Laws.{nth-put-same}
-use Rattle.model.proofs.Entries.{nth-drop}
 use Rattle.theory.specs.Heap.{runWords}
-use Rattle.theory.proofs.heap.Lists.{nth-head}
-use Rattle.finish_laws.specs.Gaps.{edged, runFrom, gap, passed, sweptFrom}
+use Rattle.finish_laws.specs.Gaps.{headAt, runFrom, gap}
 use Rattle.image_laws.specs.Clearing.{zeroed}
 
--- ---- the words of a run
+-- ---- the words of a run: its first granule, and the rest cleared
 
-set-two : (p : List ℕ) (x y v w : ℕ) (ys : List ℕ) → set (set (p ++ (x ∷ y ∷ ys)) (length p) v) (suc (length p)) w ≡ p ++ (v ∷ w ∷ ys)
-set-two [] x y v w ys = refl
-set-two (a ∷ p) x y v w ys = ap (λ (l : List ℕ). a ∷ l) (set-two p x y v w ys)
+set-four : (p l : List ℕ) (x y : ℕ) → 4 ≤ length l → set (set (set (set (p ++ l) (length p) x) (suc (length p)) y) (suc (suc (length p))) 0) (suc (suc (suc (length p)))) 0 ≡ p ++ (x ∷ y ∷ 0 ∷ 0 ∷ drop 4 l)
+set-four [] [] x y h = absurd (omega arith)
+set-four [] (a ∷ []) x y h = absurd (omega arith)
+set-four [] (a ∷ b ∷ []) x y h = absurd (omega arith)
+set-four [] (a ∷ b ∷ c ∷ []) x y h = absurd (omega arith)
+set-four [] (a ∷ b ∷ c ∷ d ∷ l) x y h = refl
+set-four (a ∷ p) l x y h = ap (λ (l : List ℕ). a ∷ l) (set-four p l x y h)
+
+-- the words of the granule from word i on
+unfoldable headPut : ℕ → ℕ → ℕ → List ℕ → List ℕ
+headPut i x y l = put (put (put (put l (i + 0) x) (i + 1) y) (i + 2) 0) (i + 3) 0
+
+head-words : (p l : List ℕ) (i x y : ℕ) → length p ≡ i → 4 ≤ length l → headPut i x y (p ++ l) ≡ p ++ (x ∷ y ∷ 0 ∷ 0 ∷ drop 4 l)
+unfolding headPut put
+head-words p l i x y e h =
+    let z : i + 0 ≡ length p = omega arith in
+    let a : i + 1 ≡ suc (length p) = omega arith in
+    let b : i + 2 ≡ suc (suc (length p)) = omega arith in
+    let c : i + 3 ≡ suc (suc (suc (length p))) = omega arith in
+    rw (z, a, b, c) (set-four p l x y h)
+
+cleared : (p l r : List ℕ) (a e : ℕ) → length p ≡ a → a + length l ≡ e → zeroed a e (p ++ (l ++ r)) ≡ p ++ (replicate (length l) 0 ++ r)
+unfolding zeroed
+cleared p l r a e ep el =
+    let q : e - a ≡ length l = omega arith in
+    let d : drop e (p ++ (l ++ r)) ≡ r = ap (drop e) (sym (append-assoc p l r)) ∙ drop-at (p ++ l) r e (length-append p l ∙ omega arith) in
+    rw (take-at p (l ++ r) a ep, q, d)
 
 module _ (H R : List ℕ) (a n : ℕ) (hl : 4 * (a + suc n) ≤ length H) where
-  cleared : zeroed (4 * a) (4 * (a + suc n)) (take (4 * (a + suc n)) H ++ R) ≡ take (4 * a) H ++ (replicate (4 * suc n) 0 ++ R)
-  unfolding zeroed
-  cleared =
-      let l : length (take (4 * (a + suc n)) H) ≡ 4 * (a + suc n) = length-take-le _ H hl in
-      let q : 4 * (a + suc n) - 4 * a ≡ 4 * suc n = omega arith in
-      rw (take-append-le (4 * a) (take (4 * (a + suc n)) H) R (omega arith), take-take (4 * a) (4 * (a + suc n)) H (omega arith), q, drop-at (take (4 * (a + suc n)) H) R (4 * (a + suc n)) l)
-
-  two-words : (next : ℕ) → put (put (take (4 * a) H ++ (replicate (4 * suc n) 0 ++ R)) (4 * a) (suc n)) (4 * a + 1) next ≡ take (4 * a) H ++ (runWords n next ++ R)
-  unfolding runTail put
-  two-words next =
-      let l : length (take (4 * a) H) ≡ 4 * a = length-take-le _ H (omega arith) in
-      let q : replicate {A = ℕ} (4 * suc n) 0 ≡ 0 ∷ 0 ∷ replicate (4 * suc n - 2) 0 = twice (4 * suc n) (omega arith) in
-      rw (q, add-one)
-      (subst (λ (i : ℕ). set (set (take (4 * a) H ++ (0 ∷ 0 ∷ (replicate (4 * suc n - 2) 0 ++ R))) i (suc n)) (suc i) next ≡ take (4 * a) H ++ (suc n ∷ next ∷ (replicate (4 * suc n - 2) 0 ++ R))) l
-      (set-two (take (4 * a) H) 0 0 (suc n) next (replicate (4 * suc n - 2) 0 ++ R)))
+  run-words : (next : ℕ) → zeroed (4 * a + 4) (4 * (a + suc n)) (headPut (4 * a) (suc n) next (take (4 * (a + suc n)) H ++ R)) ≡ take (4 * a) H ++ (runWords n next ++ R)
+  unfolding runTail
+  run-words next =
+      ap (λ (l : List ℕ). zeroed (4 * a + 4) (4 * (a + suc n)) (headPut (4 * a) (suc n) next l)) parted
+      ∙ ap (zeroed (4 * a + 4) (4 * (a + suc n))) (head-words p (l ++ R) (4 * a) (suc n) next lp (omega (arith, length-append l R, ll)) ∙ ap (λ (t : List ℕ). p ++ (suc n ∷ next ∷ 0 ∷ 0 ∷ t)) (drop-append-le 4 l R (omega (arith, ll))) ∙ sym (append-assoc p h (drop 4 l ++ R)))
+      ∙ cleared (p ++ h) (drop 4 l) R (4 * a + 4) (4 * (a + suc n)) (length-append p h ∙ omega (arith, lp)) (omega (arith, length-drop 4 l, ll))
+      ∙ append-assoc p h (replicate (length (drop 4 l)) 0 ++ R)
+      ∙ ap (λ (t : List ℕ). p ++ (suc n ∷ next ∷ (t ++ R))) zeros
     where
-      twice : (j : ℕ) → 2 ≤ j → replicate {A = ℕ} j 0 ≡ 0 ∷ 0 ∷ replicate (j - 2) 0
-      twice j h = let e : j ≡ suc (suc (j - 2)) = omega arith in ap (λ (i : ℕ). replicate {A = ℕ} i 0) e
+      p : List ℕ
+      p = take (4 * a) H
+
+      l : List ℕ
+      l = take (4 * suc n) (drop (4 * a) H)
+
+      h : List ℕ
+      h = suc n ∷ next ∷ 0 ∷ 0 ∷ []
+
+      lp : length (take (4 * a) H) ≡ 4 * a
+      lp = length-take-le _ H (omega arith)
+
+      ll : length (take (4 * suc n) (drop (4 * a) H)) ≡ 4 * suc n
+      ll = length-take-le _ (drop (4 * a) H) (omega (arith, length-drop (4 * a) H))
+
+      parted : take (4 * (a + suc n)) H ++ R ≡ p ++ (l ++ R)
+      parted =
+          let q : 4 * (a + suc n) ≡ 4 * a + 4 * suc n = omega arith in
+          ap (λ (i : ℕ). take i H ++ R) q ∙ ap (λ (t : List ℕ). t ++ R) (take-add (4 * a) (4 * suc n) H) ∙ append-assoc p l R
+
+      zeros : 0 ∷ 0 ∷ replicate {A = ℕ} (length (drop 4 l)) 0 ≡ replicate {A = ℕ} (4 * suc n - 2) 0
+      zeros = let e : suc (suc (length (drop 4 l))) ≡ 4 * suc n - 2 = omega (arith, length-drop 4 l, ll) in ap (λ (i : ℕ). replicate {A = ℕ} i 0) e
 
 -- ---- a gap in an image, of which only the heap and the first run change
 
@@ -50,8 +83,8 @@ module _ (H R : List ℕ) (a n : ℕ) (hl : 4 * (a + suc n) ≤ length H) where
 unfoldable pub withSweep : Image → List ℕ → ℕ → Image
 withSweep m hs f = setFirstRun (withHeap m hs) f
 
-run-with-sweep : (m : Image) (hs : List ℕ) (f a e : ℕ) → 1 < length (m .general) → runFrom (withSweep m hs f) a e ≡ withSweep m (put (put (zeroed (4 * a) (4 * e) hs) (4 * a) (e - a)) (4 * a + 1) f) a
-unfolding runFrom withSweep setFirstRun withHeap withGeneral firstRun
+run-with-sweep : (m : Image) (hs : List ℕ) (f a e : ℕ) → 1 < length (m .general) → runFrom (withSweep m hs f) a e ≡ withSweep m (zeroed (4 * a + 4) (4 * e) (headPut (4 * a) (e - a) f hs)) a
+unfolding runFrom headAt headPut setWord withSweep setFirstRun withHeap withGeneral firstRun
 run-with-sweep m hs f a e h = rw (nth-put-same (m .general) 1 f h, put-put)
   where
     put-put : put (put (m .general) 1 f) 1 a ≡ put (m .general) 1 a
@@ -98,38 +131,4 @@ module _ (m : Image) (H : List ℕ) (hg : 1 < length (m .general)) where
           let q : a + suc n - a ≡ suc n = omega arith in
           gap-suc (from a r) a (a + r .free) (omega arith)
           ∙ run-with-sweep m (take (4 * (a + r .free)) H ++ r .rest) (r .next) a (a + r .free) hg
-          ∙ rw (swept-suc r n e, first-suc a r n e, e, q, cleared H (r .rest) a n k, two-words H (r .rest) a n k (r .next))
-
--- ---- one granule, by what its mark says
-
-pub passed-none : (m : Image) (h e : ℕ) → marked m h ≡ false → passed m h e ≡ edged e m
-unfolding passed
-passed-none m h e u = rw u
-
-pub passed-keep : (m : Image) (h e : ℕ) → marked m h ≡ true → passed m h e ≡ edged h (gap m (h + nth (m .heap) (4 * h)) e)
-unfolding passed
-passed-keep m h e u = rw u
-
-pub swept-suc-granule : (G : ℕ) (m : Image) (i : ℕ) → sweptFrom G m (suc i) ≡ passed (sweptFrom G m i .image) (G - suc i) (sweptFrom G m i .edge)
-unfolding sweptFrom
-swept-suc-granule G m i = refl
-
-pub marked-with-sweep : (m : Image) (hs : List ℕ) (f h : ℕ) → marked (withSweep m hs f) h ≡ marked m h
-unfolding withSweep setFirstRun withHeap withGeneral marked
-marked-with-sweep m hs f h = refl
-
-pub heap-with-sweep : (m : Image) (hs : List ℕ) (f : ℕ) → withSweep m hs f .heap ≡ hs
-unfolding withSweep setFirstRun withHeap withGeneral
-heap-with-sweep m hs f = refl
-
--- the words behind a piece
-pub words-behind : (H : List ℕ) (g s : ℕ) (ws rest : List ℕ) → drop (4 * g) H ≡ (s ∷ ws) ++ rest → suc (length ws) ≡ 4 * s → drop (4 * (g + s)) H ≡ rest
-words-behind H g s ws rest ew lw =
-    let q : 4 * (g + s) ≡ 4 * g + 4 * s = omega arith in
-    ap (λ (i : ℕ). drop i H) q ∙ sym (drop-drop (4 * s) (4 * g) H) ∙ ap (drop (4 * s)) ew ∙ drop-at (s ∷ ws) rest (4 * s) lw
-
--- the size of a piece is its first word
-pub size-first : (H : List ℕ) (g s : ℕ) (ws rest : List ℕ) → drop (4 * g) H ≡ (s ∷ ws) ++ rest → nth H (4 * g) ≡ s
-size-first H g s ws rest ew =
-    let z : 4 * g ≡ 4 * g + 0 = omega arith in
-    ap (nth H) z ∙ sym (nth-drop (4 * g) H 0) ∙ ap (λ (l : List ℕ). nth l 0) ew ∙ nth-head s (ws ++ rest)
+          ∙ rw (swept-suc r n e, first-suc a r n e, e, q, run-words H (r .rest) a n k (r .next))

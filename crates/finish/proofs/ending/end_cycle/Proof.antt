@@ -4,7 +4,7 @@ use Rattle.finish.proofs.ending.end_cycle.Statement.{statement}
 use Rattle.finish.proofs.ending.end_cycle.Tie as tie
 
 returns : tie.Need-returns
-returns c = let G = c .before .before in let U = G .before .before .before .before in let T = U .before .before .before .before in let K = T .before .before .before .before in let M = K .before .before .before .before in end-done _ _ _ _ _ _ (M .clear-marks .ensures) (K .clear-packets .ensures) (T .clear-tracers .ensures) (U .unscan .ensures) (G .set-general-word .ensures)
+returns c = let G = c .before .before in let U = G .before .before .before .before in let T = U .before .before .before .before in let K = T .before .before .before .before in end-done _ _ _ _ _ _ (search needs) (K .clear-packets .ensures) (T .clear-tracers .ensures) (U .unscan .ensures) (G .set-general-word .ensures)
 
 pub end-cycle-spec : {M : Type 1} → statement M
 end-cycle-spec =
