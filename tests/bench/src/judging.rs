@@ -64,20 +64,36 @@ pub fn judging(goals: &mut Goals) {
     }
 }
 
-/// As many cards are judged at each k, in turn: one small image judged again and again would be known to the processor's caches
-/// and branch predictor. The sizes of objects are drawn first, so that image n is of the same kind at each k.
+/// The kind of a random image: the sizes of its objects are drawn first, with these weights.
+fn kind(seed: u64) -> usize {
+    Random::new(seed).weighted(&[(3, 0), (3, 1), (2, 2), (1, 3)])
+}
+
+/// Eight seeds for each of the first `count`, of the same kind as that one, and none twice.
+fn seeds_alike(count: u64) -> Vec<u64> {
+    let mut next = count;
+    let mut alike = |seed| loop {
+        next += 1;
+        if kind(next) == kind(seed) {
+            return next;
+        }
+    };
+    (1..=count).flat_map(|seed| [seed; 8]).map(&mut alike).collect()
+}
+
+/// As many cards are judged at each k, in turn, and no image twice in a row: an image that is judged again and again would be known to
+/// the processor's caches and branch predictor, a small one more than a large one.
 pub fn growing(goals: &mut Goals) {
-    type Make = fn(usize) -> Vec<Vec<u16>>;
-    let kinds: [(&str, Make); 4] = [
-        ("no cycle", |k| vec![work::compact(k)]),
-        ("no cycle, random", |k| drawn(idle, k, 24)),
-        ("in a cycle", |k| vec![work::half_marked(k)]),
-        ("in a cycle, random", |k| drawn(running, k, 24)),
+    type Make = fn(usize, &[u64]) -> Vec<Vec<u16>>;
+    let kinds: [(&str, u64, Make); 4] = [
+        ("no cycle", 1, |k, seeds| seeds.iter().map(|_| work::compact(k)).collect()),
+        ("no cycle, random", 24, |k, seeds| seeds.iter().map(|&seed| idle(&mut Random::new(seed), k)).collect()),
+        ("in a cycle", 1, |k, seeds| seeds.iter().map(|_| work::half_marked(k)).collect()),
+        ("in a cycle, random", 24, |k, seeds| seeds.iter().map(|&seed| running(&mut Random::new(seed), k)).collect()),
     ];
-    for (what, make) in kinds {
-        let large = make(512);
-        let small = make(64);
-        let small: Vec<_> = (0..512 / 64).flat_map(|_| small.clone()).collect();
+    for (what, count, make) in kinds {
+        let large = make(512, &(1..=count).collect::<Vec<_>>());
+        let small = make(64, &seeds_alike(count));
         let [large, small] =
             in_turn(4, [&mut || judge_all(library::judge, &large), &mut || judge_all(library::judge, &small)]);
         let growth = large / small;
