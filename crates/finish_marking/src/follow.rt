@@ -63,22 +63,41 @@ pub fn settle(im: &mut [Word], k: usize, head: usize, g: usize) -> usize
     h
 }
 
-// The pending objects of bit word i are settled. None of them hangs on another: the links of the next are read while those of the
-// one before are still followed.
+// The objects x of bit word i, those that are pending, are settled, and then those of it that have become pending meanwhile, as in a
+// list whose objects lie side by side. None of x hangs on another: the links of the next are read while those of the one before are
+// still followed.
+pub fn settle_bits(im: &mut [Word], k: usize, head: usize, i: usize, x: Word) -> usize
+    requires { ⌜ Sized width k (now im) ⌝ }
+    requires { ⌜ i < 64 * k / width ⌝ }
+    requires { ⌜ Underway k (imageOf width k (now im)) (width * i) head ⌝ }
+    requires { ⌜ PendingWord width (imageOf width k (now im)) i x ⌝ }
+    ensures { λ r. ⌜ SettledTo k (imageOf width k (now (im .entry))) (width * i) head (width * i + width) (headed r (imageOf width k (now (im .exit)))) ⌝ }
+{
+    let mut h = head;
+    let mut left = x;
+    while left != 0 {
+        let j = u64::trailing_zeros(left as u64) as usize;
+        h = settle(im, k, h, BITS * i + j);
+        left = image::bits::without_bit(left, j as Word);
+        if left == 0 {
+            left = pending_word(im, k, i);
+        }
+    }
+    h
+}
+
+// The pending objects of bit word i are settled.
 pub fn settle_word(im: &mut [Word], k: usize, head: usize, i: usize) -> usize
     requires { ⌜ Sized width k (now im) ⌝ }
     requires { ⌜ i < 64 * k / width ⌝ }
     requires { ⌜ Underway k (imageOf width k (now im)) (width * i) head ⌝ }
     ensures { λ r. ⌜ SettledTo k (imageOf width k (now (im .entry))) (width * i) head (width * i + width) (headed r (imageOf width k (now (im .exit)))) ⌝ }
 {
-    let mut h = head;
-    let mut left = pending_word(im, k, i);
-    while left != 0 {
-        let j = u64::trailing_zeros(left as u64) as usize;
-        h = settle(im, k, h, BITS * i + j);
-        left = image::bits::without_bit(left, j as Word);
+    let x = pending_word(im, k, i);
+    if x == 0 {
+        return head;
     }
-    h
+    settle_bits(im, k, head, i, x)
 }
 
 // The pending objects of card c are settled, bit word by bit word.

@@ -23,7 +23,7 @@ use Rattle.image_laws.proofs.Masks.{withoutBit-same, withoutBit-less, withoutBi
 use Rattle.image_laws.proofs.Places.{by-width, place-word, place-bit, place-in, words-full, words-begin}
 use Rattle.image_laws.proofs.Trailing.{Lowest, word-lowest}
 use Rattle.finish_marking_laws.specs.Follow.{Pending, PendingWord, Headed, headed, settled, LinksIn}
-use Rattle.finish_marking_laws.specs.Marking.{Marking, Between, Underway, GoneOn, SettledTo}
+use Rattle.finish_marking_laws.specs.Marking.{Marking, workLeft, Between, Underway, GoneOn, SettledTo}
 use Rattle.finish_marking_laws.proofs.follow.Turns.{marking-as, later-fits, links-inside, ObjectSettled, object-settled}
 
 -- marks x without starts s, whose complement is y
@@ -73,22 +73,26 @@ word-none {w} {k} {im} l {i} {x} hx z b = record {
     at e g q n (no d) = behind (record { low = omega arith; high = n .high })
 
 module _ {w k : ℕ} {im₀ : List ℕ} {l i : ℕ} {im : List ℕ} {h x : ℕ} (t : WordSettled w k im₀ l i im h x) where
+  only-behind : x ≡ 0 → (e g : ℕ) → BitOrBehind w i x e g → Between (w * i + w) e g
+  only-behind z e g (behind n) = n
+  only-behind z e g (here j d b q) = false≢ (sym (off-digit _ (bit-none j)) ∙ (rw z at b))
+
   pub word-end : x ≡ 0 → SettledTo k (imageOf w k im₀) (w * i) l (w * i + w) (headed h (imageOf w k im))
-  word-end z = record { goes-on = λ m₀ a e u. let r = t .goes-on m₀ a e u in record { marking = marking-as (r .marking) (Between (w * i + w) e) (λ g q n. left e g n); less = r .less } }
-    where
-      left : (e g : ℕ) → BitOrBehind w i x e g → Between (w * i + w) e g
-      left e g (behind n) = n
-      left e g (here j d b q) = false≢ (sym (off-digit _ (bit-none j)) ∙ (rw z at b))
+  word-end z = record { goes-on = λ m₀ a e u. let r = t .goes-on m₀ a e u in record { marking = marking-as (r .marking) (Between (w * i + w) e) (λ g q n. only-behind z e g n); less = r .less } }
+
+  -- what has become pending in the word meanwhile
+  pub word-again : x ≡ 0 → {y : ℕ} → y < 2 ^ w → PendingWord w (imageOf w k im) i y → WordSettled w k im₀ l i im h y
+  word-again z {y} hy b = record {
+    small = hy;
+    sized = t .sized;
+    same = t .same;
+    pending = b .some;
+    goes-on = λ m₀ a e u. let r = t .goes-on m₀ a e u in record { marking = marking-as (r .marking) (BitOrBehind w i y e) (λ g q n. behind (only-behind z e g n)); less = r .less };
+  }
 
   module _ (n : x ≡ 0 → ⊥) where
-    few : (w ≡ 16) ⊎ (w ≡ 32) → w ≤ 64
-    few = by-width (λ w. w ≤ 64) (omega arith) (omega arith)
-
     pub word-bit : Lowest w x (trailingZeros 64 x)
-    word-bit = word-lowest w x (few (sized-width (t .sized))) (t .small) n
-
-    pub word-less : (x' : ℕ) → x' ≡ withoutBit x (trailingZeros 64 x) → x' < x
-    word-less x' ex = rw ex (withoutBit-less x _ (word-bit .is-set))
+    word-bit = word-lowest w x (by-width (λ w. w ≤ 64) (omega arith) (omega arith) (sized-width (t .sized))) (t .small) n
 
     module _ (hi : i < 64 * k / w) (u : Underway k (imageOf w k im₀) (w * i) l) where
       abbrev object : ℕ
@@ -106,33 +110,37 @@ module _ {w k : ℕ} {im₀ : List ℕ} {l i : ℕ} {im : List ℕ} {h x : ℕ} 
       pub word-object : ((object < 64 * k) × (h ≤ k + 1)) × LinksIn k (imageOf w k im) object
       word-object = ((inside, later-fits (so-far .marking)), links-inside (so-far .marking) object is-pending inside)
 
-      pub word-more : (h' : ℕ) (im' : List ℕ) → headed h' (imageOf w k im') ≡ settled (imageOf w k im) h object → length im' ≡ length im → (x' : ℕ) → x' ≡ withoutBit x (trailingZeros 64 x) → WordSettled w k im₀ l i im' h' x'
-      word-more h' im' e s x' ex = record {
-        small = omega (arith, t .small, word-less x' ex);
-        sized = sized-as (t .sized) s;
-        same = s ∙ t .same;
-        pending = λ j d b. still j d (rw ex at b) (ℕ-discrete j (trailingZeros 64 x));
-        goes-on = λ m₀ a c v. on m₀ a c (t .goes-on m₀ a c v);
-      }
-        where
-          settle : (m₀ : Image) (a c : ℕ) → GoneOn k m₀ (imageOf w k im₀) (BitOrBehind w i x c) a (headed h (imageOf w k im)) → ObjectSettled k m₀ (imageOf w k im) (BitOrBehind w i x c) a object (headed h' (imageOf w k im'))
-          settle m₀ a c r = subst (λ (p : Headed). ObjectSettled k m₀ (imageOf w k im) (BitOrBehind w i x c) a object p) (sym e) (object-settled (r .marking) object inside is-pending)
+      module _ (h' : ℕ) (im' : List ℕ) (e : headed h' (imageOf w k im') ≡ settled (imageOf w k im) h object) where
+        one-more : {m₀ : Image} {N : ℕ → Type 0} {a : ℕ} → Marking k m₀ (imageOf w k im) N a h → ObjectSettled k m₀ (imageOf w k im) N a object (headed h' (imageOf w k im'))
+        one-more {m₀} {N} {a} r = subst (λ (p : Headed). ObjectSettled k m₀ (imageOf w k im) N a object p) (sym e) (object-settled r object inside is-pending)
 
-          left : (c g : ℕ) → (g ≡ object → ⊥) → BitOrBehind w i x c g → BitOrBehind w i x' c g
-          left c g ne (behind b) = behind b
-          left c g ne (here j d b q) = here j d (rw (ex, withoutBit-other x j (trailingZeros 64 x) (λ z. ne (q ∙ rw z))) b) q
+        pub word-falls : workLeft k (imageOf w k im') < workLeft k (imageOf w k im)
+        word-falls = one-more (so-far .marking) .less
 
-          on : (m₀ : Image) (a c : ℕ) → GoneOn k m₀ (imageOf w k im₀) (BitOrBehind w i x c) a (headed h (imageOf w k im)) → GoneOn k m₀ (imageOf w k im₀) (BitOrBehind w i x' c) a (headed h' (imageOf w k im'))
-          on m₀ a c r =
-              let o : ObjectSettled k m₀ (imageOf w k im) (BitOrBehind w i x c) a object (headed h' (imageOf w k im')) = settle m₀ a c r in
-              record {
-                marking = marking-as (o .marking) (BitOrBehind w i x' c) (λ g q b. left c g (λ z. o .done (subst (Pending (imageOf w k im')) z q)) b);
-                less = omega (arith, o .less, r .less);
-              }
+        pub word-more : length im' ≡ length im → (x' : ℕ) → x' ≡ withoutBit x (trailingZeros 64 x) → WordSettled w k im₀ l i im' h' x'
+        word-more s x' ex = record {
+          small = let f : x' < x = rw ex (withoutBit-less x _ (word-bit .is-set)) in omega (arith, t .small);
+          sized = sized-as (t .sized) s;
+          same = s ∙ t .same;
+          pending = λ j d b. still j d (rw ex at b) (ℕ-discrete j (trailingZeros 64 x));
+          goes-on = λ m₀ a c v. on m₀ a c (t .goes-on m₀ a c v);
+        }
+          where
+            left : (c g : ℕ) → (g ≡ object → ⊥) → BitOrBehind w i x c g → BitOrBehind w i x' c g
+            left c g ne (behind b) = behind b
+            left c g ne (here j d b q) = here j d (rw (ex, withoutBit-other x j (trailingZeros 64 x) (λ z. ne (q ∙ rw z))) b) q
 
-          still : (j : ℕ) → j < w → testBit (withoutBit x (trailingZeros 64 x)) j ≡ true → Dec (j ≡ trailingZeros 64 x) → Pending (imageOf w k im') (w * i + j)
-          still j d b (yes q) = false≢ (sym (withoutBit-same x (trailingZeros 64 x)) ∙ (rw q at b))
-          still j d b (no q) = settle (u .from) (u .head) (u .end) so-far .others (w * i + j) (t .pending j d (sym (withoutBit-other x j (trailingZeros 64 x) q) ∙ b)) (λ z. q (omega arith))
+            on : (m₀ : Image) (a c : ℕ) → GoneOn k m₀ (imageOf w k im₀) (BitOrBehind w i x c) a (headed h (imageOf w k im)) → GoneOn k m₀ (imageOf w k im₀) (BitOrBehind w i x' c) a (headed h' (imageOf w k im'))
+            on m₀ a c r =
+                let o : ObjectSettled k m₀ (imageOf w k im) (BitOrBehind w i x c) a object (headed h' (imageOf w k im')) = one-more (r .marking) in
+                record {
+                  marking = marking-as (o .marking) (BitOrBehind w i x' c) (λ g q b. left c g (λ z. o .done (subst (Pending (imageOf w k im')) z q)) b);
+                  less = omega (arith, o .less, r .less);
+                }
+
+            still : (j : ℕ) → j < w → testBit (withoutBit x (trailingZeros 64 x)) j ≡ true → Dec (j ≡ trailingZeros 64 x) → Pending (imageOf w k im') (w * i + j)
+            still j d b (yes q) = false≢ (sym (withoutBit-same x (trailingZeros 64 x)) ∙ (rw q at b))
+            still j d b (no q) = one-more (so-far .marking) .others (w * i + j) (t .pending j d (sym (withoutBit-other x j (trailingZeros 64 x) q) ∙ b)) (λ z. q (omega arith))
 
 -- ---- the words of a card
 
