@@ -63,9 +63,9 @@ pub fn settle(im: &mut [Word], k: usize, head: usize, g: usize) -> usize
     h
 }
 
-// The objects x of bit word i, those that are pending, are settled, and then those of it that have become pending meanwhile, as in a
-// list whose objects lie side by side. None of x hangs on another: the links of the next are read while those of the one before are
-// still followed.
+// The pending objects of bit word i, the bits of x, are settled, then those that became pending in it meanwhile: so a list of
+// neighbours is followed without a turn for each. None of x hangs on another: the links of the next are read while those of the one
+// before are still followed.
 pub fn settle_bits(im: &mut [Word], k: usize, head: usize, i: usize, x: Word) -> usize
     requires { ⌜ Sized width k (now im) ⌝ }
     requires { ⌜ i < 64 * k / width ⌝ }
