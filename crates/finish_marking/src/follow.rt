@@ -1,11 +1,12 @@
 // Links followed from pending objects on. An object is pending while its mark bit is 1 and its start bit 0; a card that may have
-// one is listed, and its word is the rest of the list.
+// one is listed, and its word is the rest of its list: that of the cards that wait, or that of those listed later.
 ghost use mathlib.Core.Path.{_≡_};
-ghost use Prim.Native.Nat.{ℕ, _+_, _*_, _/_, _≤_, _<_};
+ghost use Prim.Native.Nat.{_+_, _*_, _/_, _≤_, _<_};
 ghost use Rattle.model.specs.Image.{imageOf};
 ghost use Rattle.image_laws.specs.Sized.{Sized};
 ghost use Rattle.image.specs.Layout.{width};
-ghost use Rattle.finish_marking_laws.specs.Follow.{headed, visited, settled, PendingWord, NextPending, Turn, LinksIn, TurnReady, World, Listed, Followed};
+ghost use Rattle.finish_marking_laws.specs.Follow.{headed, visited, settled, PendingWord, LinksIn, World, Listed, Nowhere, Followed};
+ghost use Rattle.finish_marking_laws.specs.Marking.{Underway, SettledTo};
 use image::layout::BITS;
 use image::layout::Word;
 
@@ -62,50 +63,75 @@ pub fn settle(im: &mut [Word], k: usize, head: usize, g: usize) -> usize
     h
 }
 
-// A pending granule of card c, or 64 * k.
-pub fn next_pending(im: &[Word], k: usize, c: usize) -> usize
+// The pending objects of bit word i, the bits of x, are settled, then those that became pending in it meanwhile: so a list of
+// neighbours is followed without a turn for each. None of x hangs on another: the links of the next are read while those of the one
+// before are still followed.
+pub fn settle_bits(im: &mut [Word], k: usize, head: usize, i: usize, x: Word) -> usize
+    requires { ⌜ Sized width k (now im) ⌝ }
+    requires { ⌜ i < 64 * k / width ⌝ }
+    requires { ⌜ Underway k (imageOf width k (now im)) (width * i) head ⌝ }
+    requires { ⌜ PendingWord width (imageOf width k (now im)) i x ⌝ }
+    ensures { λ r. ⌜ SettledTo k (imageOf width k (now (im .entry))) (width * i) head (width * i + width) (headed r (imageOf width k (now (im .exit)))) ⌝ }
+{
+    let mut h = head;
+    let mut left = x;
+    while left != 0 {
+        let j = u64::trailing_zeros(left as u64) as usize;
+        h = settle(im, k, h, BITS * i + j);
+        left = image::bits::without_bit(left, j as Word);
+        if left == 0 {
+            left = pending_word(im, k, i);
+        }
+    }
+    h
+}
+
+// The pending objects of bit word i are settled.
+pub fn settle_word(im: &mut [Word], k: usize, head: usize, i: usize) -> usize
+    requires { ⌜ Sized width k (now im) ⌝ }
+    requires { ⌜ i < 64 * k / width ⌝ }
+    requires { ⌜ Underway k (imageOf width k (now im)) (width * i) head ⌝ }
+    ensures { λ r. ⌜ SettledTo k (imageOf width k (now (im .entry))) (width * i) head (width * i + width) (headed r (imageOf width k (now (im .exit)))) ⌝ }
+{
+    let x = pending_word(im, k, i);
+    if x == 0 {
+        return head;
+    }
+    settle_bits(im, k, head, i, x)
+}
+
+// The pending objects of card c are settled, bit word by bit word.
+pub fn settle_card(im: &mut [Word], k: usize, head: usize, c: usize) -> usize
     requires { ⌜ Sized width k (now im) ⌝ }
     requires { ⌜ c < k ⌝ }
-    ensures { λ r. ⌜ NextPending k (imageOf width k (now (im .entry))) c r ⌝ }
+    requires { ⌜ Underway k (imageOf width k (now im)) (64 * c) head ⌝ }
+    ensures { λ r. ⌜ SettledTo k (imageOf width k (now (im .entry))) (64 * c) head (64 * c + 64) (headed r (imageOf width k (now (im .exit)))) ⌝ }
 {
-    let mut i = 64 / BITS * c;
-    let e = 64 / BITS * c + 64 / BITS;
-    while i < e {
-        let x = pending_word(im, k, i);
-        if x != 0 {
-            let j = u64::trailing_zeros(x as u64) as usize;
-            return BITS * i + j;
-        }
-        i += 1;
+    let mut h = head;
+    for i in 0..64 / BITS {
+        h = settle_word(im, k, h, 64 / BITS * c + i);
     }
-    64 * k
+    h
 }
 
-// One turn: a pending object of the card at the head is settled, or, if there is none, the card leaves the list.
-pub fn turn(im: &mut [Word], k: usize, head: usize) -> usize
-    requires { ⌜ Sized width k (now im) ⌝ }
-    requires { ⌜ TurnReady k (imageOf width k (now im)) head ⌝ }
-    ensures { λ r. ⌜ Turn k (imageOf width k (now (im .entry))) head (headed r (imageOf width k (now (im .exit)))) ⌝ }
-{
-    let c = head - 2;
-    let g = next_pending(im, k, c);
-    if g < 64 * k {
-        return settle(im, k, head, g);
-    }
-    let r = image::sections::card(im, k, c) as usize;
-    image::sections::set_card(im, k, c, 0);
-    r
-}
-
-// From the pending objects on, until the work list is empty.
+// From the pending objects on, until no card is listed. Cards wait in turn: those that are listed while a card is taken come after
+// all that were listed before, so that many of their objects are pending by then.
 pub fn mark_all(im: &mut [Word], k: usize, head: usize)
     requires { ⌜ Sized width k (now im) ⌝ }
     requires { ⌜ World k (imageOf width k (now im)) ⌝ }
-    requires { ⌜ Listed k (imageOf width k (now im)) head ⌝ }
+    requires { ⌜ Listed (imageOf width k (now im)) Nowhere head 1 ⌝ }
     ensures { λ _. ⌜ Followed k (imageOf width k (now (im .entry))) (imageOf width k (now (im .exit))) ⌝ }
 {
     let mut h = head;
+    let mut later = 1;
     while h != 1 {
-        h = turn(im, k, h);
+        let c = h - 2;
+        h = image::sections::card(im, k, c) as usize;
+        image::sections::set_card(im, k, c, 0);
+        later = settle_card(im, k, later, c);
+        if h == 1 {
+            h = later;
+            later = 1;
+        }
     }
 }

@@ -6,5 +6,5 @@ pub mod Measure
 pub mod Visits
 pub mod Visiting
 pub mod Turns
-pub mod Searching
+pub mod Settling
 pub mod Loops

@@ -1,5 +1,5 @@
 -- Links followed from pending objects on: the cards as a work list, what each step does to an image, and what all of them give.
-use Prim.Native.Nat.{ℕ, zero, suc, _+_, _*_, _-_, _/_, _≤_, _<_, min, max}
+use Prim.Native.Nat.{ℕ, zero, suc, _+_, _*_, _/_, _≤_, _<_, min, max}
 use mathlib.Core.Path.{_≡_}
 use mathlib.Core.Bool.{true, cond}
 use mathlib.Core.List.{List, [], _∷_}
@@ -48,35 +48,15 @@ visits m h g (suc n) = visited (visits m h g n .image) (visits m h g n .head) (l
 unfoldable pub settled : Image → ℕ → ℕ → Headed
 settled m h g = headed (visits m h g (links m g) .head) (setStart (visits m h g (links m g) .image) g)
 
--- the card at the head leaves the list
-unfoldable pub unlisted : Image → ℕ → Headed
-unlisted m h = headed (cardWord m (h - 2)) (setState m (h - 2) 0)
-
 -- r has the pending objects of bit word i, in words of w bits: its marks without its starts
 pub record PendingWord (w : ℕ) (m : Image) (i r : ℕ) : Type 0 where
   pub some : (j : ℕ) → j < w → testBit r j ≡ true → Pending m (w * i + j)
-  pub none : (j : ℕ) → j < w → r ≡ 0 → Pending m (w * i + j) → ⊥
-
--- r is a pending granule of card c, or the store's end if there is none
-pub record NextPending (k : ℕ) (m : Image) (c r : ℕ) : Type 0 where
-  pub found : r < 64 * k → Pending m r × (r / 64 ≡ c)
-  pub none : 64 * k ≤ r → (g : ℕ) → g / 64 ≡ c → Pending m g → ⊥
-
--- one turn
-pub data Turn (k : ℕ) (m : Image) (h : ℕ) : Headed → Type 0 where
-  settle : (g : ℕ) {p : Headed} → g < 64 * k → Pending m g → p ≡ settled m h g → Turn k m h p
-  leave : {p : Headed} → ((g : ℕ) → g / 64 ≡ h - 2 → Pending m g → ⊥) → p ≡ unlisted m h → Turn k m h p
+  pub all : (j : ℕ) → j < w → Pending m (w * i + j) → testBit r j ≡ true
 
 -- the object at g lies in the heap, and its links lead into it
 pub record LinksIn (k : ℕ) (m : Image) (g : ℕ) : Type 0 where
   pub inside : 4 * g + 2 + links m g ≤ 256 * k
   pub target : (i : ℕ) → i < links m g → link m g i < 64 * k
-
--- the head is a card's, and the links of pending objects lead into the heap
-pub record TurnReady (k : ℕ) (m : Image) (h : ℕ) : Type 0 where
-  pub low : 2 ≤ h
-  pub high : h - 2 < k
-  pub links-in : (g : ℕ) → Pending m g → LinksIn k m g
 
 -- ---- what is found from the pending objects of m: all their links, and those of what is found unmarked
 
@@ -105,12 +85,21 @@ unfoldable pub Chained : List ℕ → List ℕ → ℕ → Type 0
 Chained cards [] h = h ≡ 1
 Chained cards (c ∷ l) h = (h ≡ c + 2) × Chained cards l (nth cards c)
 
--- chained from h, each listed card once, and with each pending object
-pub record Listed (k : ℕ) (m : Image) (h : ℕ) : Type 0 where
-  pub order : List ℕ
-  pub chained : Chained (m .cards) order h
-  pub once : (c : ℕ) → times c order ≡ min 1 (cardWord m c)
-  pub holds : (g : ℕ) → Pending m g → 1 ≤ cardWord m (g / 64)
+-- two chains, from h the cards that wait and from l those that were listed later; a listed card stands once in one of them
+pub record WorkList (cards : List ℕ) (h l : ℕ) : Type 0 where
+  pub waiting : List ℕ
+  pub later : List ℕ
+  pub chained : Chained cards waiting h
+  pub chained-later : Chained cards later l
+  pub once : (c : ℕ) → times c waiting + times c later ≡ min 1 (nth cards c)
+
+-- the cards of pending objects are listed, but for the objects of N
+pub record Listed (m : Image) (N : ℕ → Type 0) (h l : ℕ) : Type 0 where
+  pub list : WorkList (m .cards) h l
+  pub holds : (g : ℕ) → Pending m g → (1 ≤ cardWord m (g / 64)) ⊎ N g
+
+abbrev pub Nowhere : ℕ → Type 0
+Nowhere g = ⊥
 
 -- ---- what following gives: the start bits stand again, and what was marked or is found is marked
 

@@ -1,12 +1,12 @@
 -- What becoming pending and settling do to an image: its bits, and that all else stays.
-use lib.ListN.{length}
 use mathlib.Core.Path.{_≡_, refl, ap}
-use Prim.Native.Nat.{ℕ, _*_, _<_, _/_}
+use Prim.Native.Nat.{ℕ, _*_, _<_}
 use Rattle.model.specs.Base.{setBit}
 use Rattle.model.specs.Image.{Image, isStart, marked, withStarts, withMarks, setStart, setMark, imageOf}
 use Rattle.model.proofs.Bits.{setBit-same, setBit-other}
 use Rattle.model.proofs.Laws.{length-put}
 use Rattle.finish_marking_laws.specs.Follow.{pend, untouched}
+use Rattle.finish_marking_laws.specs.Marking.{Shape}
 use Rattle.image_laws.specs.Bits.{clearBit, clearStart}
 use Rattle.image_laws.specs.Digits.{digit, markBit, startBit}
 use Rattle.image_laws.specs.Sized.{Sized}
@@ -15,12 +15,6 @@ use Rattle.image_laws.proofs.Lengths.{width-image, sized-width, starts-words, m
 use Rattle.image_laws.proofs.Masks.{clear-same, clear-other}
 use Rattle.image_laws.proofs.Places.{word-in}
 use mathlib.Core.List.{List}
-
--- every granule has its bits, every card its word
-pub record Shape (k : ℕ) (m : Image) : Type 0 where
-  pub starts : (g : ℕ) → g < 64 * k → g / m .width < length (m .starts)
-  pub marks : (g : ℕ) → g < 64 * k → g / m .width < length (m .marks)
-  pub cards : length (m .cards) ≡ k
 
 pub image-shape : {w k : ℕ} {ws : List ℕ} → Sized w k ws → Shape k (imageOf w k ws)
 image-shape {w} {k} {ws} z = record {

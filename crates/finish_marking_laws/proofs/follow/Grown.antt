@@ -1,4 +1,4 @@
--- Marking as it goes: what holds of every image on the way, and that a step on the way keeps it.
+-- What a marking makes of an image (`Grown`), kept by every step on the way.
 use Rattle.model.specs.Base.{nth}
 use mathlib.Core.Path.{_≡_, refl, sym, ap, _∙_}
 use mathlib.Core.Logic.{_⊎_, inl, inr}
@@ -7,8 +7,9 @@ use native.Mathlib.Omega.{arith}
 use native.Mathlib.Decide.{ℕ-discrete}
 use Rattle.model.specs.Image.{Image, isStart, marked, links, link, withCards, setState, word}
 use Rattle.model.proofs.Laws.{length-put}
-use Rattle.finish_marking_laws.specs.Follow.{Pending, Reach, objectBit, World, Listed, untouched, follow, seed}
-use Rattle.finish_marking_laws.proofs.follow.Bits.{Shape, Pended, Settled}
+use Rattle.finish_marking_laws.specs.Follow.{Pending, Reach, objectBit, untouched, follow, seed}
+use Rattle.finish_marking_laws.specs.Marking.{Shape, Grown}
+use Rattle.finish_marking_laws.proofs.follow.Bits.{Pended, Settled}
 use Rattle.image_laws.specs.Digits.{markBit, startBit}
 use Rattle.image_laws.proofs.Digits.{digit-two, digit-le}
 use mathlib.Core.List.{List}
@@ -23,27 +24,6 @@ module _ (m m' : Image) (e : m' .heap ≡ m .heap) (g : ℕ) where
   pub same-link : (i : ℕ) → link m' g i ≡ link m g i
   unfolding link word
   same-link i = ap (λ (l : List ℕ). nth l (4 * g + (2 + i))) e
-
--- ---- m comes from m₀ by marking
-
-pub record Grown (k : ℕ) (m₀ m : Image) : Type 0 where
-  pub shape : Shape k m
-  pub heap : m .heap ≡ m₀ .heap
-  pub rest : untouched m ≡ untouched m₀
-  -- objects are the same, marks grow, an object done at first stays done
-  pub same : (g : ℕ) → objectBit m g ≡ objectBit m₀ g
-  pub grow : (g : ℕ) → markBit m₀ g ≤ markBit m g
-  pub stay : (g : ℕ) → markBit m₀ g ≡ 1 → startBit m₀ g ≡ 1 → startBit m g ≡ 1
-  -- what is marked was marked or is found
-  pub only : (g : ℕ) → markBit m g ≡ 1 → (markBit m₀ g ≡ 1) ⊎ Reach m₀ g
-  -- the links of what is settled are marked
-  pub closed : (g i : ℕ) → markBit m g ≡ 1 → startBit m g ≡ 1 → (startBit m₀ g ≡ 0) ⊎ (markBit m₀ g ≡ 0) → i < links m₀ g → (link m₀ g i ≡ 0 → ⊥) → markBit m (link m₀ g i) ≡ 1
-
--- the invariant of the loop of turns
-pub record Marking (k : ℕ) (m₀ m : Image) (h : ℕ) : Type 0 where
-  pub world : World k m₀
-  pub grown : Grown k m₀ m
-  pub listed : Listed k m h
 
 -- ---- an object that is found becomes pending
 

@@ -1,5 +1,5 @@
 -- The loop over an object's links, and the loop of turns.
-use mathlib.Core.Path.{_≡_, refl, ap, _∙_}
+use mathlib.Core.Path.{_≡_, refl, ap, subst, _∙_}
 use mathlib.Core.List.{List}
 use Prim.Native.Nat.{ℕ, zero, suc, _+_, _*_, _-_, _<_, _≤_}
 use native.Mathlib.Omega.{arith}
@@ -8,12 +8,10 @@ use lib.ListN.{length}
 use Rattle.model.specs.Base.{nth}
 use Rattle.model.specs.Image.{Image, word, links, link, withStarts, withMarks, withCards, setStart, setMark, setState, state, imageOf}
 use mathlib.Core.Logic.{inl, ⊎-elim}
-use lib.Pow.{high}
-use Rattle.finish_marking_laws.specs.Follow.{Pending, Headed, headed, pend, visited, visits, settled, unlisted, NextPending, Turn, LinksIn, TurnReady, objectBit, World, Listed, Followed, settle, leave}
-use Rattle.finish_marking_laws.proofs.follow.Bits.{Shape, image-shape}
-use Rattle.finish_marking_laws.proofs.follow.Grown.{same-links, same-link, Marking}
-use Rattle.finish_marking_laws.proofs.follow.Measure.{workLeft}
-use Rattle.finish_marking_laws.proofs.follow.Turns.{turn-keeps, marking-done, head-in, head-of}
+use Rattle.finish_marking_laws.specs.Follow.{Headed, headed, pend, visited, visits, settled, LinksIn, World, Listed, Nowhere, Followed}
+use Rattle.finish_marking_laws.specs.Marking.{Shape, Marking, workLeft, Between, Underway, SettledTo}
+use Rattle.finish_marking_laws.proofs.follow.Bits.{image-shape}
+use Rattle.finish_marking_laws.proofs.follow.Turns.{marking-as, next-round, head-card, card-taken, marking-done}
 use Rattle.finish_marking_laws.proofs.follow.Visits.{Visit, visit-cases, past, on, new}
 use Rattle.image_laws.specs.Bits.{clearStart}
 use Rattle.image_laws.specs.Sized.{Sized}
@@ -63,19 +61,8 @@ links-end t m' e = rw (← (t .number), ← (t .state), e)
 
 -- ---- the loop of turns
 
-module _ (k : ℕ) (m : Image) (h g : ℕ) (n : NextPending k m (h - 2) g) where
-  pub turn-settle : g < 64 * k → (p : Headed) → p ≡ settled m h g → Turn k m h p
-  turn-settle l p e = settle g l (n .found l .0) e
-
-  pub turn-leave : 64 * k ≤ g → (r : ℕ) → r ≡ state m (h - 2) → (m' : Image) → m' ≡ setState m (h - 2) 0 → Turn k m h (headed r m')
-  unfolding unlisted state
-  turn-leave l r er m' e = leave {p = headed r m'} (n .none l) (rw (er, e))
-
-  pub next-links : TurnReady k m h → g < 64 * k → LinksIn k m g
-  next-links r l = r .links-in g (n .found l .0)
-
-begins : (k : ℕ) (m : Image) (h : ℕ) → Shape k m → World k m → Listed k m h → Marking k m m h
-begins k m h s w t = record {
+begins : {k : ℕ} {m : Image} {h : ℕ} → Shape k m → World k m → Listed m Nowhere h 1 → Marking k m m Nowhere h 1
+begins s w t = record {
   world = w;
   grown = record {
     shape = s;
@@ -90,41 +77,45 @@ begins k m h s w t = record {
   listed = t;
 }
 
-turn-ready : {k : ℕ} {m₀ m : Image} {h : ℕ} → Marking k m₀ m h → (h ≡ 1 → ⊥) → TurnReady k m h
-turn-ready {k} {m₀} {m} {h} w n = record { low = head-of w n .above; high = head-in w n; links-in = inside }
-  where
-    o : (g : ℕ) → Pending m g → objectBit m₀ g ≡ 1
-    o g q = omega (arith, w .grown .same g, q .is-marked, q .bare)
-
-    to : (g i : ℕ) → Pending m g → i < links m₀ g → (a : ℕ) → a ≡ link m₀ g i → a < 64 * k
-    to g i q l zero e = omega (arith, head-in w n)
-    to g i q l (suc a) e = rw e (w .world .target g i (o g q) l (λ z. absurd (omega arith)) .0)
-
-    inside : (g : ℕ) → Pending m g → LinksIn k m g
-    inside g q = record {
-      inside = rw (same-links m₀ m (w .grown .heap) g) (w .world .inside g (o g q));
-      target = λ i l. rw (same-link m₀ m (w .grown .heap) g i) (to g i q (rw (same-links m₀ m (w .grown .heap) g) at l) (link m₀ g i) refl);
-    }
-
-pub record TurnLoop (w k : ℕ) (im₀ im : List ℕ) (h : ℕ) : Type 0 where
+-- no card waits while others are listed later
+pub record TurnLoop (w k : ℕ) (im₀ im : List ℕ) (h l : ℕ) : Type 0 where
   pub sized : Sized w k im
   pub same : length im ≡ length im₀
-  pub marking : Marking k (imageOf w k im₀) (imageOf w k im) h
+  pub marking : Marking k (imageOf w k im₀) (imageOf w k im) Nowhere h l
+  pub last : h ≡ 1 → l ≡ 1
 
-pub turns-none : (w k : ℕ) (im : List ℕ) (h : ℕ) → Sized w k im → World k (imageOf w k im) → Listed k (imageOf w k im) h → TurnLoop w k im im h
-turns-none w k im h z u t = record { sized = z; same = refl; marking = begins k (imageOf w k im) h (image-shape z) u t }
+pub turns-none : {w k : ℕ} {im : List ℕ} {h : ℕ} → Sized w k im → World k (imageOf w k im) → Listed (imageOf w k im) Nowhere h 1 → TurnLoop w k im im h 1
+turns-none z u t = record { sized = z; same = refl; marking = begins (image-shape z) u t; last = λ _. refl }
 
-module _ {w k : ℕ} {im₀ im : List ℕ} {h : ℕ} (t : TurnLoop w k im₀ im h) where
-  module _ (n : h ≡ 1 → ⊥) where
-    pub turns-ready : TurnReady k (imageOf w k im) h
-    turns-ready = turn-ready (t .marking) n
-
-    module _ (h' : ℕ) (im' : List ℕ) (e : Turn k (imageOf w k im) h (headed h' (imageOf w k im'))) where
-      pub turns-more : length im' ≡ length im → TurnLoop w k im₀ im' h'
-      turns-more l = record { sized = sized-as (t .sized) l; same = l ∙ t .same; marking = turn-keeps k (imageOf w k im₀) (imageOf w k im) h (t .marking) n e .marking }
-
-      pub turns-fall : workLeft k (imageOf w k im') < workLeft k (imageOf w k im)
-      turns-fall = turn-keeps k (imageOf w k im₀) (imageOf w k im) h (t .marking) n e .less
-
+module _ {w k : ℕ} {im₀ im : List ℕ} {h l : ℕ} (t : TurnLoop w k im₀ im h l) where
   pub turns-end : h ≡ 1 → Followed k (imageOf w k im₀) (imageOf w k im)
-  turns-end e = marking-done k (imageOf w k im₀) (imageOf w k im) (rw e at (t .marking))
+  turns-end e = marking-done (subst (λ (x : ℕ). Marking k (imageOf w k im₀) (imageOf w k im) Nowhere x 1) e (subst (λ (x : ℕ). Marking k (imageOf w k im₀) (imageOf w k im) Nowhere h x) (t .last e) (t .marking)))
+
+  module _ (n : h ≡ 1 → ⊥) where
+    pub turns-card : (2 ≤ h) × (h - 2 < k)
+    turns-card = head-card (t .marking) n
+
+    -- the card at the head is taken; r is the rest of the cards that wait
+    module _ (r : ℕ) (er : r ≡ state (imageOf w k im) (h - 2)) (m1 : Image) (e1 : m1 ≡ setState (imageOf w k im) (h - 2) 0) where
+      taken : Marking k (imageOf w k im₀) m1 (Between (64 * (h - 2)) (64 * (h - 2) + 64)) r l
+      unfolding state
+      taken = rw (e1, er) (card-taken (t .marking) n .marking)
+
+      pub turns-underway : Underway k m1 (64 * (h - 2)) l
+      turns-underway = record { from = imageOf w k im₀; head = r; end = 64 * (h - 2) + 64; marking = taken }
+
+      module _ (l' : ℕ) (im' : List ℕ) (e : SettledTo k m1 (64 * (h - 2)) l (64 * (h - 2) + 64) (headed l' (imageOf w k im'))) where
+        turned : Marking k (imageOf w k im₀) (imageOf w k im') Nowhere r l'
+        turned = marking-as (e .goes-on (imageOf w k im₀) r (64 * (h - 2) + 64) taken .marking) Nowhere (λ g q b. absurd (omega (arith, b .low, b .high)))
+
+        pub turns-fall : workLeft k (imageOf w k im') < workLeft k (imageOf w k im)
+        turns-fall = let x : workLeft k m1 < workLeft k (imageOf w k im) = rw e1 (card-taken (t .marking) n .less) in omega (arith, e .goes-on (imageOf w k im₀) r (64 * (h - 2) + 64) taken .less)
+
+        module _ (s : length im' ≡ length im) where
+          -- more cards wait
+          pub turns-more : (r ≡ 1 → ⊥) → TurnLoop w k im₀ im' r l'
+          turns-more o = record { sized = sized-as (t .sized) s; same = s ∙ t .same; marking = turned; last = λ z. absurd (o z) }
+
+          -- else those that were listed later
+          pub turns-round : r ≡ 1 → TurnLoop w k im₀ im' l' 1
+          turns-round o = record { sized = sized-as (t .sized) s; same = s ∙ t .same; marking = next-round (subst (λ (x : ℕ). Marking k (imageOf w k im₀) (imageOf w k im') Nowhere x l') o turned); last = λ _. refl }

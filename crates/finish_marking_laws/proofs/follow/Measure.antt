@@ -1,28 +1,15 @@
--- The measure: what is left to be marked, listed and settled; it falls.
+-- What is left to be marked, listed and settled (`workLeft`) falls.
 use mathlib.Core.Path.{_≡_, refl, sym, ap, _∙_}
-use Prim.Native.Nat.{ℕ, zero, suc, _+_, _<_, _≤_, min, _*_, _-_}
+use Prim.Native.Nat.{ℕ, zero, suc, _+_, _<_, _≤_, min}
 use native.Mathlib.Omega.{arith}
 use native.Mathlib.Decide.{ℕ-discrete}
 use lib.ListN.{length}
 use Rattle.model.specs.Image.{Image, withCards, setState}
 use Rattle.model.proofs.Laws.{nth-put-same, nth-put-other}
 use Rattle.finish_marking_laws.specs.Follow.{cardWord, Pending}
+use Rattle.finish_marking_laws.specs.Marking.{sum, weight, onList}
 use Rattle.finish_marking_laws.proofs.follow.Bits.{Pended, Settled}
 use Rattle.image_laws.specs.Digits.{markBit, startBit}
-
-unfoldable pub sum : ℕ → (ℕ → ℕ) → ℕ
-sum zero f = 0
-sum (suc n) f = sum n f + f n
-
--- an unmarked object is still to be marked, listed and settled; a pending one to be settled
-unfoldable pub weight : Image → ℕ → ℕ
-weight m g = 3 * (1 - markBit m g) + (markBit m g - startBit m g)
-
-unfoldable pub onList : Image → ℕ → ℕ
-onList m c = min 1 (cardWord m c)
-
-unfoldable pub workLeft : ℕ → Image → ℕ
-workLeft k m = sum (64 * k) (weight m) + sum k (onList m)
 
 pub sum-same : (n : ℕ) (f f' : ℕ → ℕ) → ((j : ℕ) → j < n → f' j ≡ f j) → sum n f' ≡ sum n f
 unfolding sum

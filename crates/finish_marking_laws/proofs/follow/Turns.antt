@@ -1,78 +1,96 @@
--- One turn keeps the invariant, and the measure falls; with an empty list the marks are what is found.
+-- Settling a pending object, and a card's turn, keep the marking, and less is left; with an empty list the marks are what is found.
 use mathlib.Core.Path.{_≡_, refl, sym, _∙_}
 use mathlib.Core.Logic.{_⊎_, inl, inr, ⊎-elim}
-use Prim.Native.Nat.{ℕ, zero, suc, _*_, _-_, _/_, _<_, _≤_}
+use Prim.Native.Nat.{ℕ, zero, suc, _+_, _*_, _-_, _/_, _<_, _≤_}
 use native.Mathlib.Omega.{arith}
 use native.Mathlib.Decide.{ℕ-discrete}
 use Rattle.model.specs.Base.{nth, put}
 use Rattle.model.specs.Image.{Image, isStart, marked, links, link, withStarts, withCards, setStart, setState}
 use Rattle.model.proofs.Laws.{nth-put-other}
-use Rattle.finish_marking_laws.specs.Follow.{cardWord, Pending, Headed, headed, visited, visits, settled, unlisted, Turn, Reach, objectBit, Listed, Followed, settle, leave, follow, seed}
+use Rattle.finish_marking_laws.specs.Follow.{cardWord, Pending, Headed, headed, visited, visits, settled, LinksIn, Reach, objectBit, Listed, Nowhere, Followed, follow, seed}
+use Rattle.finish_marking_laws.specs.Marking.{Grown, Marking, sum, onList, workLeft, Between}
 use Rattle.finish_marking_laws.proofs.follow.Bits.{Settled, settled-bits, start-shape, start-frame}
-use Rattle.finish_marking_laws.proofs.follow.Grown.{same-links, same-link, Grown, Marking, grown-settle, grown-cards, links-found}
-use Rattle.finish_marking_laws.proofs.follow.Measure.{sum, onList, workLeft, weights-settle, list-off}
+use Rattle.finish_marking_laws.proofs.follow.Grown.{same-links, same-link, grown-settle, grown-cards, links-found}
+use Rattle.finish_marking_laws.proofs.follow.Measure.{weights-settle, list-off}
 use Rattle.finish_marking_laws.proofs.follow.Visiting.{Visited, visit-keeps, card-weights}
-use Rattle.finish_marking_laws.proofs.follow.Worklist.{empty, HeadTaken, head-taken}
+use Rattle.finish_marking_laws.proofs.follow.Worklist.{turned-around, list-empty, head-taken, head-in, later-high}
 use Rattle.image_laws.specs.Digits.{markBit, startBit}
 use Rattle.image_laws.proofs.Digits.{digit-two, digit-le}
-use Rattle.image_laws.proofs.Words.{nth-in}
+
+-- ---- the same marking, said otherwise
+
+module _ {k : ℕ} {m₀ m : Image} {N : ℕ → Type 0} {h l : ℕ} (w : Marking k m₀ m N h l) where
+  -- of what is pending, all that was to be settled is still so
+  pub marking-as : (N' : ℕ → Type 0) → ((g : ℕ) → Pending m g → N g → N' g) → Marking k m₀ m N' h l
+  marking-as N' f = record { world = w .world; grown = w .grown; listed = record { list = w .listed .list; holds = λ g q. ⊎-elim (λ o. inl o) (λ n. inr (f g q n)) (w .listed .holds g q) } }
+
+  -- the cards that were listed later have their turns
+  pub next-round : Marking k m₀ m N l h
+  next-round = record { world = w .world; grown = w .grown; listed = record { list = turned-around (w .listed .list); holds = w .listed .holds } }
+
+  pub head-card : (h ≡ 1 → ⊥) → (2 ≤ h) × (h - 2 < k)
+  head-card n = (head-taken (w .listed .list) n .above, omega (arith, head-in (w .listed .list) n, w .grown .shape .cards))
+
+  pub later-fits : l ≤ k + 1
+  later-fits = omega (arith, later-high (w .listed .list), w .grown .shape .cards)
 
 -- ---- the links of a pending object, one after the other
 
-pub record LinksVisited (k : ℕ) (m₀ m : Image) (g n : ℕ) (p : Headed) : Type 0 where
-  pub marking : Marking k m₀ (p .image) (p .head)
+pub record LinksVisited (k : ℕ) (m₀ m : Image) (N : ℕ → Type 0) (h g n : ℕ) (p : Headed) : Type 0 where
+  pub marking : Marking k m₀ (p .image) N h (p .head)
   pub all : (i : ℕ) → i < n → (link m₀ g i ≡ 0 → ⊥) → markBit (p .image) (link m₀ g i) ≡ 1
-  pub pending : Pending (p .image) g
+  pub pending : (a : ℕ) → Pending m a → Pending (p .image) a
   pub less : workLeft k (p .image) ≤ workLeft k m
 
-module _ (k : ℕ) (m₀ m : Image) (h g : ℕ) (w : Marking k m₀ m h) (q : Pending m g) where
+module _ {k : ℕ} {m₀ m : Image} {N : ℕ → Type 0} {h l : ℕ} (w : Marking k m₀ m N h l) (g : ℕ) (q : Pending m g) where
   is-object : objectBit m₀ g ≡ 1
   is-object = omega (arith, w .grown .same g, q .is-marked, q .bare)
 
+  -- a pending object and its links lie in the heap
+  pub links-inside : g < 64 * k → LinksIn k m g
+  links-inside hg = record {
+    inside = rw (same-links m₀ m (w .grown .heap) g) (w .world .inside g is-object);
+    target = λ i b. rw (same-link m₀ m (w .grown .heap) g i) (to i (rw (same-links m₀ m (w .grown .heap) g) at b) (link m₀ g i) refl);
+  }
+    where
+      to : (i : ℕ) → i < links m₀ g → (a : ℕ) → a ≡ link m₀ g i → a < 64 * k
+      to i b zero e = omega arith
+      to i b (suc a) e = rw e (w .world .target g i is-object b (λ z. absurd (omega arith)) .0)
+
   -- what a link of g leads to, in any later image
   leads : (m' : Image) → Grown k m₀ m' → Pending m' g → (i : ℕ) → i < links m₀ g → (link m₀ g i ≡ 0 → ⊥) → Reach m₀ (link m₀ g i) × (link m₀ g i < 64 * k) × (objectBit m' (link m₀ g i) ≡ 1)
-  leads m' w' q' i l nz =
-      let t = w .world .target g i is-object l nz in
-      (links-found k m₀ m' g i w' q' l nz, t .0, w' .same (link m₀ g i) ∙ t .1)
+  leads m' w' q' i b nz =
+      let t = w .world .target g i is-object b nz in
+      (links-found k m₀ m' g i w' q' b nz, t .0, w' .same (link m₀ g i) ∙ t .1)
 
-  through-more : (n : ℕ) (p : Headed) → LinksVisited k m₀ m g n p → n < links m₀ g → LinksVisited k m₀ m g (suc n) (visited (p .image) (p .head) (link m₀ g n))
-  through-more n p t l = record {
+  through-more : (n : ℕ) (p : Headed) → LinksVisited k m₀ m N h g n p → n < links m₀ g → LinksVisited k m₀ m N h g (suc n) (visited (p .image) (p .head) (link m₀ g n))
+  through-more n p t b = record {
     marking = v .marking;
     all = λ i li nz. at i li nz (ℕ-discrete i n);
-    pending = v .pending g (t .pending);
+    pending = λ a o. v .pending a (t .pending a o);
     less = omega (arith, v .less, t .less);
   }
     where
-      v : Visited k m₀ (p .image) (link m₀ g n) (visited (p .image) (p .head) (link m₀ g n))
-      v = visit-keeps k m₀ (p .image) (p .head) (link m₀ g n) (t .marking) (λ nz. leads (p .image) (t .marking .grown) (t .pending) n l nz)
+      v : Visited k m₀ (p .image) N h (link m₀ g n) (visited (p .image) (p .head) (link m₀ g n))
+      v = visit-keeps (link m₀ g n) (t .marking) (λ nz. leads (p .image) (t .marking .grown) (t .pending g q) n b nz)
 
       at : (i : ℕ) → i < suc n → (link m₀ g i ≡ 0 → ⊥) → Dec (i ≡ n) → markBit (visited (p .image) (p .head) (link m₀ g n) .image) (link m₀ g i) ≡ 1
       at i li nz (yes e) = rw e (v .now-marked (rw e at nz))
       at i li nz (no ne) = omega (arith, t .all i (omega arith) nz, v .grow (link m₀ g i), digit-le (marked (visited (p .image) (p .head) (link m₀ g n) .image) (link m₀ g i)))
 
-  pub through : (n : ℕ) → n ≤ links m₀ g → LinksVisited k m₀ m g n (visits m h g n)
+  through : (n : ℕ) → n ≤ links m₀ g → LinksVisited k m₀ m N h g n (visits m l g n)
   unfolding visits
-  through zero l = record { marking = w; all = λ i z. absurd (omega arith); pending = q; less = omega arith }
-  through (suc n) l = rw (same-link m₀ m (w .grown .heap) g n) (through-more n (visits m h g n) (through n (omega arith)) (omega arith))
+  through zero b = record { marking = w; all = λ i z. absurd (omega arith); pending = λ a o. o; less = omega arith }
+  through (suc n) b = rw (same-link m₀ m (w .grown .heap) g n) (through-more n (visits m l g n) (through n (omega arith)) (omega arith))
 
--- ---- a turn
+-- ---- a pending object is settled
 
-left-list : (k : ℕ) (m : Image) (h : ℕ) → HeadTaken (m .cards) h → Listed k m h → ((g : ℕ) → g / 64 ≡ h - 2 → Pending m g → ⊥) → Listed k (setState m (h - 2) 0) (cardWord m (h - 2))
-unfolding setState withCards marked isStart
-left-list k m h t o empty-card = record {
-  order = t .order;
-  chained = t .chained;
-  once = t .once;
-  holds = λ g q. at g (record { is-marked = q .is-marked; bare = q .bare }) (ℕ-discrete (g / 64) (h - 2));
-}
-  where
-    at : (g : ℕ) → Pending m g → Dec (g / 64 ≡ h - 2) → 1 ≤ nth (put (m .cards) (h - 2) 0) (g / 64)
-    at g q (yes e) = absurd (empty-card g e q)
-    at g q (no e) = rw (nth-put-other (m .cards) (h - 2) (g / 64) 0 e) (o .holds g q)
-
-pub record TurnKept (k : ℕ) (m₀ m : Image) (p : Headed) : Type 0 where
-  pub marking : Marking k m₀ (p .image) (p .head)
+-- the object's start bit stands again: it is no longer pending, what else is pending stays so
+pub record ObjectSettled (k : ℕ) (m₀ m : Image) (N : ℕ → Type 0) (h g : ℕ) (p : Headed) : Type 0 where
+  pub marking : Marking k m₀ (p .image) N h (p .head)
   pub less : workLeft k (p .image) < workLeft k m
+  pub done : Pending (p .image) g → ⊥
+  pub others : (a : ℕ) → Pending m a → (a ≡ g → ⊥) → Pending (p .image) a
 
 start-list : (k : ℕ) (m : Image) (g : ℕ) → sum k (onList (setStart m g)) ≡ sum k (onList m)
 unfolding setStart withStarts onList
@@ -85,64 +103,61 @@ settle-pending m m' a p g q = go (ℕ-discrete g a)
     go (yes e) = absurd (let z : startBit m' a ≡ 0 = rw e at (q .bare) in omega (arith, p .start))
     go (no n) = record { is-marked = sym (p .marks g) ∙ q .is-marked; bare = sym (p .starts g n) ∙ q .bare }
 
--- the object's start bit, after all its links
-module _ (k : ℕ) (m₀ m : Image) (g : ℕ) (hg : g < 64 * k) (p : Headed) (t : LinksVisited k m₀ m g (links m₀ g) p) where
-  settle-last : TurnKept k m₀ m (headed (p .head) (setStart (p .image) g))
+module _ {k : ℕ} {m₀ m : Image} {N : ℕ → Type 0} {h g : ℕ} (hg : g < 64 * k) (q : Pending m g) (p : Headed) (t : LinksVisited k m₀ m N h g (links m₀ g) p) where
+  settle-last : ObjectSettled k m₀ m N h g (headed (p .head) (setStart (p .image) g))
   unfolding workLeft
   settle-last = record {
     marking = record {
       world = t .marking .world;
-      grown = grown-settle k m₀ (p .image) (setStart (p .image) g) g (t .marking .grown) s (start-shape k (p .image) g (t .marking .grown .shape)) (start-frame (p .image) g .0) (start-frame (p .image) g .2) (t .pending) (t .all);
+      grown = grown-settle k m₀ (p .image) (setStart (p .image) g) g (t .marking .grown) s (start-shape k (p .image) g (t .marking .grown .shape)) (start-frame (p .image) g .0) (start-frame (p .image) g .2) (t .pending g q) (t .all);
       listed = record {
-        order = t .marking .listed .order;
-        chained = rw (start-frame (p .image) g .1) (t .marking .listed .chained);
-        once = rw (start-frame (p .image) g .1) (t .marking .listed .once);
-        holds = λ a q. rw (start-frame (p .image) g .1) (t .marking .listed .holds a (settle-pending (p .image) (setStart (p .image) g) g s a q));
+        list = rw (start-frame (p .image) g .1) (t .marking .listed .list);
+        holds = λ a o. rw (start-frame (p .image) g .1) (t .marking .listed .holds a (settle-pending (p .image) (setStart (p .image) g) g s a o));
       };
     };
-    less = rw (start-list k (p .image) g) (omega (arith, weights-settle (64 * k) (p .image) (setStart (p .image) g) g hg s (t .pending), t .less));
+    less = rw (start-list k (p .image) g) (omega (arith, weights-settle (64 * k) (p .image) (setStart (p .image) g) g hg s (t .pending g q), t .less));
+    done = λ o. omega (arith, o .bare, s .start);
+    others = λ a o n. record { is-marked = s .marks a ∙ t .pending a o .is-marked; bare = s .starts a n ∙ t .pending a o .bare };
   }
     where
       s : Settled (p .image) (setStart (p .image) g) g
       s = settled-bits k (p .image) g (t .marking .grown .shape) hg
 
-settle-turn : (k : ℕ) (m₀ m : Image) (h g : ℕ) → Marking k m₀ m h → g < 64 * k → Pending m g → TurnKept k m₀ m (settled m h g)
+pub object-settled : {k : ℕ} {m₀ m : Image} {N : ℕ → Type 0} {h l : ℕ} → Marking k m₀ m N h l → (g : ℕ) → g < 64 * k → Pending m g → ObjectSettled k m₀ m N h g (settled m l g)
 unfolding settled
-settle-turn k m₀ m h g w hg q =
+object-settled {k} {m₀} {m} {N} {h} {l} w g hg q =
     rw (same-links m₀ m (w .grown .heap) g)
-    (settle-last k m₀ m g hg (visits m h g (links m₀ g)) (through k m₀ m h g w q (links m₀ g) (omega arith)))
+    (settle-last hg q (visits m l g (links m₀ g)) (through w g q (links m₀ g) (omega arith)))
 
-module _ {k : ℕ} {m₀ m : Image} {h : ℕ} (w : Marking k m₀ m h) (n : h ≡ 1 → ⊥) where
-  pub head-of : HeadTaken (m .cards) h
-  head-of = head-taken (m .cards) (w .listed .order) h (w .listed .chained) (w .listed .once) n
+-- ---- a card is taken from the list: its pending objects are to be settled
 
-  pub head-in : h - 2 < k
-  head-in = omega (arith, nth-in (m .cards) (h - 2) (head-of .on), w .grown .shape .cards)
+pub record CardTaken (k : ℕ) (m₀ m : Image) (h l : ℕ) : Type 0 where
+  pub marking : Marking k m₀ (setState m (h - 2) 0) (Between (64 * (h - 2)) (64 * (h - 2) + 64)) (cardWord m (h - 2)) l
+  pub less : workLeft k (setState m (h - 2) 0) < workLeft k m
 
-leave-turn : (k : ℕ) (m₀ m : Image) (h : ℕ) → Marking k m₀ m h → (h ≡ 1 → ⊥) → ((g : ℕ) → g / 64 ≡ h - 2 → Pending m g → ⊥) → TurnKept k m₀ m (unlisted m h)
-unfolding unlisted workLeft
-leave-turn k m₀ m h w n empty-card = record {
-  marking = record {
-    world = w .world;
-    grown = grown-cards k m₀ m (h - 2) 0 (w .grown);
-    listed = left-list k m h (head-of w n) (w .listed) empty-card;
-  };
-  less = rw (card-weights k m (h - 2) 0) (omega (arith, list-off k m (h - 2) 0 (head-in w n) (w .grown .shape .cards) (head-of w n .on) refl));
+pub card-taken : {k : ℕ} {m₀ m : Image} {h l : ℕ} → Marking k m₀ m Nowhere h l → (h ≡ 1 → ⊥) → CardTaken k m₀ m h l
+unfolding workLeft
+card-taken {k} {m₀} {m} {h} {l} w n = record {
+  marking = record { world = w .world; grown = grown-cards k m₀ m (h - 2) 0 (w .grown); listed = listed };
+  less = rw (card-weights k m (h - 2) 0) (omega (arith, list-off k m (h - 2) 0 (head-card w n .1) (w .grown .shape .cards) (head-taken (w .listed .list) n .on) refl));
 }
+  where
+    at : (g : ℕ) → Pending m g → Dec (g / 64 ≡ h - 2) → (1 ≤ nth (put (m .cards) (h - 2) 0) (g / 64)) ⊎ Between (64 * (h - 2)) (64 * (h - 2) + 64) g
+    at g q (yes e) = inr (record { low = omega arith; high = omega arith })
+    at g q (no e) = inl (rw (nth-put-other (m .cards) (h - 2) (g / 64) 0 e) (⊎-elim (λ o. o) (λ z. absurd z) (w .listed .holds g q)))
 
-pub turn-keeps : (k : ℕ) (m₀ m : Image) (h : ℕ) {p : Headed} → Marking k m₀ m h → (h ≡ 1 → ⊥) → Turn k m h p → TurnKept k m₀ m p
-turn-keeps k m₀ m h w n (settle g hg q e) = rw e (settle-turn k m₀ m h g w hg q)
-turn-keeps k m₀ m h w n (leave empty-card e) = rw e (leave-turn k m₀ m h w n empty-card)
+    listed : Listed (setState m (h - 2) 0) (Between (64 * (h - 2)) (64 * (h - 2) + 64)) (cardWord m (h - 2)) l
+    listed = unfold setState withCards marked isStart in record { list = head-taken (w .listed .list) n .list; holds = λ g q. at g (record { is-marked = q .is-marked; bare = q .bare }) (ℕ-discrete (g / 64) (h - 2)) }
 
 -- ---- with an empty list
 
-module _ (k : ℕ) (m₀ m : Image) (w : Marking k m₀ m 1) where
+module _ {k : ℕ} {m₀ m : Image} (w : Marking k m₀ m Nowhere 1 1) where
   clean : (c : ℕ) → cardWord m c ≡ 0
-  clean = empty (m .cards) (w .listed .order) 1 (w .listed .chained) (w .listed .once) refl
+  clean = list-empty (w .listed .list)
 
   -- nothing is pending
   done : (g : ℕ) → markBit m g ≡ 1 → startBit m g ≡ 1
-  done g em = ⊎-elim (λ e. absurd (let z : 1 ≤ cardWord m (g / 64) = w .listed .holds g (record { is-marked = em; bare = e }) in omega (arith, clean (g / 64)))) (λ e. e) (digit-two (isStart m g))
+  done g em = ⊎-elim (λ e. ⊎-elim (λ o. absurd (omega (arith, clean (g / 64)))) (λ z. absurd z) (w .listed .holds g (record { is-marked = em; bare = e }))) (λ e. e) (digit-two (isStart m g))
 
   reach-marked : {a : ℕ} → Reach m₀ a → markBit m a ≡ 1
   reach-marked (seed g i q l e nz) = rw (sym e) (w .grown .closed g i em (done g em) (inl (q .bare)) l (rw (sym e) at nz))

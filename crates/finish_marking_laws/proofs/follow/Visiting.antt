@@ -1,7 +1,6 @@
 -- What a visit leaves: the invariant, more marks, and no more to do.
 use mathlib.Core.Path.{_≡_, refl, sym, ap, _∙_}
 use mathlib.Core.Logic.{_⊎_, inl, inr, ⊎-elim}
-use mathlib.Core.List.{_∷_}
 use Prim.Native.Nat.{ℕ, _+_, _*_, _/_, _<_, _≤_}
 use native.Mathlib.Omega.{arith}
 use native.Mathlib.Decide.{ℕ-discrete}
@@ -10,17 +9,18 @@ use Rattle.model.specs.Base.{nth, put}
 use Rattle.model.specs.Image.{Image, isStart, withStarts, withMarks, withCards, setMark, setState, marked}
 use Rattle.model.proofs.Laws.{nth-put-same, nth-put-other}
 use Rattle.finish_marking_laws.specs.Follow.{cardWord, Pending, Headed, pend, visited, Reach, objectBit, Listed}
+use Rattle.finish_marking_laws.specs.Marking.{Grown, Marking, sum, weight, onList, workLeft}
 use Rattle.finish_marking_laws.proofs.follow.Bits.{Pended, pended, pend-shape, pend-frame}
-use Rattle.finish_marking_laws.proofs.follow.Grown.{Grown, Marking, grown-pend, grown-cards}
-use Rattle.finish_marking_laws.proofs.follow.Measure.{sum, weight, onList, workLeft, weights-pend, list-on}
+use Rattle.finish_marking_laws.proofs.follow.Grown.{grown-pend, grown-cards}
+use Rattle.finish_marking_laws.proofs.follow.Measure.{weights-pend, list-on}
 use Rattle.finish_marking_laws.proofs.follow.Visits.{Visit, visit-cases, past, on, new}
-use Rattle.finish_marking_laws.proofs.follow.Worklist.{push-chained, push-once, low}
+use Rattle.finish_marking_laws.proofs.follow.Worklist.{later-low, push}
 use Rattle.image_laws.specs.Bits.{clearStart}
 use Rattle.image_laws.specs.Digits.{markBit}
 use Rattle.image_laws.proofs.Digits.{digit-le}
 
-pub record Visited (k : ℕ) (m₀ m : Image) (a : ℕ) (p : Headed) : Type 0 where
-  pub marking : Marking k m₀ (p .image) (p .head)
+pub record Visited (k : ℕ) (m₀ m : Image) (N : ℕ → Type 0) (h a : ℕ) (p : Headed) : Type 0 where
+  pub marking : Marking k m₀ (p .image) N h (p .head)
   pub now-marked : (a ≡ 0 → ⊥) → markBit (p .image) a ≡ 1
   pub grow : (g : ℕ) → markBit m g ≤ markBit (p .image) g
   pub pending : (g : ℕ) → Pending m g → Pending (p .image) g
@@ -61,32 +61,22 @@ unfolding setState withCards marked isStart
 card-bits m m' a c v p = record { mark = p .mark; start = p .start; marks = p .marks; starts = p .starts }
 
 -- the list with a card whose object became pending
-module _ (k : ℕ) (m m' : Image) (h a : ℕ) (t : Listed k m h) (p : Pended m m' a) (ec : m' .cards ≡ m .cards) where
-  pub listed-on : 1 ≤ cardWord m (a / 64) → Listed k m' h
-  listed-on o = record {
-    order = t .order;
-    chained = rw ec (t .chained);
-    once = rw ec (t .once);
-    holds = λ g q. rw ec (⊎-elim (λ e. rw e o) (λ r. t .holds g r) (pend-pending m m' a p g q));
-  }
+module _ {m : Image} (m' : Image) {N : ℕ → Type 0} {h l a : ℕ} (t : Listed m N h l) (p : Pended m m' a) (ec : m' .cards ≡ m .cards) where
+  listed-on : 1 ≤ cardWord m (a / 64) → Listed m' N h l
+  listed-on o = record { list = rw ec (t .list); holds = λ g q. rw ec (⊎-elim (λ e. inl (rw e o)) (λ r. t .holds g r) (pend-pending m m' a p g q)) }
 
-  pub listed-new : length (m .cards) ≡ k → a / 64 < k → cardWord m (a / 64) ≡ 0 → Listed k (setState m' (a / 64) h) (a / 64 + 2)
+  listed-new : a / 64 < length (m .cards) → cardWord m (a / 64) ≡ 0 → Listed (setState m' (a / 64) l) N h (a / 64 + 2)
   unfolding setState withCards marked isStart
-  listed-new l hc z = record {
-    order = a / 64 ∷ t .order;
-    chained = rw ec (push-chained (m .cards) (t .order) h (t .chained) (t .once) (a / 64) (omega arith) z);
-    once = rw ec (push-once (m .cards) (t .order) h (t .chained) (t .once) (a / 64) (omega arith) z hl);
+  listed-new hc z = record {
+    list = rw ec (push (t .list) (a / 64) hc z);
     holds = λ g q. rw ec (here g (record { is-marked = q .is-marked; bare = q .bare }) (ℕ-discrete (g / 64) (a / 64)));
   }
     where
-      hl : 1 ≤ h
-      hl = low (m .cards) (t .order) h (t .chained) (t .once)
+      here : (g : ℕ) → Pending m' g → Dec (g / 64 ≡ a / 64) → (1 ≤ nth (put (m .cards) (a / 64) l) (g / 64)) ⊎ N g
+      here g q (yes e) = inl (rw (e, nth-put-same (m .cards) (a / 64) l hc) (later-low (t .list)))
+      here g q (no n) = rw (nth-put-other (m .cards) (a / 64) (g / 64) l n) (⊎-elim (λ e. absurd (n (ap (λ x. x / 64) e))) (λ r. t .holds g r) (pend-pending m m' a p g q))
 
-      here : (g : ℕ) → Pending m' g → Dec (g / 64 ≡ a / 64) → 1 ≤ nth (put (m .cards) (a / 64) h) (g / 64)
-      here g q (yes e) = rw (e, nth-put-same (m .cards) (a / 64) h (omega arith)) hl
-      here g q (no n) = rw (nth-put-other (m .cards) (a / 64) (g / 64) h n) (⊎-elim (λ e. absurd (n (ap (λ x. x / 64) e))) (λ r. t .holds g r) (pend-pending m m' a p g q))
-
-module _ (k : ℕ) (m₀ m : Image) (h a : ℕ) (w : Marking k m₀ m h) (f : (a ≡ 0 → ⊥) → Reach m₀ a × (a < 64 * k) × (objectBit m a ≡ 1)) where
+module _ {k : ℕ} {m₀ m : Image} {N : ℕ → Type 0} {h l : ℕ} (a : ℕ) (w : Marking k m₀ m N h l) (f : (a ≡ 0 → ⊥) → Reach m₀ a × (a < 64 * k) × (objectBit m a ≡ 1)) where
   module _ (n : a ≡ 0 → ⊥) (u : markBit m a ≡ 0) where
     inside : a < 64 * k
     inside = f n .1
@@ -97,13 +87,13 @@ module _ (k : ℕ) (m₀ m : Image) (h a : ℕ) (w : Marking k m₀ m h) (f : (a
     grown : Grown k m₀ (pend m a)
     grown = grown-pend k m₀ m (pend m a) a (w .grown) bits (pend-shape k m a (w .grown .shape)) (pend-frame m a .0) (pend-frame m a .2) u (f n .2) (f n .0)
 
-  visit-any : {p : Headed} → Visit m h a p → Visited k m₀ m a p
+  visit-any : {p : Headed} → Visit m l a p → Visited k m₀ m N h a p
   unfolding workLeft
   visit-any (past e) = record { marking = w; now-marked = λ n. ⊎-elim (λ z. absurd (n z)) (λ z. z) e; grow = λ g. omega arith; pending = λ g q. q; less = omega arith }
   visit-any (on n u o) =
       let p : Pended m (pend m a) a = bits n u in
       record {
-        marking = record { world = w .world; grown = grown n u; listed = listed-on k m (pend m a) h a (w .listed) p (pend-frame m a .1) o };
+        marking = record { world = w .world; grown = grown n u; listed = listed-on (pend m a) (w .listed) p (pend-frame m a .1) o };
         now-marked = λ _. p .mark;
         grow = pend-grow m (pend m a) a p;
         pending = pend-keeps m (pend m a) a p;
@@ -111,22 +101,21 @@ module _ (k : ℕ) (m₀ m : Image) (h a : ℕ) (w : Marking k m₀ m h) (f : (a
       }
   visit-any (new n u z) =
       let p : Pended m (pend m a) a = bits n u in
-      let p' : Pended m (setState (pend m a) (a / 64) h) a = card-bits m (pend m a) a (a / 64) h p in
-      let hl : 1 ≤ h = low (m .cards) (w .listed .order) h (w .listed .chained) (w .listed .once) in
+      let p' : Pended m (setState (pend m a) (a / 64) l) a = card-bits m (pend m a) a (a / 64) l p in
       let hc : a / 64 < k = omega (arith, inside n u) in
       record {
         marking = record {
           world = w .world;
-          grown = grown-cards k m₀ (pend m a) (a / 64) h (grown n u);
-          listed = listed-new k m (pend m a) h a (w .listed) p (pend-frame m a .1) (w .grown .shape .cards) hc z;
+          grown = grown-cards k m₀ (pend m a) (a / 64) l (grown n u);
+          listed = listed-new (pend m a) (w .listed) p (pend-frame m a .1) (omega (arith, w .grown .shape .cards)) z;
         };
         now-marked = λ _. p' .mark;
-        grow = pend-grow m (setState (pend m a) (a / 64) h) a p';
-        pending = pend-keeps m (setState (pend m a) (a / 64) h) a p';
+        grow = pend-grow m (setState (pend m a) (a / 64) l) a p';
+        pending = pend-keeps m (setState (pend m a) (a / 64) l) a p';
         less =
-            rw (card-weights k (pend m a) (a / 64) h, list-on k (pend m a) (a / 64) h hc (rw (pend-frame m a .1) (w .grown .shape .cards)) (rw (pend-frame m a .1) z) hl, pend-list k m a)
+            rw (card-weights k (pend m a) (a / 64) l, list-on k (pend m a) (a / 64) l hc (rw (pend-frame m a .1) (w .grown .shape .cards)) (rw (pend-frame m a .1) z) (later-low (w .listed .list)), pend-list k m a)
             (omega (arith, weights-pend (64 * k) m (pend m a) a (inside n u) p u));
       }
 
-  pub visit-keeps : Visited k m₀ m a (visited m h a)
-  visit-keeps = visit-any (visit-cases m h a)
+  pub visit-keeps : Visited k m₀ m N h a (visited m l a)
+  visit-keeps = visit-any (visit-cases m l a)

@@ -1,4 +1,4 @@
--- The work list: a card comes on at the head, and goes off at the head.
+-- The work list: a card comes on at the head of those listed later, and goes off at the head of those that wait.
 use mathlib.Core.Path.{_≡_, refl, sym, _∙_}
 use mathlib.Core.List.{List, [], _∷_}
 use Prim.Native.Nat.{ℕ, _+_, _-_, _<_, _≤_, min, zero, suc}
@@ -8,7 +8,7 @@ use lib.ListN.{length}
 use borrow.Author.Tests.{eq-eqb, ne-eqb}
 use Rattle.model.specs.Base.{nth, put}
 use Rattle.model.proofs.Laws.{nth-put-same, nth-put-other}
-use Rattle.finish_marking_laws.specs.Follow.{times, Chained}
+use Rattle.finish_marking_laws.specs.Follow.{times, Chained, WorkList}
 use Rattle.image_laws.specs.Digits.{digit}
 use Rattle.image_laws.proofs.Words.{nth-in}
 
@@ -34,64 +34,89 @@ chained-put cards c v (x ∷ l) h e q = go (λ z. chained-put cards c v l (nth c
     go ih (yes s) = absurd (let z : times c (x ∷ l) ≡ 1 + times c l = rw s (times-here c l) in omega arith)
     go ih (no s) = (q .0, rw (nth-put-other cards c x v s) (ih (sym (times-there c x l s) ∙ e)))
 
-module _ (cards : List ℕ) (l : List ℕ) (h : ℕ) (ch : Chained cards l h) (once : (c : ℕ) → times c l ≡ min 1 (nth cards c)) where
-  module _ (c : ℕ) (hc : c < length cards) where
-    pub push-chained : nth cards c ≡ 0 → Chained (put cards c h) (c ∷ l) (c + 2)
+chained-low : (cards l : List ℕ) (h : ℕ) → Chained cards l h → 1 ≤ h
+unfolding Chained
+chained-low cards [] h q = omega arith
+chained-low cards (x ∷ l) h q = omega arith
+
+chained-none : (cards l : List ℕ) → Chained cards l 1 → (c : ℕ) → times c l ≡ 0
+unfolding Chained
+chained-none cards [] q c = times-none c
+chained-none cards (x ∷ l) q c = absurd (omega arith)
+
+module _ {cards : List ℕ} {h l : ℕ} (t : WorkList cards h l) where
+  pub later-low : 1 ≤ l
+  later-low = chained-low cards (t .later) l (t .chained-later)
+
+  pub turned-around : WorkList cards l h
+  turned-around = record { waiting = t .later; later = t .waiting; chained = t .chained-later; chained-later = t .chained; once = λ c. omega (arith, t .once c) }
+
+  -- a card comes on
+  module _ (c : ℕ) (hc : c < length cards) (e : nth cards c ≡ 0) where
+    push-once : (d : ℕ) → Dec (d ≡ c) → times d (t .waiting) + times d (c ∷ t .later) ≡ min 1 (nth (put cards c l) d)
+    push-once d (yes s) = rw (s, nth-put-same cards c l hc) (omega (arith, times-here c (t .later), t .once c, later-low))
+    push-once d (no s) = rw (nth-put-other cards c d l s, times-there d c (t .later) (λ z. s (sym z))) (t .once d)
+
+    pub push : WorkList (put cards c l) h (c + 2)
     unfolding Chained
-    push-chained e = (refl, rw (nth-put-same cards c h hc) (chained-put cards c h l h (once c ∙ rw e) ch))
+    push = record {
+      waiting = t .waiting;
+      later = c ∷ t .later;
+      chained = chained-put cards c l (t .waiting) h (omega (arith, t .once c)) (t .chained);
+      chained-later = (refl, rw (nth-put-same cards c l hc) (chained-put cards c l (t .later) l (omega (arith, t .once c)) (t .chained-later)));
+      once = λ d. push-once d (ℕ-discrete d c);
+    }
 
-    pub push-once : nth cards c ≡ 0 → 1 ≤ h → (d : ℕ) → times d (c ∷ l) ≡ min 1 (nth (put cards c h) d)
-    push-once e p d = go (ℕ-discrete d c)
-      where
-        go : Dec (d ≡ c) → times d (c ∷ l) ≡ min 1 (nth (put cards c h) d)
-        go (yes s) = rw (s, times-here c l, once c, e, nth-put-same cards c h hc) (omega arith)
-        go (no s) = rw (nth-put-other cards c d h s, times-there d c l (λ z. s (sym z))) (once d)
+-- no card is listed
+pub list-empty : {cards : List ℕ} → WorkList cards 1 1 → (c : ℕ) → nth cards c ≡ 0
+list-empty {cards} t c = omega (arith, t .once c, chained-none cards (t .waiting) (t .chained) c, chained-none cards (t .later) (t .chained-later) c)
 
-  -- the head is 1, or some card's
-  pub empty : h ≡ 1 → (c : ℕ) → nth cards c ≡ 0
-  unfolding Chained
-  empty e c = go l ch once
-    where
-      go : (l : List ℕ) → Chained cards l h → ((c : ℕ) → times c l ≡ min 1 (nth cards c)) → nth cards c ≡ 0
-      go [] q o = omega (arith, o c, times-none c)
-      go (x ∷ l) q o = absurd (omega arith)
-
-  pub low : 1 ≤ h
-  unfolding Chained
-  low = go l ch
-    where
-      go : (l : List ℕ) → Chained cards l h → 1 ≤ h
-      go [] q = omega arith
-      go (x ∷ l) q = omega arith
-
--- the list without its head
-pub record HeadTaken (cards : List ℕ) (h : ℕ) : Type 0 where
-  pub order : List ℕ
+-- the first card that waits goes off
+pub record HeadTaken (cards : List ℕ) (h l : ℕ) : Type 0 where
   pub above : 2 ≤ h
   pub on : 1 ≤ nth cards (h - 2)
-  pub chained : Chained (put cards (h - 2) 0) order (nth cards (h - 2))
-  pub once : (c : ℕ) → times c order ≡ min 1 (nth (put cards (h - 2) 0) c)
+  pub list : WorkList (put cards (h - 2) 0) (nth cards (h - 2)) l
 
-head-taken-at : (cards : List ℕ) (x : ℕ) (l : List ℕ) → Chained cards l (nth cards x) → ((c : ℕ) → times c (x ∷ l) ≡ min 1 (nth cards c)) → x < length cards → HeadTaken cards (x + 2)
-head-taken-at cards x l ch once hx = record {
-  order = l;
-  above = omega arith;
-  on = rw e (omega (arith, once x, times-here x l));
-  chained = rw e (chained-put cards x 0 l (nth cards x) (omega (arith, once x, times-here x l)) ch);
-  once = λ c. rw e (go c (ℕ-discrete c x));
-}
+head-taken-at : (cards : List ℕ) (x : ℕ) (o u : List ℕ) (l : ℕ) → Chained cards o (nth cards x) → Chained cards u l → ((c : ℕ) → times c (x ∷ o) + times c u ≡ min 1 (nth cards c)) → x < length cards → HeadTaken cards (x + 2) l
+head-taken-at cards x o u l ch chu once hx = record { above = omega arith; on = rw e (omega (arith, once x, times-here x o)); list = rw e list }
   where
     e : x + 2 - 2 ≡ x
     e = omega arith
 
-    go : (c : ℕ) → Dec (c ≡ x) → times c l ≡ min 1 (nth (put cards x 0) c)
-    go c (yes s) = rw (s, nth-put-same cards x 0 hx) (omega (arith, once x, times-here x l))
-    go c (no s) = rw (nth-put-other cards x c 0 s, ← (once c)) (sym (times-there c x l (λ z. s (sym z))))
+    go : (c : ℕ) → Dec (c ≡ x) → times c o + times c u ≡ min 1 (nth (put cards x 0) c)
+    go c (yes s) = rw (s, nth-put-same cards x 0 hx) (omega (arith, once x, times-here x o))
+    go c (no s) = rw (nth-put-other cards x c 0 s, ← (once c), times-there c x o (λ z. s (sym z)))
 
-pub head-taken : (cards : List ℕ) (l : List ℕ) (h : ℕ) → Chained cards l h → ((c : ℕ) → times c l ≡ min 1 (nth cards c)) → (h ≡ 1 → ⊥) → HeadTaken cards h
+    list : WorkList (put cards x 0) (nth cards x) l
+    list = record {
+      waiting = o;
+      later = u;
+      chained = chained-put cards x 0 o (nth cards x) (omega (arith, once x, times-here x o)) ch;
+      chained-later = chained-put cards x 0 u l (omega (arith, once x, times-here x o)) chu;
+      once = λ c. go c (ℕ-discrete c x);
+    }
+
+head-taken-of : (cards o u : List ℕ) (h l : ℕ) → Chained cards o h → Chained cards u l → ((c : ℕ) → times c o + times c u ≡ min 1 (nth cards c)) → (h ≡ 1 → ⊥) → HeadTaken cards h l
 unfolding Chained
-head-taken cards [] h q o n = absurd (n q)
-head-taken cards (x ∷ l) h q o n = rw (q .0) (head-taken-at cards x l (q .1) o (nth-in cards x (omega (arith, o x, times-here x l))))
+head-taken-of cards [] u h l q r once n = absurd (n q)
+head-taken-of cards (x ∷ o) u h l q r once n = rw (q .0) (head-taken-at cards x o u l (q .1) r once (nth-in cards x (omega (arith, once x, times-here x o))))
+
+module _ {cards : List ℕ} {h l : ℕ} (t : WorkList cards h l) where
+  pub head-taken : (h ≡ 1 → ⊥) → HeadTaken cards h l
+  head-taken n = head-taken-of cards (t .waiting) (t .later) h l (t .chained) (t .chained-later) (t .once) n
+
+  pub head-in : (h ≡ 1 → ⊥) → h - 2 < length cards
+  head-in n = nth-in cards (h - 2) (head-taken n .on)
+
+  head-high : h ≤ length cards + 1
+  head-high = go (ℕ-discrete h 1)
+    where
+      go : Dec (h ≡ 1) → h ≤ length cards + 1
+      go (yes e) = omega arith
+      go (no n) = omega (arith, head-in n)
+
+pub later-high : {cards : List ℕ} {h l : ℕ} → WorkList cards h l → l ≤ length cards + 1
+later-high t = head-high (turned-around t)
 
 -- ---- all cards, the last first
 

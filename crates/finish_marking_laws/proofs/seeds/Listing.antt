@@ -1,15 +1,17 @@
 -- Every card is listed, the last first.
 use mathlib.Core.Path.{_≡_, refl, _∙_, sym, ap}
+use mathlib.Core.List.{[]}
+use mathlib.Core.Logic.{inl}
 use Prim.Native.Nat.{ℕ, _+_, _<_, _*_, _/_, _≤_, min}
 use native.Mathlib.Omega.{arith}
 use native.Mathlib.Decide.{ℕ-discrete, decLt}
 use lib.ListN.{length}
 use Rattle.model.specs.Image.{Image, isStart, marked, withCards, setState}
 use Rattle.model.proofs.Laws.{nth-put-same, nth-put-other, nth-out}
-use Rattle.finish_marking_laws.specs.Follow.{cardWord, untouched, Pending, times, Listed}
+use Rattle.finish_marking_laws.specs.Follow.{cardWord, untouched, Pending, times, Chained, WorkList, Listed, Nowhere}
 use Rattle.finish_marking_laws.specs.Seeds.{ListedAll}
 use Rattle.image_laws.specs.Digits.{markBit, startBit}
-use Rattle.finish_marking_laws.proofs.follow.Worklist.{cardsDown, cardsDown-out, cardsDown-in, cardsDown-chained}
+use Rattle.finish_marking_laws.proofs.follow.Worklist.{times-none, cardsDown, cardsDown-out, cardsDown-in, cardsDown-chained}
 
 -- the first i cards are listed, all else is as it was
 pub record ListedTo (m m' : Image) (i : ℕ) : Type 0 where
@@ -42,17 +44,15 @@ listed-end {k} {m} {m'} t l = record { heap = t .heap; starts = t .starts; marks
 
 -- ---- all cards are a work list
 
-pub all-listed : {k : ℕ} {m m' : Image} {h : ℕ} → ((g : ℕ) → markBit m g ≡ 1 → g < 64 * k) → ListedAll k m m' h → Listed k m' h
-all-listed {k} {m} {m'} {h} s t = rw (t .head) (record {
-  order = cardsDown k;
-  chained = cardsDown-chained (m' .cards) k (t .words);
-  once = λ c. once c (decLt c k);
-  holds = λ g q. holds g q;
-})
+pub all-listed : {k : ℕ} {m m' : Image} {h : ℕ} → ((g : ℕ) → markBit m g ≡ 1 → g < 64 * k) → ListedAll k m m' h → Listed m' Nowhere h 1
+all-listed {k} {m} {m'} {h} s t = rw (t .head) (record { list = list; holds = λ g q. inl (holds g q) })
   where
-    once : (c : ℕ) → Dec (c < k) → times c (cardsDown k) ≡ min 1 (cardWord m' c)
-    once c (yes l) = omega (arith, cardsDown-in k c l, t .words c l)
-    once c (no l) = omega (arith, cardsDown-out k c (omega arith), t .past c (omega arith))
+    once : (c : ℕ) → Dec (c < k) → times c (cardsDown k) + times c [] ≡ min 1 (cardWord m' c)
+    once c (yes l) = omega (arith, cardsDown-in k c l, times-none c, t .words c l)
+    once c (no l) = omega (arith, cardsDown-out k c (omega arith), times-none c, t .past c (omega arith))
+
+    list : WorkList (m' .cards) (k + 1) 1
+    list = record { waiting = cardsDown k; later = []; chained = cardsDown-chained (m' .cards) k (t .words); chained-later = unfold Chained in refl; once = λ c. once c (decLt c k) }
 
     holds : (g : ℕ) → Pending m' g → 1 ≤ cardWord m' (g / 64)
     holds g q =

@@ -13,7 +13,7 @@ use Rattle.model.proofs.Laws.{nth-put-same, nth-put-other, false≢}
 use mathlib.Core.List.{List}
 use mathlib.Core.Bool.{Bool, true, false}
 use Rattle.finish_marking_laws.specs.Seeds.{Upto, Refers, EnteredAt, WordAt, CardAt, HandAt, DirtyAt, Bared, object, card}
-use Rattle.finish_marking_laws.proofs.follow.Bits.{Shape}
+use Rattle.finish_marking_laws.specs.Marking.{Shape}
 use Rattle.finish_marking_laws.proofs.seeds.Bared.{bared-none, bared-both, bared-as, bared-along}
 use Rattle.image_laws.specs.Bits.{clearBit, clearStart}
 use Rattle.image_laws.specs.Digits.{digit, bitOf, markBit, startBit}

@@ -11,7 +11,8 @@ use Rattle.model.specs.Base.{nth}
 use Rattle.model.specs.Image.{Image, marked, setMark, imageOf}
 use Rattle.finish_marking_laws.specs.Follow.{Pending, pend}
 use Rattle.finish_marking_laws.specs.Seeds.{Upto, Refers, HeldAt, Opened}
-use Rattle.finish_marking_laws.proofs.follow.Bits.{Shape, Pended, pended, pend-frame}
+use Rattle.finish_marking_laws.specs.Marking.{Shape}
+use Rattle.finish_marking_laws.proofs.follow.Bits.{Pended, pended, pend-frame}
 use Rattle.finish_marking_laws.proofs.seeds.Bared.{same-section}
 use Rattle.image_laws.specs.Bits.{clearStart}
 use Rattle.image_laws.specs.Digits.{markBit, startBit}

@@ -1,7 +1,7 @@
 use Rattle.image.specs.Layout.{width}
 use borrow.Author.Needs.{needs}
 use Rattle.image_laws.proofs.Lengths.{width-image}
-use Rattle.finish_marking_laws.proofs.follow.Searching.{pending-word}
+use Rattle.finish_marking_laws.proofs.follow.Settling.{pending-word}
 use native.Mathlib.Omega.{arith}
 use Rattle.finish_marking.proofs.follow.pending_word.Statement.{statement}
 use Rattle.finish_marking.proofs.follow.pending_word.Tie as tie
