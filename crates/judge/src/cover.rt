@@ -9,8 +9,10 @@ ghost use Rattle.image_laws.specs.Sized.{Sized};
 ghost use Rattle.soundness_laws.specs.Tests.{wordwise};
 ghost use Rattle.soundness_laws.specs.Sets.{EnteredSet};
 ghost use Rattle.judge_laws.specs.Order.{Coverable, handComes, cardComes, holds, owesHolding, plain, coming, late, objectCovered};
+ghost use Rattle.judge_laws.specs.Near.{MarkedStretch};
 ghost use Rattle.image.specs.Layout.{width};
 use image::layout::BITS;
+use image::layout::VALUES;
 use image::layout::Word;
 use soundness::sets::SEEN;
 
@@ -216,6 +218,9 @@ pub fn word_covered(im: &[Word], k: usize, entered: &[Word], w: usize) -> bool
     requires { ⌜ w < 64 * k / width ⌝ }
     ensures { λ r. ⌜ r ≡ wordwise width (objectCovered (imageOf width k (now (im .entry)))) w ⌝ }
 {
+    if image::cards::is_dirty(im, k, w / (64 / BITS)) {
+        return true;
+    }
     let mut ok = true;
     let mut left = image::sections::mark_word(im, k, w);
     while left != 0 {
@@ -226,16 +231,38 @@ pub fn word_covered(im: &[Word], k: usize, entered: &[Word], w: usize) -> bool
     ok
 }
 
+// word i, at the end of the stretch of marked granules that begins with word `from`
+pub fn stretch_covered(im: &[Word], k: usize, entered: &[Word], from: usize, i: usize) -> bool
+    requires { ⌜ Sized width k (now im) ⌝ }
+    requires { ⌜ Coverable k (imageOf width k (now im)) ⌝ }
+    requires { ⌜ EnteredSet width (imageOf width k (now im)) (now entered) ⌝ }
+    requires { ⌜ i < 64 * k / width ⌝ }
+    requires { ⌜ MarkedStretch width (imageOf width k (now im)) from (i + 1) ⌝ }
+    ensures { λ r. ⌜ r ≡ wordwise width (objectCovered (imageOf width k (now (im .entry)))) i ⌝ }
+{
+    if from <= i {
+        if crate::near::is_near(im, k, from, i) {
+            return true;
+        }
+    }
+    word_covered(im, k, entered, i)
+}
+
 pub fn all_covered(im: &[Word], k: usize, entered: &[Word]) -> bool
     requires { ⌜ Sized width k (now im) ⌝ }
     requires { ⌜ Coverable k (imageOf width k (now im)) ⌝ }
     requires { ⌜ EnteredSet width (imageOf width k (now im)) (now entered) ⌝ }
     ensures { λ r. ⌜ r ≡ cover (imageOf width k (now (im .entry))) ⌝ }
 {
+    let low = image::bits::is_marked(im, k, 1) & image::bits::is_marked(im, k, 2);
+    let mut from = 0;
     let mut ok = true;
     let mut i = 0;
     while i < 64 * k / BITS {
-        ok = ok & word_covered(im, k, entered, i);
+        if (!low) | (image::sections::mark_word(im, k, i) as usize != VALUES - 1) {
+            from = i + 1;
+        }
+        ok = ok & stretch_covered(im, k, entered, from, i);
         i += 1;
     }
     ok

@@ -41,7 +41,9 @@ module _ (m : Image) where
   unfoldable pub objectCovered : ℕ → Bool
   objectCovered g = implies (marked m g) (all (links m g) (covered m g))
 
--- the links of marked objects lie in the heap of k cards, and packets have no more entries than places
+-- the links of marked objects lie in the heap of k cards, there are at most two where the next granule is marked too, and packets have
+-- no more entries than places
 pub record Coverable (k : ℕ) (m : Image) : Type 0 where
   pub inside : (g : ℕ) → g < 64 * k → marked m g ≡ true → 4 * g + 2 + links m g ≤ 256 * k
+  pub two-links : (g : ℕ) → marked m g ≡ true → marked m (suc g) ≡ true → links m g ≤ 2
   pub packed : Packed m
