@@ -21,7 +21,7 @@ use Rattle.image_laws.proofs.Digits.{on-digit, bit-not, bit-none}
 use Rattle.image_laws.proofs.Lengths.{heap-words, sized-width}
 use Rattle.image_laws.proofs.Places.{words-full}
 use Rattle.soundness_laws.specs.Tests.{atWord, wordwise}
-use Rattle.judge_laws.specs.Order.{Coverable, plain, objectCovered}
+use Rattle.judge_laws.specs.Order.{Coverable, nilOrMarked, plain, objectCovered}
 use Rattle.judge_laws.specs.Near.{nearWord, MarkedStretch}
 use Rattle.judge_laws.proofs.Cover.{object-plain, mark-is}
 
@@ -103,7 +103,7 @@ module _ (w k : ℕ) (l : List ℕ) (z : Sized w k l) (c : Coverable k (imageOf 
           c .two-links (w * i + j) (here-marked j q) (rw e at (here-marked (suc j) (omega arith)))
 
   value-plain : (g p x : ℕ) → link (imageOf w k l) g p ≡ x → (x ≤ 2) ⊎ ((w * from ≤ x) × (x < w * i + w)) → plain (imageOf w k l) g p ≡ true
-  unfolding plain
+  unfolding plain nilOrMarked
   value-plain g p zero e o = some-make _ 0 (eq-eqb _ _ e)
   value-plain g p (suc zero) e o = some-make _ 1 (rw e (s .low (omega arith) .0))
   value-plain g p (suc (suc zero)) e o = some-make _ 1 (rw e (s .low (omega arith) .1))
