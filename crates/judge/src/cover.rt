@@ -3,14 +3,16 @@ ghost use mathlib.Core.Path.{_≡_};
 ghost use mathlib.Core.Bool.{true};
 ghost use Prim.Native.Nat.{_+_, _*_, _/_, _≤_, _<_, min};
 ghost use Rattle.model.specs.Base.{all, any};
-ghost use Rattle.model.specs.Image.{imageOf, marked};
+ghost use Rattle.model.specs.Image.{imageOf, marked, link};
 ghost use Rattle.model.specs.Undamaged.{cover};
 ghost use Rattle.image_laws.specs.Sized.{Sized};
 ghost use Rattle.soundness_laws.specs.Tests.{wordwise};
 ghost use Rattle.soundness_laws.specs.Sets.{EnteredSet};
-ghost use Rattle.judge_laws.specs.Order.{Coverable, handComes, cardComes, holds, owesHolding, plain, coming, late, objectCovered};
+ghost use Rattle.judge_laws.specs.Order.{Coverable, LinksBelow, handComes, cardComes, holds, owesHolding, nilOrMarked, plain, linkOrNil, coming, late, objectCovered};
+ghost use Rattle.judge_laws.specs.Near.{MarkedStretch};
 ghost use Rattle.image.specs.Layout.{width};
 use image::layout::BITS;
+use image::layout::VALUES;
 use image::layout::Word;
 use soundness::sets::SEEN;
 
@@ -131,28 +133,50 @@ pub fn is_coming(im: &[Word], k: usize, entered: &[Word], g: usize) -> bool
     granule_to_come(im, k, g)
 }
 
+pub fn is_nil_or_marked(im: &[Word], k: usize, a: usize) -> bool
+    requires { ⌜ Sized width k (now im) ⌝ }
+    requires { ⌜ a < 64 * k ⌝ }
+    ensures { λ r. ⌜ r ≡ nilOrMarked (imageOf width k (now (im .entry))) a ⌝ }
+{
+    (a == 0) | image::bits::is_marked(im, k, a)
+}
+
+// The image is sound, so a link is not asked to lie in the store.
 pub fn is_plain(im: &[Word], k: usize, g: usize, j: usize) -> bool
     requires { ⌜ Sized width k (now im) ⌝ }
     requires { ⌜ 4 * g + 2 + j < 256 * k ⌝ }
+    requires { ⌜ link (imageOf width k (now im)) g j < 64 * k ⌝ }
     ensures { λ r. ⌜ r ≡ plain (imageOf width k (now (im .entry))) g j ⌝ }
 {
+    is_nil_or_marked(im, k, image::sections::word(im, k, g, 2 + j) as usize)
+}
+
+pub fn link_or_nil(im: &[Word], k: usize, g: usize, n: usize, j: usize) -> usize
+    requires { ⌜ Sized width k (now im) ⌝ }
+    requires { ⌜ 4 * g + 2 + j < 256 * k ⌝ }
+    ensures { λ r. ⌜ r ≡ linkOrNil (imageOf width k (now (im .entry))) g n j ⌝ }
+{
     let a = image::sections::word(im, k, g, 2 + j) as usize;
-    (a == 0) | soundness::marks::marked_at(im, k, a)
+    if j < n { a } else { 0 }
 }
 
 // The first two words for links stand in every object: both are read, so that no branch hangs on how many links there are.
 pub fn first_plain(im: &[Word], k: usize, g: usize, n: usize) -> bool
     requires { ⌜ Sized width k (now im) ⌝ }
     requires { ⌜ g < 64 * k ⌝ }
+    requires { ⌜ LinksBelow k (imageOf width k (now im)) g n ⌝ }
     ensures { λ r. ⌜ r ≡ all (min 2 n) (plain (imageOf width k (now (im .entry))) g) ⌝ }
 {
-    ((n < 1) | is_plain(im, k, g, 0)) & ((n < 2) | is_plain(im, k, g, 1))
+    let a = link_or_nil(im, k, g, n, 0);
+    let b = link_or_nil(im, k, g, n, 1);
+    is_nil_or_marked(im, k, a) & is_nil_or_marked(im, k, b)
 }
 
 pub fn all_plain(im: &[Word], k: usize, g: usize, n: usize) -> bool
     requires { ⌜ Sized width k (now im) ⌝ }
     requires { ⌜ g < 64 * k ⌝ }
     requires { ⌜ 4 * g + 2 + n ≤ 256 * k ⌝ }
+    requires { ⌜ LinksBelow k (imageOf width k (now im)) g n ⌝ }
     ensures { λ r. ⌜ r ≡ all n (plain (imageOf width k (now (im .entry))) g) ⌝ }
 {
     let mut ok = first_plain(im, k, g, n);
@@ -167,6 +191,7 @@ pub fn all_plain(im: &[Word], k: usize, g: usize, n: usize) -> bool
 pub fn is_late(im: &[Word], k: usize, g: usize, j: usize) -> bool
     requires { ⌜ Sized width k (now im) ⌝ }
     requires { ⌜ 4 * g + 2 + j < 256 * k ⌝ }
+    requires { ⌜ link (imageOf width k (now im)) g j < 64 * k ⌝ }
     ensures { λ r. ⌜ r ≡ late (imageOf width k (now (im .entry))) g j ⌝ }
 {
     let a = image::sections::word(im, k, g, 2 + j) as usize;
@@ -179,6 +204,7 @@ pub fn is_late(im: &[Word], k: usize, g: usize, j: usize) -> bool
 pub fn all_late(im: &[Word], k: usize, g: usize, n: usize) -> bool
     requires { ⌜ Sized width k (now im) ⌝ }
     requires { ⌜ 4 * g + 2 + n ≤ 256 * k ⌝ }
+    requires { ⌜ LinksBelow k (imageOf width k (now im)) g n ⌝ }
     ensures { λ r. ⌜ r ≡ all n (late (imageOf width k (now (im .entry))) g) ⌝ }
 {
     let mut ok = true;
@@ -216,6 +242,9 @@ pub fn word_covered(im: &[Word], k: usize, entered: &[Word], w: usize) -> bool
     requires { ⌜ w < 64 * k / width ⌝ }
     ensures { λ r. ⌜ r ≡ wordwise width (objectCovered (imageOf width k (now (im .entry)))) w ⌝ }
 {
+    if image::cards::is_dirty(im, k, w / (64 / BITS)) {
+        return true;
+    }
     let mut ok = true;
     let mut left = image::sections::mark_word(im, k, w);
     while left != 0 {
@@ -226,16 +255,38 @@ pub fn word_covered(im: &[Word], k: usize, entered: &[Word], w: usize) -> bool
     ok
 }
 
+// word i, at the end of the stretch of marked granules that begins with word `from`
+pub fn stretch_covered(im: &[Word], k: usize, entered: &[Word], from: usize, i: usize) -> bool
+    requires { ⌜ Sized width k (now im) ⌝ }
+    requires { ⌜ Coverable k (imageOf width k (now im)) ⌝ }
+    requires { ⌜ EnteredSet width (imageOf width k (now im)) (now entered) ⌝ }
+    requires { ⌜ i < 64 * k / width ⌝ }
+    requires { ⌜ MarkedStretch width (imageOf width k (now im)) from (i + 1) ⌝ }
+    ensures { λ r. ⌜ r ≡ wordwise width (objectCovered (imageOf width k (now (im .entry)))) i ⌝ }
+{
+    if from <= i {
+        if crate::near::is_near(im, k, from, i) {
+            return true;
+        }
+    }
+    word_covered(im, k, entered, i)
+}
+
 pub fn all_covered(im: &[Word], k: usize, entered: &[Word]) -> bool
     requires { ⌜ Sized width k (now im) ⌝ }
     requires { ⌜ Coverable k (imageOf width k (now im)) ⌝ }
     requires { ⌜ EnteredSet width (imageOf width k (now im)) (now entered) ⌝ }
     ensures { λ r. ⌜ r ≡ cover (imageOf width k (now (im .entry))) ⌝ }
 {
+    let low = image::bits::is_marked(im, k, 1) & image::bits::is_marked(im, k, 2);
+    let mut from = 0;
     let mut ok = true;
     let mut i = 0;
     while i < 64 * k / BITS {
-        ok = ok & word_covered(im, k, entered, i);
+        if (!low) | (image::sections::mark_word(im, k, i) as usize != VALUES - 1) {
+            from = i + 1;
+        }
+        ok = ok & stretch_covered(im, k, entered, from, i);
         i += 1;
     }
     ok

@@ -2,25 +2,25 @@
 use mathlib.Core.Path.{_≡_, refl, sym, ap, _∙_}
 use mathlib.Core.Bool.{Bool, true, false, _&&_, _||_, and-true, and-assoc, or-false}
 use mathlib.Core.List.{List, [], _∷_}
-use Prim.Native.Nat.{ℕ, suc, _+_, _*_, _/_, _≤_, _<_, _^_}
+use Prim.Native.Nat.{ℕ, suc, _+_, _*_, _/_, _≤_, _<_, _^_, min}
 use native.Mathlib.Numerals.{add-one}
-use native.Mathlib.Decide.{ℕ-discrete}
+use native.Mathlib.Decide.{ℕ-discrete, decLt}
 use native.Mathlib.Omega.{arith}
 use lib.Count.{trailingZeros}
 use lib.Dec.{leb, eqb}
 use lib.ListN.{length}
-use borrow.Author.Tests.{eq-eqb, ne-eqb}
+use borrow.Author.Tests.{eq-eqb, ne-eqb, lt-ltb, le-ltb}
 use Rattle.model.specs.Base.{nth, all, any, every, some, implies, testBit, bit}
 use Rattle.model.specs.Image.{image, imageOf, word, marked, link, dirty, hand, nextLink, handCard, nextGranule, owed, Image, mostCards, links}
 use Rattle.model.specs.Undamaged.{linkToCome, granuleToCome, owedWith, covered, cover}
-use Rattle.model.proofs.Laws.{false≢, all-use, all-make}
-use Rattle.judge_laws.specs.Order.{handComes, cardComes, holds, owesHolding, plain, coming, late, objectCovered, Coverable}
+use Rattle.model.proofs.Laws.{false≢, all-use, all-make, imp-make, some-make}
+use Rattle.judge_laws.specs.Order.{handComes, cardComes, holds, owesHolding, nilOrMarked, plain, linkOrNil, coming, late, objectCovered, LinksBelow, Coverable}
 use Rattle.image_laws.specs.Bits.{withoutBit}
 use Rattle.image_laws.specs.Sized.{Sized}
 use Rattle.image_laws.proofs.Bits.{bit-at, zero-bit}
 use Rattle.image_laws.proofs.Masks.{withoutBit-same, withoutBit-less, withoutBit-other}
 use Rattle.image_laws.proofs.Parts.{all-cong}
-use Rattle.image_laws.proofs.Places.{place-in, word-in, words-full}
+use Rattle.image_laws.proofs.Places.{place-in, word-in, words-full, by-width}
 use Rattle.image_laws.proofs.Trailing.{Lowest, word-lowest}
 use Rattle.soundness_laws.specs.Sets.{EnteredSet}
 use Rattle.soundness_laws.specs.Tests.{atWord, wordwise}
@@ -56,27 +56,34 @@ late-some false false false true h c o q = false≢ (sym q)
 late-some false false false false h true o q = false≢ (sym q)
 late-some false false false false h false o q = refl
 
+-- ---- objects that are covered, marked or not
+
+pub object-plain : (m : Image) (g : ℕ) → all (links m g) (plain m g) ≡ true → objectCovered m g ≡ true
+unfolding objectCovered covered plain nilOrMarked
+object-plain m g e = imp-make (marked m g) _ (λ _. all-make (links m g) _ (λ i q. plain-some _ _ _ _ _ _ _ (all-use (links m g) _ e i q)))
+
+object-coming : (m : Image) (g : ℕ) → coming m g ≡ true → objectCovered m g ≡ true
+unfolding objectCovered covered coming
+object-coming m g e = imp-make (marked m g) _ (λ _. all-make (links m g) _ (λ i q. coming-some _ _ _ _ _ _ _ e))
+
 -- ---- the ways out of `object_covered`
 
 module _ (m : Image) (g : ℕ) (mg : marked m g ≡ true) (n : ℕ) (en : n ≡ links m g) where
-  is-all : objectCovered m g ≡ all n (covered m g)
-  unfolding objectCovered implies
-  is-all = rw (mg, en)
-
   pub inside-of : (k : ℕ) → Coverable k m → g < 64 * k → 4 * g + 2 + n ≤ 256 * k
   inside-of k r h = rw en (r .inside g h mg)
 
+  pub below-of : (k : ℕ) → Coverable k m → LinksBelow k m g n
+  below-of k r = rw en (r .below g mg)
+
   pub cov-plain : (r : Bool) → r ≡ all n (plain m g) → r ≡ true → true ≡ objectCovered m g
-  unfolding covered plain
-  cov-plain r e h = rw is-all (sym (all-make n _ (λ i q. plain-some _ _ _ _ _ _ _ (all-use n _ (sym e ∙ h) i q))))
+  cov-plain r e h = sym (object-plain m g (rw en at (sym e ∙ h)))
 
   pub cov-coming : (d : Bool) → d ≡ coming m g → d ≡ true → true ≡ objectCovered m g
-  unfolding covered coming
-  cov-coming d e h = rw is-all (sym (all-make n _ (λ i q. coming-some _ _ _ _ _ _ _ (sym e ∙ h))))
+  cov-coming d e h = sym (object-coming m g (sym e ∙ h))
 
   pub cov-late : (d r : Bool) → d ≡ coming m g → d ≡ false → r ≡ all n (late m g) → r ≡ objectCovered m g
-  unfolding covered coming late plain
-  cov-late d r e h q = rw is-all (q ∙ all-cong n _ _ (λ i v. late-some _ _ _ _ _ _ _ (sym e ∙ h)))
+  unfolding objectCovered implies covered coming late plain nilOrMarked
+  cov-late d r e h q = rw (mg, ← en) (q ∙ all-cong n _ _ (λ i v. late-some _ _ _ _ _ _ _ (sym e ∙ h)))
 
 -- ---- the marked objects of a word
 
@@ -89,6 +96,9 @@ unfolding implies
 twice true b = refl
 twice false b = refl
 
+word-card : (w i j : ℕ) → (w ≡ 16) ⊎ (w ≡ 32) → j < w → (w * i + j) / 64 ≡ i / (64 / w)
+word-card w i j o = by-width (λ w. j < w → (w * i + j) / 64 ≡ i / (64 / w)) (λ h. omega arith) (λ h. omega arith) o
+
 -- `ok` says whether the objects taken from word i are covered; those left are the bits of x
 pub record Taken (w k : ℕ) (l : List ℕ) (i : ℕ) (ok : Bool) (x : ℕ) : Type 0 where
   pub small : x < 2 ^ w
@@ -96,9 +106,14 @@ pub record Taken (w k : ℕ) (l : List ℕ) (i : ℕ) (ok : Bool) (x : ℕ) : Ty
   pub so-far : (ok && all w (leftOk w (objectCovered (imageOf w k l)) i x)) ≡ wordwise w (objectCovered (imageOf w k l)) i
 
 module _ (w k : ℕ) (l : List ℕ) (z : Sized w k l) (i x : ℕ) where
-  mark-is : x ≡ nth (imageOf w k l .marks) i → (j : ℕ) → j < w → testBit x j ≡ marked (imageOf w k l) (w * i + j)
+  pub mark-is : x ≡ nth (imageOf w k l .marks) i → (j : ℕ) → j < w → testBit x j ≡ marked (imageOf w k l) (w * i + j)
   unfolding marked imageOf image
   mark-is e j h = rw (bit-at w (imageOf w k l .marks) i j h, e)
+
+  -- a dirty card covers all its objects
+  pub word-dirty : (d : Bool) → d ≡ dirty (imageOf w k l) (i / (64 / w)) → d ≡ true → true ≡ wordwise w (objectCovered (imageOf w k l)) i
+  unfolding wordwise atWord coming
+  word-dirty d e h = sym (all-make w _ (λ j q. object-coming (imageOf w k l) (w * i + j) (some-make _ 0 (rw (word-card w i j (sized-width z) q) (sym e ∙ h)))))
 
   pub taken-none : x < 2 ^ w → x ≡ nth (imageOf w k l .marks) i → Taken w k l i true x
   unfolding leftOk wordwise atWord objectCovered
@@ -181,9 +196,54 @@ module _ (m : Image) where
 
   -- ---- one link
 
-  pub plain-is : (g j a : ℕ) (t : Bool) → a ≡ word m g (2 + j) → t ≡ marked m a → (eqb a 0 || t) ≡ plain m g j
-  unfolding plain some link
-  plain-is g j a t ea et = rw (← ea, ← et, or-false)
+  pub nil-or-marked : (a : ℕ) (t : Bool) → t ≡ marked m a → (eqb a 0 || t) ≡ nilOrMarked m a
+  unfolding nilOrMarked some
+  nil-or-marked a t e = rw (← e, or-false)
+
+  pub plain-is : (g j a : ℕ) (t : Bool) → a ≡ word m g (2 + j) → t ≡ nilOrMarked m a → t ≡ plain m g j
+  unfolding plain link
+  plain-is g j a t ea et = rw (← ea) et
+
+  pub link-below : (k g j a : ℕ) → a ≡ word m g (2 + j) → link m g j < 64 * k → a < 64 * k
+  unfolding link
+  link-below k g j a e h = rw e h
+
+  pub below-at : (k g n i : ℕ) → LinksBelow k m g n → i < n → link m g i < 64 * k
+  below-at k g n i r h = r .below i h
+
+  -- the first two words for links, of which n are links
+
+  module _ (g n j a : ℕ) (e : a ≡ word m g (2 + j)) where
+    pub link-there : j < n → a ≡ linkOrNil m g n j
+    unfolding linkOrNil link
+    link-there h = rw (lt-ltb j n h) e
+
+    pub link-none : n ≤ j → 0 ≡ linkOrNil m g n j
+    unfolding linkOrNil
+    link-none h = rw (le-ltb j n h)
+
+  nil-plain : nilOrMarked m 0 ≡ true
+  unfolding nilOrMarked some
+  nil-plain = refl
+
+  pub first-plain : (g n : ℕ) (a b : Bool) → a ≡ nilOrMarked m (linkOrNil m g n 0) → b ≡ nilOrMarked m (linkOrNil m g n 1) → (a && b) ≡ all (min 2 n) (plain m g)
+  unfolding all plain linkOrNil
+  first-plain g n a b ea eb = rw (ea, eb) (go (decLt n 1) (decLt n 2))
+    where
+      go : Dec (n < 1) → Dec (n < 2) → (nilOrMarked m (linkOrNil m g n 0) && nilOrMarked m (linkOrNil m g n 1)) ≡ all (min 2 n) (plain m g)
+      go (yes h) d = let e : n ≡ 0 = omega arith in rw (e, nil-plain)
+      go (no h) (yes d) = let e : n ≡ 1 = omega arith in rw (e, nil-plain) (and-true _)
+      go (no h) (no d) =
+          let e : min 2 n ≡ 2 = omega arith in
+          rw (e, lt-ltb 0 n (omega arith), lt-ltb 1 n (omega arith))
+
+  pub below-nil : (k g n j a : ℕ) → LinksBelow k m g n → 1 ≤ k → a ≡ linkOrNil m g n j → a < 64 * k
+  unfolding linkOrNil
+  below-nil k g n j a r h e = rw e (go (decLt j n))
+    where
+      go : Dec (j < n) → linkOrNil m g n j < 64 * k
+      go (yes q) = rw (lt-ltb j n q) (r .below j q)
+      go (no q) = rw (le-ltb j n (omega arith)) (omega arith)
 
   module _ (g j : ℕ) (t : Bool) (e : t ≡ plain m g j) where
     pub late-plain : t ≡ true → true ≡ late m g j

@@ -1,2 +1,3 @@
 pub mod Cover
+pub mod Near
 pub mod Verdict

@@ -2,41 +2,55 @@
 use mathlib.Core.Path.{_≡_, sym, _∙_}
 use mathlib.Core.Bool.{Bool, true, false, not, and-true}
 use mathlib.Core.List.{List, [], _∷_}
-use Prim.Native.Nat.{ℕ, zero, suc, _*_, _≤_, _<_}
+use Prim.Native.Nat.{ℕ, suc, _*_, _<_}
+use native.Mathlib.Decide.{ℕ-discrete}
 use native.Mathlib.Omega.{arith}
 use lib.ListN.{length}
 use borrow.Author.Tests.{eq-eqb, not-true, not-false}
 use Rattle.model.specs.Base.{every, implies, first}
-use Rattle.model.specs.Image.{image, imageOf, granules, isStart, marked, firstRun, running}
-use Rattle.model.specs.Undamaged.{zeroGranule, filled, markOk, idleOk, sound, cover, undamaged, judgeAt}
-use Rattle.model.proofs.Laws.{false≢, all-use, all-make, every-use, imp-use}
+use Rattle.model.specs.Image.{imageOf, granules, marked, links, link, running}
+use Rattle.model.specs.Undamaged.{idleOk, sound, cover, undamaged, judgeAt}
+use Rattle.model.proofs.Laws.{all-make, every-use, imp-use}
 use Rattle.image_laws.specs.Size.{extentOf}
 use Rattle.image_laws.specs.declared.Extent.{Extent}
 use Rattle.image_laws.specs.declared.Extent.the-variants.{Cards, Misfit}
 use Rattle.judge_laws.specs.Order.{Coverable}
 use Rattle.image_laws.specs.Sized.{Sized}
+use Rattle.image_laws.proofs.Sections.{image-fits, granules-image}
 use Rattle.image_laws.proofs.Size.{misfit-fits, cards-fits, cards-sized, cards-parts}
-use Rattle.soundness_laws.proofs.Heap.{object-room, starts-ok}
+use Rattle.theory.specs.Heap.{Laid}
+use Rattle.theory.specs.Lines.{Lines}
+use Rattle.theory.proofs.heap.Facts.{heap-filled-of, laid-of, proper-of}
+use Rattle.theory.proofs.lines.Judged.{sound-use}
+use Rattle.theory.proofs.lines.Sizes.{fits-sizes}
 use Rattle.soundness_laws.proofs.Lines.{no-mark}
 use Rattle.soundness_laws.proofs.Packets.{all-packets, packed}
 
 module _ (w k : ℕ) (l : List ℕ) (z : Sized w k l) where
   -- ---- what soundness gives
 
-  past : (g : ℕ) → zeroGranule (imageOf w k l) ≡ true → isStart (imageOf w k l) g ≡ true → 1 ≤ g
-  unfolding zeroGranule
-  past zero e s = false≢ (sym (not-true _ (every-use _ e 1)) ∙ s)
-  past (suc g) e s = omega arith
+  module _ (e : sound (imageOf w k l) ≡ true) where
+    o : Lines (imageOf w k l)
+    o = sound-use (imageOf w k l) (fits-sizes _ (image-fits z)) e .lines
 
-  ready : sound (imageOf w k l) ≡ true → Coverable k (imageOf w k l)
-  unfolding sound filled markOk granules imageOf image
-  ready e =
-      let u = every-use _ e in
-      let st : (g : ℕ) → g < 64 * k → marked (imageOf w k l) g ≡ true → isStart (imageOf w k l) g ≡ true = λ g h q. imp-use _ _ (all-use (64 * k) _ (u 7) g h) q in
-      record {
-        inside = λ g h q. object-room w k l z g h (starts-ok w k l z (64 * k) 1 (firstRun (imageOf w k l)) false (u 1) g (past g (u 0) (st g h q)) h (st g h q));
-        packed = packed w k l z (sym (all-packets w k l z) ∙ u 8);
-      }
+    d : Laid (imageOf w k l)
+    d = laid-of o
+
+    below : (g : ℕ) → marked (imageOf w k l) g ≡ true → (i : ℕ) → i < links (imageOf w k l) g → link (imageOf w k l) g i < 64 * k
+    below g q i h = go (ℕ-discrete (link (imageOf w k l) g i) 0)
+      where
+        go : Dec (link (imageOf w k l) g i ≡ 0) → link (imageOf w k l) g i < 64 * k
+        go (yes n) = omega (arith, z .low)
+        go (no n) = omega (arith, heap-filled-of o .start-range _ (proper-of o .link-start g i (d .marks-start g q) h n), granules-image w k l)
+
+    ready : Coverable k (imageOf w k l)
+    unfolding sound
+    ready = record {
+      inside = λ g h q. omega (arith, d .inside g (d .marks-start g q), granules-image w k l);
+      below = λ g q. record { below = below g q };
+      two-links = λ g q r. omega (arith, d .inside g (d .marks-start g q), d .apart g (suc g) (d .marks-start g q) (d .marks-start (suc g) r) (omega arith));
+      packed = packed w k l z (sym (all-packets w k l z) ∙ every-use _ e 8);
+    }
 
   -- ---- the ways out of `is_undamaged`
 
