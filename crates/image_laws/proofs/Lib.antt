@@ -13,3 +13,4 @@ pub mod Cards
 pub mod Words
 pub mod Lengths
 pub mod Loops
+pub mod Compare

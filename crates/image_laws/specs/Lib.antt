@@ -6,3 +6,4 @@ pub mod Fresh
 pub mod Parts
 pub mod Digits
 pub mod Result
+pub mod Compare
