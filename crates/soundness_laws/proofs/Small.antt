@@ -165,8 +165,8 @@ module _ (w k : ℕ) (l set bs : List ℕ) (z : Sized w k l) (t : Targets w (ima
           link-low (suc zero) q = low-target w k l z set t _ (word-between 3 (omega arith) .1)
           link-low (suc (suc i)) q = absurd (omega arith)
 
-    pub word-small : within lows highs words ≡ true → SmallFrom (imageOf w k l) a (a - c + w)
-    word-small h = record { small = λ g p q. let e : a + (g - a) ≡ g = omega arith in rw e at (bounded-small h (g - a) (omega arith)) }
+    pub word-small : (r : Bool) → r ≡ within lows highs words → r ≡ true → SmallFrom (imageOf w k l) a (a - c + w)
+    word-small r e h = record { small = λ g p q. let o : a + (g - a) ≡ g = omega arith in rw o at (bounded-small (sym e ∙ h) (g - a) (omega arith)) }
 
 -- ---- bit words one after the other
 

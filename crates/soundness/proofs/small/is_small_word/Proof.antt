@@ -3,7 +3,6 @@ use Rattle.image.specs.Layout.{width}
 use Rattle.soundness_laws.proofs.Sets.{full-inside}
 use Rattle.soundness_laws.proofs.Small.{all-small, word-fits, word-small}
 use Prim.Native.Nat.{_%_}
-use mathlib.Core.Path.{sym, _∙_}
 use native.Mathlib.Omega.{arith}
 use Rattle.soundness.proofs.small.is_small_word.Statement.{statement}
 use Rattle.soundness.proofs.small.is_small_word.Tie as tie
@@ -21,7 +20,7 @@ heap-within-requires : tie.Need-heap-within-requires
 heap-within-requires c κs = let S = c .before .before .before .before .before in (S .pre .0, ((omega arith, omega (arith, full-inside width _ _ (S .pre .0) _ (S .pre .1 .0))), word-fits width _ _ _ _ (S .pre .0) (S .pre .1 .0) (S .pre .1 .1 .0) (S .args .a) (S .args .a % width) (omega arith) (omega arith) (omega (arith, full-inside width _ _ (S .pre .0) _ (S .pre .1 .0)))))
 
 returns : tie.Need-returns
-returns c = let S = c .before .before .before .before .before .before .before in λ _. word-small width _ _ _ _ (S .pre .0) (S .pre .1 .0) (S .pre .1 .1 .0) (S .args .a) (S .args .a % width) (omega arith) (omega arith) (omega (arith, full-inside width _ _ (S .pre .0) _ (S .pre .1 .0))) (sym (c .before .heap-within .ensures) ∙ c .if1 .taken)
+returns c = let S = c .before .before .before .before .before .before .before in λ _. word-small width _ _ _ _ (S .pre .0) (S .pre .1 .0) (S .pre .1 .1 .0) (S .args .a) (S .args .a % width) (omega arith) (omega arith) (omega (arith, full-inside width _ _ (S .pre .0) _ (S .pre .1 .0))) _ (c .before .heap-within .ensures) (c .if1 .taken)
 
 all-small-requires : tie.Need-all-small-requires
 all-small-requires c κs = let S = c .before .before .before .before .before .before .before in (S .pre .0, (S .pre .1 .0, omega (arith, full-inside width _ _ (S .pre .0) _ (S .pre .1 .0))))
