@@ -8,6 +8,7 @@ ghost use Rattle.model.specs.Undamaged.{regOk, linksOk, zeroGranule, filled};
 ghost use Rattle.image_laws.specs.Sized.{Sized};
 ghost use Rattle.image_laws.specs.Digits.{digit};
 ghost use Rattle.soundness_laws.specs.Sets.{Targets};
+ghost use Rattle.soundness_laws.specs.Small.{SmallUpto};
 ghost use Rattle.image.specs.Layout.{width, most};
 ghost use Rattle.soundness_laws.specs.Tests.{LinksInside, linkOk, objectOk, runOk, pieceOk, nextRun};
 use image::layout::Word;
@@ -28,6 +29,9 @@ pub fn regs_ok(im: &[Word], k: usize, targets: &[Word]) -> bool
     requires { ⌜ Targets width (imageOf width k (now im)) (now targets) ⌝ }
     ensures { λ r. ⌜ r ≡ all 256 (regOk (imageOf width k (now (im .entry)))) ⌝ }
 {
+    if crate::small::low_regs(im, k, targets) {
+        return true;
+    }
     let mut ok = true;
     let mut i = 0;
     while i < 256 {
@@ -150,17 +154,18 @@ fn one_more(seen: usize, object: bool) -> usize
 }
 
 // That no start lies inside a piece is told at the end: then there are as many starts as objects.
-pub fn walk(im: &[Word], k: usize, targets: &[Word], first: usize) -> bool
+pub fn walk(im: &[Word], k: usize, targets: &[Word], from: usize, first: usize) -> bool
     requires { ⌜ Sized width k (now im) ⌝ }
     requires { ⌜ Targets width (imageOf width k (now im)) (now targets) ⌝ }
     requires { ⌜ first ≡ firstRun (imageOf width k (now im)) ⌝ }
     requires { ⌜ isStart (imageOf width k (now im)) 0 ≡ false ⌝ }
+    requires { ⌜ SmallUpto k (imageOf width k (now im)) from ⌝ }
     ensures { λ r. ⌜ r ≡ (filled (imageOf width k (now (im .entry))) && all (granules (imageOf width k (now (im .entry)))) (linksOk (imageOf width k (now (im .entry))))) ⌝ }
 {
-    let mut g = 1;
+    let mut g = from;
     let mut next = first;
     let mut run = false;
-    let mut seen = 0;
+    let mut seen = from - 1;
     while g < 64 * k {
         let object = image::bits::is_start(im, k, g);
         if !piece_ok(im, k, g, object, next, run) {
@@ -194,5 +199,12 @@ pub fn heap_ok(im: &[Word], k: usize, targets: &[Word]) -> bool
     if !first_unused(im, k) {
         return false;
     }
-    walk(im, k, targets, image::sections::first_run(im, k) as usize)
+    let from = crate::small::after_small(im, k, targets);
+    walk(
+        im,
+        k,
+        targets,
+        from,
+        image::sections::first_run(im, k) as usize,
+    )
 }

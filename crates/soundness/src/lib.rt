@@ -15,6 +15,7 @@ pub mod heap; // heap.rt: objects and runs fill the heap; links and registers ar
 pub mod marks; // marks.rt: marks stand only on starts
 pub mod packets; // packets.rt: packets, and no object entered twice
 pub mod sets; // sets.rt: sets of granules in local tables
+pub mod small; // small.rt: objects of one granule, side by side
 pub mod starts; // starts.rt: starts counted
 
 pub fn least(a: usize, b: usize) -> usize

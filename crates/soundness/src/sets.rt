@@ -7,10 +7,11 @@ ghost use Rattle.model.specs.Base.{bit, setBit};
 ghost use Rattle.model.specs.Image.{imageOf};
 ghost use Rattle.model.specs.Undamaged.{nilOrStart};
 ghost use Rattle.image_laws.specs.Sized.{Sized};
-ghost use Rattle.soundness_laws.specs.Sets.{Targets};
+ghost use Rattle.soundness_laws.specs.Sets.{Targets, fullWords};
 ghost use Rattle.image.specs.Layout.{width};
 use image::layout::BITS;
 use image::layout::MOST_CARDS;
+use image::layout::VALUES;
 use image::layout::Word;
 
 // Words of a set with a bit for every granule of any store.
@@ -66,4 +67,18 @@ pub fn is_target(im: &[Word], k: usize, targets: &[Word], a: usize) -> bool
         return image::bits::is_start(im, k, a);
     }
     false
+}
+
+// How many words of the set are full, from the first on.
+pub fn full_words(set: &[Word]) -> usize
+    ensures { λ r. ⌜ r ≡ fullWords width (now (set .entry)) ⌝ }
+{
+    let mut i = 0;
+    while i < set.len() {
+        if set[i] as usize != VALUES - 1 {
+            return i;
+        }
+        i += 1;
+    }
+    i
 }

@@ -10,6 +10,8 @@ use lib.Dec.{ltb}
 use borrow.Author.Tests.{le-ltb, lt-ltb}
 use Rattle.model.specs.Base.{all, any, every}
 use Rattle.image_laws.proofs.Parts.{all-cong}
+use Rattle.model.proofs.Laws.{all-use}
+use Rattle.soundness_laws.specs.Tests.{onward}
 use mathlib.Core.List.{[], _∷_}
 
 -- ---- `ok` says whether all below i pass
@@ -43,6 +45,32 @@ checked-more n p ok i t s h e = rw add-one (record { within = omega arith; so-fa
 
 pub checked-end : (n : ℕ) (p : ℕ → Bool) (ok : Bool) (i : ℕ) → Checked n p ok i → n ≤ i → ok ≡ all n p
 checked-end n p ok i s h = let e : i ≡ n = omega (arith, s .within) in rw e at (s .so-far)
+
+-- ---- the same from a to e - 1
+
+pub record CheckedFrom (a e : ℕ) (p : ℕ → Bool) (ok : Bool) (g : ℕ) : Type 0 where
+  pub low : a ≤ g
+  pub passed : Checked (e - a) (onward a p) ok (g - a)
+
+module _ (a e : ℕ) (p : ℕ → Bool) where
+  pub from-none : CheckedFrom a e p true a
+  from-none = let o : a - a ≡ 0 = omega arith in record { low = omega arith; passed = rw o checked-none }
+
+  module _ (ok : Bool) (g : ℕ) (s : CheckedFrom a e p ok g) where
+    pub from-more : (t : Bool) → g < e → t ≡ p g → CheckedFrom a e p (ok && t) (g + 1)
+    unfolding onward
+    from-more t h q =
+        let low : a ≤ g = s .low in
+        let o : g + 1 - a ≡ g - a + 1 = omega arith in
+        let i : a + (g - a) ≡ g = omega arith in
+        record { low = omega arith; passed = rw o (checked-more (e - a) (onward a p) ok (g - a) t (s .passed) (omega arith) (rw i q)) }
+
+    pub from-end : e ≤ g → ok ≡ all (e - a) (onward a p)
+    from-end h = checked-end (e - a) (onward a p) ok (g - a) (s .passed) (omega arith)
+
+pub from-use : (a e : ℕ) (p : ℕ → Bool) → all (e - a) (onward a p) ≡ true → (g : ℕ) → a ≤ g → g < e → p g ≡ true
+unfolding onward
+from-use a e p h g l q = let i : a + (g - a) ≡ g = omega arith in rw i at (all-use (e - a) (onward a p) h (g - a) (omega arith))
 
 -- ---- `found` says whether some below i passes
 

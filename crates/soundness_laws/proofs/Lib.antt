@@ -7,3 +7,4 @@ pub mod Heap
 pub mod Packets
 pub mod Hands
 pub mod Lines
+pub mod Small

@@ -37,7 +37,7 @@ head-use k g s n h =
     let c = and-split _ _ (b .0) in
     record { pos = leb-true _ _ (c .0); few = leb-true _ _ (c .1); inside = leb-true _ _ (b .1); links-in = leb-true _ _ (a .1) }
 
-head-make : (k g s n : ℕ) → Head k g s n → headOk k g s n ≡ true
+pub head-make : (k g s n : ℕ) → Head k g s n → headOk k g s n ≡ true
 head-make k g s n h = and-join _ _ (and-join _ _ (and-join _ _ (le-leb _ _ (h .pos)) (le-leb _ _ (h .few))) (le-leb _ _ (h .inside))) (le-leb _ _ (h .links-in))
 
 record RunHead (k g next : ℕ) (run : Bool) (s : ℕ) : Type 0 where

@@ -2,24 +2,28 @@
 use mathlib.Core.Path.{_≡_, refl, sym, ap, _∙_}
 use mathlib.Core.Bool.{Bool, true, false, not, _&&_, _||_, and-true, and-assoc, and-false, or-true, or-false, or-assoc}
 use mathlib.Core.List.{List, [], _∷_, _++_, append-assoc, append-nil}
-use Prim.Native.Nat.{ℕ, _+_, _*_, _/_, _<_, _%_, _^_, _≤_, min}
+use Prim.Native.Nat.{ℕ, zero, suc, _+_, _*_, _-_, _/_, _<_, _%_, _^_, _≤_, min}
 use native.Mathlib.Decide.{ℕ-discrete, decLt}
 use native.Mathlib.Omega.{arith}
 use lib.Dec.{eqb}
-use lib.ListN.{length, replicate, length-replicate}
-use borrow.Author.Tests.{eq-eqb, ne-eqb}
-use Rattle.model.specs.Base.{nth, elem, distinct, bit, setBit, put, either, testBit, withBit}
-use Rattle.model.specs.Image.{Image, entries, image, imageOf, granules, isStart}
-use Rattle.model.specs.Undamaged.{entered, nilOrStart}
-use Rattle.model.proofs.Laws.{length-put, nth-replicate, nth-put-same, nth-put-other}
+use lib.ListN.{length, getD, replicate, length-replicate}
+use borrow.Author.Tests.{eq-eqb, ne-eqb, ltb-true, leb-true}
+use Rattle.model.specs.Base.{nth, all, elem, distinct, bit, setBit, put, either, testBit, withBit}
+use Rattle.model.specs.Image.{Image, regsAt, sections, entries, image, imageOf, granules, isStart}
+use Rattle.model.specs.Undamaged.{entered, nilOrStart, regOk}
+use Rattle.image_laws.specs.Compare.{noMore, atMost}
+use Rattle.model.proofs.Laws.{either-no, every-use, all-use, all-make, length-put, nth-replicate, nth-put-same, nth-put-other}
 use Rattle.model.proofs.Bits.{setBit-same, setBit-other, bit-zeros}
-use Rattle.soundness_laws.specs.Sets.{Targets, setWords, noneIn, AddedOnce, EnteredSet}
+use Rattle.soundness_laws.specs.Sets.{Targets, fullAnd, fullWords, lastFull, setWords, noneIn, AddedOnce, EnteredSet}
 use Rattle.image_laws.specs.Sized.{Sized}
 use Rattle.image_laws.proofs.Bits.{start-past}
 use Rattle.image_laws.proofs.Places.{words-full}
-use native.Mathlib.Nat.{mul-comm, zero-mod, mul-le-mul-left, zero-div, div-mul-le-self}
+use native.Mathlib.Nat.{mul-comm, zero-mul, zero-mod, mod-lt, mul-le-mul-left, zero-div, div-mul-le-self, div-lt-iff-lt-mul}
+use lib.Pow.{pow-pos}
+use Rattle.image_laws.proofs.Digits.{on-digit, bit-not, bit-none}
 use Rattle.soundness_laws.proofs.Checks.{test-inside}
 use Rattle.image_laws.proofs.Lengths.{sized-width}
+use Rattle.image_laws.proofs.Sections.{image-fits}
 
 -- ---- the values that a link may name
 
@@ -103,6 +107,110 @@ module _ (w k : ℕ) (l : List ℕ) (z : Sized w k l) where
 
 pub target-word : (m : Image) (a v : ℕ) (r : Bool) → v ≡ a → r ≡ nilOrStart m v → r ≡ nilOrStart m a
 target-word m a v r e q = q ∙ ap (nilOrStart m) e
+
+-- ---- the words that are full, from the first on
+
+-- so are the first i
+pub record FullUpto (w : ℕ) (set : List ℕ) (i : ℕ) : Type 0 where
+  pub within : i ≤ length set
+  pub full : (j : ℕ) → j < i → nth set j ≡ 2 ^ w - 1
+
+pub some-width : (w n g : ℕ) → g < w * n → 0 < w
+some-width zero n g h = absurd (omega (arith, zero-mul n))
+some-width (suc w) n g h = omega arith
+
+module _ (w : ℕ) where
+  pub full-none : (set : List ℕ) → FullUpto w set 0
+  full-none set = record { within = omega arith; full = λ j h. absurd (omega arith) }
+
+  full-is : (set : List ℕ) (i : ℕ) → FullUpto w set i → (i < length set → nth set i ≡ 2 ^ w - 1 → ⊥) → i ≡ fullWords w set
+  unfolding fullWords fullAnd nth
+  full-is [] i f s = omega (arith, f .within)
+  full-is (x ∷ l) zero f s = rw (ne-eqb x (2 ^ w - 1) (s (omega arith)))
+  full-is (x ∷ l) (suc i) f s =
+      rw (eq-eqb x (2 ^ w - 1) (f .full 0 (omega arith)))
+      (ap suc (full-is l i (record { within = omega (arith, f .within); full = λ j h. f .full (suc j) (omega arith) }) (λ h. s (omega arith))))
+
+  module _ (set : List ℕ) (i : ℕ) (f : FullUpto w set i) where
+    pub full-more : i < length set → nth set i ≡ 2 ^ w - 1 → FullUpto w set (i + 1)
+    full-more h e = record { within = omega arith; full = λ j q. go j q (ℕ-discrete j i) }
+      where
+        go : (j : ℕ) → j < i + 1 → Dec (j ≡ i) → nth set j ≡ 2 ^ w - 1
+        go j q (yes o) = rw o e
+        go j q (no o) = f .full j (omega arith)
+
+    pub full-stop : (nth set i ≡ 2 ^ w - 1 → ⊥) → i ≡ fullWords w set
+    full-stop s = full-is set i f (λ h. s)
+
+    pub full-end : length set ≤ i → i ≡ fullWords w set
+    full-end h = full-is set i f (λ l. absurd (omega arith))
+
+  pub full-few : (set : List ℕ) → fullWords w set ≤ length set
+  unfolding fullWords fullAnd
+  full-few [] = omega arith
+  full-few (x ∷ l) = go (eqb x (2 ^ w - 1)) (full-few l)
+    where
+      go : (b : Bool) → fullWords w l ≤ length l → fullAnd b (fullWords w l) ≤ length (x ∷ l)
+      go true h = omega arith
+      go false h = omega arith
+
+  full-word : (set : List ℕ) (j : ℕ) → j < fullWords w set → nth set j ≡ 2 ^ w - 1
+  unfolding fullWords fullAnd nth
+  full-word [] j h = absurd (omega arith)
+  full-word (x ∷ l) j h = go j (ℕ-discrete x (2 ^ w - 1)) h (full-word l)
+    where
+      go : (j : ℕ) → Dec (x ≡ 2 ^ w - 1) → j < fullAnd (eqb x (2 ^ w - 1)) (fullWords w l) → ((i : ℕ) → i < fullWords w l → nth l i ≡ 2 ^ w - 1) → nth (x ∷ l) j ≡ 2 ^ w - 1
+      go zero (yes e) h ih = e
+      go (suc j) (yes e) h ih = ih j (omega (arith, rw (eq-eqb x (2 ^ w - 1) e) at h))
+      go j (no e) h ih = absurd (omega (arith, rw (ne-eqb x (2 ^ w - 1) e) at h))
+
+  ones-bit : (j : ℕ) → j < w → testBit (2 ^ w - 1) j ≡ true
+  ones-bit j h = on-digit _ (omega (arith, bit-not w 0 (2 ^ w - 1) j (omega (arith, pow-pos w)) h, bit-none j))
+
+  pub full-place : (set : List ℕ) (g : ℕ) → g < w * fullWords w set → g / w < fullWords w set
+  full-place set g h = div-lt-iff-lt-mul (some-width w (fullWords w set) g h) .1 (rw (mul-comm (fullWords w set) w) h)
+
+  full-bit : (set : List ℕ) (g : ℕ) → g < w * fullWords w set → bit w set g ≡ true
+  unfolding bit
+  full-bit set g h = rw (full-word set (g / w) (full-place set g h)) (ones-bit (g % w) (mod-lt g (some-width w (fullWords w set) g h)))
+
+-- ---- what the full words of the targets tell: their values are nil or starts
+
+module _ (w k : ℕ) (l : List ℕ) (z : Sized w k l) (set : List ℕ) (t : Targets w (imageOf w k l) set) where
+  pub last-small : w * fullWords w set ≤ w * 4096
+  last-small = mul-le-mul-left w (omega (arith, full-few w set, t .long))
+
+  pub low-target : (a : ℕ) → a ≤ lastFull w set → nilOrStart (imageOf w k l) a ≡ true
+  unfolding nilOrStart either
+  low-target a h = go (ℕ-discrete a 0)
+    where
+      go : Dec (a ≡ 0) → nilOrStart (imageOf w k l) a ≡ true
+      go (yes e) = rw e refl
+      go (no e) =
+          let q : a < w * fullWords w set = omega arith in
+          sym (t .bits a (omega (arith, full-place w set a q, full-few w set, t .long))) ∙ full-bit w set a q
+
+  pub full-start : (a : ℕ) → 1 ≤ a → a < w * fullWords w set → (a < 64 * k) × (isStart (imageOf w k l) a ≡ true)
+  unfolding nilOrStart granules imageOf image
+  full-start a p h =
+      let e = either-no (eqb a 0) _ _ (ne-eqb a 0 (λ q. absurd (omega arith))) (low-target a (omega arith)) in
+      (ltb-true _ _ (every-use _ e 0), every-use _ e 1)
+
+  pub full-inside : w * fullWords w set ≤ 64 * k
+  full-inside = go (decLt 1 (w * fullWords w set))
+    where
+      go : Dec (1 < w * fullWords w set) → w * fullWords w set ≤ 64 * k
+      go (yes h) = omega (arith, full-start (w * fullWords w set - 1) (omega arith) (omega arith) .0)
+      go (no h) = omega (arith, z .low)
+
+  regs-words : length (imageOf w k l .regs) ≡ 256
+  unfolding sections imageOf image
+  regs-words = ap (λ (ns : List ℕ). getD ns regsAt 0) (image-fits z .section-lengths)
+
+  -- registers that hold no more
+  pub low-regs : true ≡ atMost (lastFull w set) (imageOf w k l .regs) → true ≡ all 256 (regOk (imageOf w k l))
+  unfolding atMost noMore regOk
+  low-regs e = sym (all-make 256 _ (λ i h. low-target _ (leb-true _ _ (all-use _ _ (sym e) i (rw regs-words h)))))
 
 -- ---- no granule twice, by the set of those seen
 

@@ -1,8 +1,9 @@
 -- Sets of granules, kept as bits in words of w bits: what a link may name, and the entries of packets, none of them twice.
 use mathlib.Core.Path.{_≡_}
-use mathlib.Core.Bool.{Bool, true, not, _&&_, _||_}
+use mathlib.Core.Bool.{Bool, true, false, not, _&&_, _||_}
 use mathlib.Core.List.{List, [], _∷_, _++_}
-use Prim.Native.Nat.{ℕ, _+_, _*_, _/_, _<_}
+use Prim.Native.Nat.{ℕ, suc, _+_, _*_, _-_, _/_, _^_, _<_}
+use lib.Dec.{eqb}
 use lib.ListN.{length, take, drop}
 use Rattle.model.specs.Base.{elem, distinct, bit}
 use Rattle.model.specs.Image.{Image, mostCards, count}
@@ -14,6 +15,20 @@ use Rattle.model.specs.Undamaged.{nilOrStart, entered}
 pub record Targets (w : ℕ) (m : Image) (set : List ℕ) : Type 0 where
   pub long : length set ≡ 4096
   pub bits : (a : ℕ) → a / w < 4096 → bit w set a ≡ nilOrStart m a
+
+-- one more than n where the word before them is full, else none
+unfoldable pub fullAnd : Bool → ℕ → ℕ
+fullAnd true n = suc n
+fullAnd false n = 0
+
+-- how many words of a set are full, from the first on
+unfoldable pub fullWords : ℕ → List ℕ → ℕ
+fullWords w [] = 0
+fullWords w (x ∷ l) = fullAnd (eqb x (2 ^ w - 1)) (fullWords w l)
+
+-- the last value of those that the full words have a bit for, nil if there is none
+abbrev pub lastFull : ℕ → List ℕ → ℕ
+lastFull w set = w * fullWords w set - 1
 
 -- ---- entries
 

@@ -18,6 +18,10 @@ atWord w p i j = p (w * i + j)
 unfoldable pub wordwise : ℕ → (ℕ → Bool) → ℕ → Bool
 wordwise w p i = all w (atWord w p i)
 
+-- the number i places behind a passes
+unfoldable pub onward : ℕ → (ℕ → Bool) → ℕ → Bool
+onward a p i = p (a + i)
+
 module _ (m : Image) where
   -- ---- the heap
 

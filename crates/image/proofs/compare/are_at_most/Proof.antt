@@ -28,9 +28,4 @@ returns c = bad-end (c .before .loop .inv) (omega arith)
 pub are-at-most-spec : {M : Type 1} → statement M
 are-at-most-spec =
     tie.close
-    (tie.spec
-    Inv-loop
-    μ-loop
-    loop-holds (λ c. search needs) (λ c. search needs) (λ c. search needs) (λ c. search needs)
-    loop-again
-    returns)
+    (tie.spec Inv-loop μ-loop loop-holds (λ c. search needs) (λ c. search needs) (λ c. search needs) (λ c. search needs) loop-again returns)

@@ -16,5 +16,4 @@ returns c = let A = c .before .before .before .args in c .are-near .ensures ∙ 
 pub heap-near-spec : {M : Type 1} → statement M
 heap-near-spec =
     tie.close
-    (tie.spec (λ c. search needs) (λ c. search needs) (λ c. search needs) (λ c. search needs) (λ c κs. search needs)
-    returns)
+    (tie.spec (λ c. search needs) (λ c. search needs) (λ c. search needs) (λ c. search needs) (λ c κs. search needs) returns)

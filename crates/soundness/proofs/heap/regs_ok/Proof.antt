@@ -1,20 +1,34 @@
-use Rattle.model.specs.Undamaged.{regOk}
-use Prim.Native.Nat.{_-_}
-use borrow.Author.Needs.{needs}
 use Rattle.model.specs.Image.{imageOf}
+use Rattle.model.specs.Undamaged.{regOk}
 use Rattle.image.specs.Layout.{width}
 use Rattle.soundness_laws.proofs.Checks.{Checked, checked-none, checked-more, checked-end}
+use Rattle.soundness_laws.proofs.Sets.{low-regs}
+use Prim.Native.Nat.{_-_}
+use mathlib.Core.Path.{sym, _∙_}
+use borrow.Author.Needs.{needs}
 use Rattle.soundness.proofs.heap.regs_ok.Statement.{statement}
 use Rattle.soundness.proofs.heap.regs_ok.Tie as tie
 
 abbrev Inv-loop : tie.InvT-loop
-Inv-loop im k names ok₀ i₀ ok i = Checked 256 (regOk (imageOf width k im)) ok i
+Inv-loop im k targets ok₀ i₀ ok i = Checked 256 (regOk (imageOf width k im)) ok i
 
 abbrev μ-loop : tie.MeasureT-loop
-μ-loop im k names ok₀ i₀ ok i = 256 - i
+μ-loop im k targets ok₀ i₀ ok i = 256 - i
+
+returns : tie.Need-returns Inv-loop μ-loop
+returns c = let S = c .before .before .before .before in low-regs width _ _ (S .pre .0) _ (S .pre .1) (sym (c .if1 .taken) ∙ c .before .low-regs .ensures)
+
+loop-holds : tie.Need-loop-holds Inv-loop μ-loop
+loop-holds c = checked-none
+
+loop-again : tie.Need-loop-again Inv-loop μ-loop
+loop-again c = search checked-more
+
+returns-2 : tie.Need-returns-2 Inv-loop μ-loop
+returns-2 c = search checked-end
 
 pub regs-ok-spec : {M : Type 1} → statement M
 regs-ok-spec =
     tie.close
-    (tie.spec Inv-loop μ-loop (λ c. checked-none) (λ c κs. search needs) (λ c. search needs) (λ c. search needs) (λ c. search checked-more)
-    (λ c. search checked-end))
+    (tie.spec Inv-loop μ-loop (λ c κs. search needs) returns loop-holds (λ c κs. search needs) (λ c. search needs) (λ c. search needs)
+    loop-again returns-2)

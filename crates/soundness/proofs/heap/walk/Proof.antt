@@ -1,15 +1,16 @@
 use Prim.Native.Nat.{_*_, _-_}
 use borrow.Author.Needs.{needs}
 use Rattle.image.specs.Layout.{width}
-use Rattle.soundness_laws.proofs.Heap.{HeapWalk, w-start, w-small, w-link, w-stop, w-room, w-less, w-more, w-end}
+use Rattle.soundness_laws.proofs.Small.{w-from}
+use Rattle.soundness_laws.proofs.Heap.{HeapWalk, w-small, w-link, w-stop, w-room, w-less, w-more, w-end}
 use Rattle.soundness.proofs.heap.walk.Statement.{statement}
 use Rattle.soundness.proofs.heap.walk.Tie as tie
 
 abbrev Inv-loop : tie.InvT-loop
-Inv-loop im k names first g₀ next₀ run₀ seen₀ g next run seen = HeapWalk width k im g next run seen
+Inv-loop im k targets from first g₀ next₀ run₀ seen₀ g next run seen = HeapWalk width k im g next run seen
 
 abbrev μ-loop : tie.MeasureT-loop
-μ-loop im k names first g₀ next₀ run₀ seen₀ g next run seen = 64 * k - g
+μ-loop im k targets from first g₀ next₀ run₀ seen₀ g next run seen = 64 * k - g
 
 object-links-requires : tie.Need-object-links-requires Inv-loop μ-loop
 object-links-requires c κs =
@@ -35,6 +36,8 @@ loop-again c =
 pub walk-spec : {M : Type 1} → statement M
 walk-spec =
     tie.close
-    (tie.spec Inv-loop μ-loop (λ c. search w-start) (λ c. search needs) (λ c κs. search needs) (λ c κs. search needs) (λ c. search w-stop)
-    object-links-requires (λ c. search w-link) one-more-requires (λ c κs. search needs) (λ c κs. search needs) (λ c. search needs)
-    (λ c. search needs) loop-less loop-again (λ c κs. search needs) (λ c. search w-end))
+    (tie.spec Inv-loop μ-loop (λ c. search needs)
+    (λ c. w-from _ _ _ (c .before .before .pre .0) _ (c .before .before .pre .1 .1 .0) (c .before .before .pre .1 .1 .1 .0) _ (c .before .before .pre .1 .1 .1 .1))
+    (λ c. search needs) (λ c κs. search needs) (λ c κs. search needs) (λ c. search w-stop) object-links-requires (λ c. search w-link)
+    one-more-requires (λ c κs. search needs) (λ c κs. search needs) (λ c. search needs) (λ c. search needs) loop-less loop-again
+    (λ c κs. search needs) (λ c. search w-end))

@@ -1,0 +1,28 @@
+use Rattle.model.specs.Image.{imageOf}
+use Rattle.image.specs.Layout.{width}
+use Rattle.soundness_laws.specs.Small.{smallAt}
+use Rattle.soundness_laws.proofs.Checks.{CheckedFrom, from-none, from-more, from-end}
+use Prim.Native.Nat.{_-_}
+use borrow.Author.Needs.{needs}
+use Rattle.soundness.proofs.small.all_small.Statement.{statement}
+use Rattle.soundness.proofs.small.all_small.Tie as tie
+
+abbrev Inv-loop : tie.InvT-loop
+Inv-loop im k targets a e ok₀ g₀ ok g = CheckedFrom a e (smallAt (imageOf width k im)) ok g
+
+abbrev μ-loop : tie.MeasureT-loop
+μ-loop im k targets a e ok₀ g₀ ok g = e - g
+
+loop-holds : tie.Need-loop-holds Inv-loop μ-loop
+loop-holds c = from-none _ _ _
+
+loop-again : tie.Need-loop-again Inv-loop μ-loop
+loop-again c = search from-more
+
+returns : tie.Need-returns Inv-loop μ-loop
+returns c = search from-end
+
+pub all-small-spec : {M : Type 1} → statement M
+all-small-spec =
+    tie.close
+    (tie.spec Inv-loop μ-loop loop-holds (λ c κs. search needs) (λ c. search needs) (λ c. search needs) loop-again returns)
