@@ -16,7 +16,7 @@ pub mod run; // run.rt: the records of a batch, one after the other
 pub extern "C" fn fresh(image: &mut [u16]) -> u16
     ensures { λ r. ⌜ madeOf r (now (image .exit)) ≡ freshOf (now (image .entry)) ⌝ }
 {
-    image::fresh::fresh(image)
+    fresh::fresh(image)
 }
 
 // "Judging gives 0, 1 or 2 and writes nothing."
