@@ -24,7 +24,7 @@ fn dispatch(im: &mut [Word], k: usize, r: Request) -> Answer
 {
     let kind = r.kind;
     match kind {
-        1 => mutator::new::new(im, k, r.who, r.a, r.b, r.c),
+        1 => allocator::new::new(im, k, r.who, r.a, r.b, r.c),
         2 => mutator::links::load(im, k, r.who, r.a, r.b, r.c),
         3 => mutator::links::store(im, k, r.who, r.a, r.b, r.c),
         4 => mutator::registers::barrier(im, k, r.who),
@@ -32,10 +32,10 @@ fn dispatch(im: &mut [Word], k: usize, r: Request) -> Answer
         6 => mutator::registers::drop(im, k, r.who, r.a),
         7 => mutator::levels::read(im, k, r.who, r.a, r.b),
         8 => mutator::levels::write(im, k, r.who, r.a, r.b, r.c),
-        9 => collector::begin::begin(im, k),
-        10 => collector::scanning::scan(im, k, r.who, r.a),
-        11 => collector::tracing::trace(im, k, r.who),
-        12 => collector::cleaning::clean(im, k, r.who),
+        9 => roots::begin::begin(im, k),
+        10 => roots::scanning::scan(im, k, r.who, r.a),
+        11 => marking::tracing::trace(im, k, r.who),
+        12 => marking::cleaning::clean(im, k, r.who),
         13 => finish::step::finish(im, k),
         14 => runs::due::due(im, k, r.a),
         _ => Answer::Unknown,
