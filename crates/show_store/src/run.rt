@@ -22,7 +22,7 @@ pub fn one(im: &mut [Word], k: usize, r: Request, answers: &mut [Word], i: usize
     ensures { λ _. ⌜ imageOf width k (now (im .exit)) ≡ (step (imageOf width k (now (im .entry))) (requested r)) .image ⌝ }
     ensures { λ _. ⌜ now (answers .exit) ≡ writtenAt (now (answers .entry)) i (step (imageOf width k (now (im .entry))) (requested r)) ⌝ }
 {
-    let a = crate::perform::perform(im, k, r);
+    let a = dispatch::perform::perform(im, k, r);
     let number = a.number();
     let value = a.value();
     answers[2 * i] = number;
@@ -37,11 +37,11 @@ pub fn run_all(im: &mut [Word], k: usize, steps: &[u8], answers: &mut [Word])
     ensures { λ _. ⌜ imageOf width k (now (im .exit)) ≡ after (imageOf width k (now (im .entry))) (run (imageOf width k (now (im .entry))) (records width (now (steps .entry)))) ⌝ }
     ensures { λ _. ⌜ now (answers .exit) ≡ answersOf (run (imageOf width k (now (im .entry))) (records width (now (steps .entry)))) ⌝ }
 {
-    let mut reader = crate::reader::new(steps);
-    let n = crate::reader::left(reader);
+    let mut reader = records::reader::new(steps);
+    let n = records::reader::left(reader);
     let mut i = 0;
     while i < n {
-        let r = crate::reader::next(&mut reader);
+        let r = records::reader::next(&mut reader);
         one(im, k, r, answers, i);
         i = i + 1;
     }

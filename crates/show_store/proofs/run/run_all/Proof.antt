@@ -63,24 +63,24 @@ use Rattle.request_laws.specs.Request.{requested, InRange}
 use Rattle.show_store_laws.specs.Run.{recordAt, writtenAt}
 use Rattle.show_store_laws.proofs.Run.{Ran, ran-none, ran-more, ran-end}
 use Rattle.show_store_laws.proofs.Walk.{tyAt, first-of, rest-of, inside, needs3, LentAgain, lends-again, comes-back, LifetimeCarved, within, without}
-use Rattle.show_store.specs.declared.reader.Reader.{Reader}
+use Rattle.records.specs.declared.reader.Reader.{Reader}
 use Rattle.request_laws.specs.declared.Request.{Request}
-use Rattle.show_store.proofs.reader.Reader as T
-use Rattle.show_store.proofs.reader.Reader.Laws as T′
+use Rattle.records.proofs.reader.Reader as T
+use Rattle.records.proofs.reader.Reader.Laws as T′
 use Rattle.request_laws.proofs.Request as S
 use Rattle.request_laws.proofs.Request.Laws as S′
-use Rattle.show_store.proofs.reader.new as new
-use Rattle.show_store.proofs.reader.new.Symbol as new-def
-use Rattle.show_store.proofs.reader.new.Symbol.{name as #new}
-use Rattle.show_store.proofs.reader.new.Met as new-thm
-use Rattle.show_store.proofs.reader.left as left
-use Rattle.show_store.proofs.reader.left.Symbol as left-def
-use Rattle.show_store.proofs.reader.left.Symbol.{name as #left}
-use Rattle.show_store.proofs.reader.left.Met as left-thm
-use Rattle.show_store.proofs.reader.next as next
-use Rattle.show_store.proofs.reader.next.Symbol as next-def
-use Rattle.show_store.proofs.reader.next.Symbol.{name as #next}
-use Rattle.show_store.proofs.reader.next.Met as next-thm
+use Rattle.records.proofs.reader.new as new
+use Rattle.records.proofs.reader.new.Symbol as new-def
+use Rattle.records.proofs.reader.new.Symbol.{name as #new}
+use Rattle.records.proofs.reader.new.Met as new-thm
+use Rattle.records.proofs.reader.left as left
+use Rattle.records.proofs.reader.left.Symbol as left-def
+use Rattle.records.proofs.reader.left.Symbol.{name as #left}
+use Rattle.records.proofs.reader.left.Met as left-thm
+use Rattle.records.proofs.reader.next as next
+use Rattle.records.proofs.reader.next.Symbol as next-def
+use Rattle.records.proofs.reader.next.Symbol.{name as #next}
+use Rattle.records.proofs.reader.next.Met as next-thm
 use Rattle.show_store.proofs.run.one as one
 use Rattle.show_store.proofs.run.one.Symbol as one-def
 use Rattle.show_store.proofs.run.one.Symbol.{name as #one}
@@ -503,7 +503,7 @@ run-all-spec 𝓤 H 𝓜 𝓖 𝓡 =
     entered 𝓤 H (tripleOf 𝓤 H (𝓖 .A) run-all.signature (run-all.spec 𝓤 H (𝓖 .A) (𝓜 .mem) (𝓡 .run)))
     (tables 𝓤 H 𝓜 𝓡 code.env .C) (tables 𝓤 H 𝓜 𝓡 code.env .Λ) #run-all code.function (code.unfolded 𝓤 H 𝓜 𝓡)
     (run-all-meets 𝓤 H (𝓖 .A) (givenOf 𝓤 H 𝓜 𝓖) (𝓜 .mem) (𝓡 .run) (tablesOf 𝓤 H 𝓜 (tables 𝓤 H 𝓜 𝓡 code.env))
-    (cited 𝓤 H (New 𝓤 H (𝓖 .A) (𝓜 .mem) (𝓡 .run)) 𝓜 𝓡 code.env #new new-def.routine code.calls-show-store·reader·new (new-thm.met 𝓤 H 𝓜 𝓖 𝓡))
-    (cited 𝓤 H (Left 𝓤 H (𝓖 .A) (𝓜 .mem) (𝓡 .run)) 𝓜 𝓡 code.env #left left-def.routine code.calls-show-store·reader·left (left-thm.met 𝓤 H 𝓜 𝓖 𝓡))
-    (cited 𝓤 H (Next 𝓤 H (𝓖 .A) (𝓜 .mem) (𝓡 .run)) 𝓜 𝓡 code.env #next next-def.routine code.calls-show-store·reader·next (next-thm.met 𝓤 H 𝓜 𝓖 𝓡))
+    (cited 𝓤 H (New 𝓤 H (𝓖 .A) (𝓜 .mem) (𝓡 .run)) 𝓜 𝓡 code.env #new new-def.routine code.calls-records·reader·new (new-thm.met 𝓤 H 𝓜 𝓖 𝓡))
+    (cited 𝓤 H (Left 𝓤 H (𝓖 .A) (𝓜 .mem) (𝓡 .run)) 𝓜 𝓡 code.env #left left-def.routine code.calls-records·reader·left (left-thm.met 𝓤 H 𝓜 𝓖 𝓡))
+    (cited 𝓤 H (Next 𝓤 H (𝓖 .A) (𝓜 .mem) (𝓡 .run)) 𝓜 𝓡 code.env #next next-def.routine code.calls-records·reader·next (next-thm.met 𝓤 H 𝓜 𝓖 𝓡))
     (cited 𝓤 H (One 𝓤 H (𝓖 .A) (𝓜 .mem) (𝓡 .run)) 𝓜 𝓡 code.env #one one-def.routine code.calls-show-store·run·one (one-thm.met 𝓤 H 𝓜 𝓖 𝓡)))

@@ -34,13 +34,13 @@ use denote.Triple.Spec.{Meets, tripleOf}
 use denote.Triple.Table.{entered}
 use denote.Triple.Walked.{says, Stays, stay-none-slice, walkOf, goes-none-slice, Walks, ends-at, walked, walk-meets}
 use denote.Exit.{yes}
-use Rattle.show_store.specs.declared.reader.Reader.{Reader}
-use Rattle.show_store.proofs.reader.Reader as T
-use Rattle.show_store.proofs.reader.Reader.Laws as T′
-use Rattle.show_store.proofs.reader.new.Key.{name as #new}
-use Rattle.show_store.proofs.reader.new as new
-use Rattle.show_store.proofs.reader.new.Statement as stated
-use Rattle.show_store.proofs.reader.new.Code as code
+use Rattle.records.specs.declared.reader.Reader.{Reader}
+use Rattle.records.proofs.reader.Reader as T
+use Rattle.records.proofs.reader.Reader.Laws as T′
+use Rattle.records.proofs.reader.new.Key.{name as #new}
+use Rattle.records.proofs.reader.new as new
+use Rattle.records.proofs.reader.new.Statement as stated
+use Rattle.records.proofs.reader.new.Code as code
 
 abbrev stayed : Stays (new.ended .signature .params) (new.ended .kept)
 stayed = (stay-none-slice (0 ∷ []) tt (plain (λ _. u8)) yes, tt)

@@ -1,8 +1,8 @@
 use borrow.Author.Needs.{needs}
 use Rattle.request_laws.specs.Request.{requested}
 use Rattle.request_laws.proofs.Fields.{refused-unknown, refused-off, refused-owing, admitted-passes}
-use Rattle.show_store.proofs.perform.perform.Statement.{statement}
-use Rattle.show_store.proofs.perform.perform.Tie as tie
+use Rattle.dispatch.proofs.perform.perform.Statement.{statement}
+use Rattle.dispatch.proofs.perform.perform.Tie as tie
 
 dispatch-requires : tie.Need-dispatch-requires
 unfolding requested

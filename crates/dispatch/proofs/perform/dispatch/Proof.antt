@@ -1,8 +1,8 @@
 use borrow.Author.Needs.{needs}
 use Rattle.image.specs.Layout.{width}
 use Rattle.show_store_laws.proofs.Perform.{new-fields, load-fields, store-fields, barrier-fields, hand-fields, drop-fields, read-fields, write-fields, scan-fields, trace-fields, clean-fields, new-dispatched, load-dispatched, store-dispatched, barrier-dispatched, hand-dispatched, drop-dispatched, read-dispatched, write-dispatched, begin-dispatched, scan-dispatched, trace-dispatched, clean-dispatched, finish-dispatched, due-dispatched, no-step}
-use Rattle.show_store.proofs.perform.dispatch.Statement.{statement}
-use Rattle.show_store.proofs.perform.dispatch.Tie as tie
+use Rattle.dispatch.proofs.perform.dispatch.Statement.{statement}
+use Rattle.dispatch.proofs.perform.dispatch.Tie as tie
 
 new-requires : tie.Need-new-requires
 new-requires c κs = let q = c .before .before .before in (q .pre .0, (q .pre .1 .0, new-fields width (q .args .r) (q .pre .1 .1 .0) (q .pre .1 .1 .1) (c .before .match .keys1)))

@@ -35,13 +35,13 @@ use denote.Triple.Table.{entered}
 use denote.Triple.Walked.{says, needs, Stays, stay-none, walkOf, goes-none, Walks, ends-at, walked, walk-meets}
 use denote.Exit.{yes}
 use Rattle.image.specs.Layout.{recordLength}
-use Rattle.show_store.specs.declared.reader.Reader.{Reader}
-use Rattle.show_store.proofs.reader.Reader as T
-use Rattle.show_store.proofs.reader.Reader.Laws as T′
-use Rattle.show_store.proofs.reader.left.Key.{name as #left}
-use Rattle.show_store.proofs.reader.left as left
-use Rattle.show_store.proofs.reader.left.Statement as stated
-use Rattle.show_store.proofs.reader.left.Code as code
+use Rattle.records.specs.declared.reader.Reader.{Reader}
+use Rattle.records.proofs.reader.Reader as T
+use Rattle.records.proofs.reader.Reader.Laws as T′
+use Rattle.records.proofs.reader.left.Key.{name as #left}
+use Rattle.records.proofs.reader.left as left
+use Rattle.records.proofs.reader.left.Statement as stated
+use Rattle.records.proofs.reader.left.Code as code
 
 -- the struct's type, over the signature's lifetimes
 abbrev B : Lfts 1 → RattleType

@@ -46,20 +46,20 @@ use denote.Triple.Walked.{says, needs, Stays, stay-ref, walkOf, goes-ref, Walks,
 use Rattle.model.specs.Records.{recordBytes, stepOf}
 use Rattle.image.specs.Layout.{width, recordLength}
 use Rattle.request_laws.specs.Request.{requested, InRange}
-use Rattle.show_store.specs.declared.reader.Reader.{Reader}
+use Rattle.records.specs.declared.reader.Reader.{Reader}
 use Rattle.request_laws.specs.declared.Request.{Request}
-use Rattle.show_store.proofs.reader.Reader as T
-use Rattle.show_store.proofs.reader.Reader.Laws as T′
+use Rattle.records.proofs.reader.Reader as T
+use Rattle.records.proofs.reader.Reader.Laws as T′
 use Rattle.request_laws.proofs.Request as S
 use Rattle.request_laws.proofs.Request.Laws as S′
-use Rattle.show_store.proofs.record.record_at as record-at
-use Rattle.show_store.proofs.record.record_at.Symbol as record-def
-use Rattle.show_store.proofs.record.record_at.Symbol.{name as #record-at}
-use Rattle.show_store.proofs.record.record_at.Met as record-thm
-use Rattle.show_store.proofs.reader.next.Key.{name as #next}
-use Rattle.show_store.proofs.reader.next as next
-use Rattle.show_store.proofs.reader.next.Statement as stated
-use Rattle.show_store.proofs.reader.next.Code as code
+use Rattle.records.proofs.record.record_at as record-at
+use Rattle.records.proofs.record.record_at.Symbol as record-def
+use Rattle.records.proofs.record.record_at.Symbol.{name as #record-at}
+use Rattle.records.proofs.record.record_at.Met as record-thm
+use Rattle.records.proofs.reader.next.Key.{name as #next}
+use Rattle.records.proofs.reader.next as next
+use Rattle.records.proofs.reader.next.Statement as stated
+use Rattle.records.proofs.reader.next.Code as code
 
 -- 'a, and the struct's type at it
 abbrev α : Lft → NamedLft
@@ -192,4 +192,4 @@ next-spec 𝓤 H 𝓜 𝓖 𝓡 =
     entered 𝓤 H (tripleOf 𝓤 H (𝓖 .A) next.signature (next.spec 𝓤 H (𝓖 .A) (𝓜 .mem) (𝓡 .run)))
     (tables 𝓤 H 𝓜 𝓡 code.env .C) (tables 𝓤 H 𝓜 𝓡 code.env .Λ) #next code.function (code.unfolded 𝓤 H 𝓜 𝓡)
     (next-meets 𝓤 H (𝓖 .A) (givenOf 𝓤 H 𝓜 𝓖) (𝓜 .mem) (𝓡 .run) (tablesOf 𝓤 H 𝓜 (tables 𝓤 H 𝓜 𝓡 code.env))
-    (cited 𝓤 H (RecordAt 𝓤 H (𝓖 .A) (𝓜 .mem) (𝓡 .run)) 𝓜 𝓡 code.env #record-at record-def.routine code.calls-show-store·record·record-at (record-thm.met 𝓤 H 𝓜 𝓖 𝓡)))
+    (cited 𝓤 H (RecordAt 𝓤 H (𝓖 .A) (𝓜 .mem) (𝓡 .run)) 𝓜 𝓡 code.env #record-at record-def.routine code.calls-records·record·record-at (record-thm.met 𝓤 H 𝓜 𝓖 𝓡)))
