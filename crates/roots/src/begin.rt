@@ -2,7 +2,6 @@
 ghost use mathlib.Core.Path.{_≡_};
 ghost use Rattle.model.specs.Image.{imageOf};
 ghost use Rattle.model.specs.Steps.{step};
-ghost use Rattle.theory.specs.Lines.{Sound};
 ghost use Rattle.image_laws.specs.Sized.{Sized};
 ghost use Rattle.image.specs.Layout.{width};
 ghost use Rattle.request_laws.specs.Answer.{asked};
@@ -12,7 +11,6 @@ use request::answer::Answer;
 
 pub fn begin(im: &mut [Word], k: usize) -> Answer
     requires { ⌜ Sized width k (now im) ⌝ }
-    requires { ⌜ Sound (imageOf width k (now im)) ⌝ }
     ensures { λ r. ⌜ doneOf r (imageOf width k (now (im .exit))) ≡ step (imageOf width k (now (im .entry))) (asked 9 0 0 0 0) ⌝ }
 {
     if image::sections::running(im, k) == 1 {

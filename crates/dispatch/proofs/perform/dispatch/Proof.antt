@@ -17,10 +17,10 @@ barrier-requires : tie.Need-barrier-requires
 barrier-requires c κs = let q = c .before .before .before in (q .pre .0, (q .pre .1 .0, barrier-fields width (q .args .r) (q .pre .1 .1 .0) (q .pre .1 .1 .1) (c .before .match .keys4)))
 
 hand-requires : tie.Need-hand-requires
-hand-requires c κs = let q = c .before .before .before in (q .pre .0, (q .pre .1 .0, hand-fields width (q .args .r) (q .pre .1 .1 .0) (q .pre .1 .1 .1) (c .before .match .keys5)))
+hand-requires c κs = let q = c .before .before .before in (q .pre .0, hand-fields width (q .args .r) (q .pre .1 .1 .0) (q .pre .1 .1 .1) (c .before .match .keys5))
 
 drop-requires : tie.Need-drop-requires
-drop-requires c κs = let q = c .before .before .before in (q .pre .0, (q .pre .1 .0, drop-fields width (q .args .r) (q .pre .1 .1 .0) (q .pre .1 .1 .1) (c .before .match .keys6)))
+drop-requires c κs = let q = c .before .before .before in (q .pre .0, drop-fields width (q .args .r) (q .pre .1 .1 .0) (q .pre .1 .1 .1) (c .before .match .keys6))
 
 read-requires : tie.Need-read-requires
 read-requires c κs = let q = c .before .before .before in (q .pre .0, (q .pre .1 .0, read-fields width (q .args .r) (q .pre .1 .1 .0) (q .pre .1 .1 .1) (c .before .match .keys7)))
