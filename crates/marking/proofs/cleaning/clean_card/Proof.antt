@@ -1,11 +1,11 @@
 use borrow.Author.Needs.{needs}
-use Rattle.collector_laws.proofs.Cleaning.{next-in, card-let-go, card-object, card-in, next-object, card-from, card-to}
+use Rattle.collector_laws.proofs.Cleaning.{next-in, card-let-go, card-object, card-in, next-object, card-from}
 use native.Mathlib.Omega.{arith}
 use Rattle.marking.proofs.cleaning.clean_card.Statement.{statement}
 use Rattle.marking.proofs.cleaning.clean_card.Tie as tie
 
 next-marked-requires : tie.Need-next-marked-requires
-next-marked-requires c κs = (search needs, (search card-in, search card-from, search card-to))
+next-marked-requires c κs = (search needs, (search card-in, search card-from))
 
 returns : tie.Need-returns
 returns c = search card-let-go
