@@ -6,7 +6,6 @@ ghost use Rattle.image_laws.specs.Fresh.{madeOf};
 ghost use Rattle.show_store_laws.specs.Run.{batched};
 
 pub mod calls; // calls.rt: a batch, at this store's width
-pub mod run; // run.rt: the records of a batch, one after the other
 
 // "Making one overwrites a slice of fitting length and gives 0, else gives 1 and writes nothing."
 #[no_mangle]

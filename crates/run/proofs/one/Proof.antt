@@ -2,8 +2,8 @@ use borrow.Author.Needs.{needs}
 use Rattle.show_store_laws.proofs.Run.{turn}
 use native.Mathlib.Omega.{arith}
 use lib.ListN.{length-set}
-use Rattle.show_store.proofs.run.one.Statement.{statement}
-use Rattle.show_store.proofs.run.one.Tie as tie
+use Rattle.run.proofs.one.Statement.{statement}
+use Rattle.run.proofs.one.Tie as tie
 
 slice-write-answers-2 : tie.Need-slice-write-answers-2
 slice-write-answers-2 c = simp length-set (omega arith)

@@ -81,14 +81,14 @@ use Rattle.records.proofs.reader.next as next
 use Rattle.records.proofs.reader.next.Symbol as next-def
 use Rattle.records.proofs.reader.next.Symbol.{name as #next}
 use Rattle.records.proofs.reader.next.Met as next-thm
-use Rattle.show_store.proofs.run.one as one
-use Rattle.show_store.proofs.run.one.Symbol as one-def
-use Rattle.show_store.proofs.run.one.Symbol.{name as #one}
-use Rattle.show_store.proofs.run.one.Met as one-thm
-use Rattle.show_store.proofs.run.run_all.Key.{name as #run-all}
-use Rattle.show_store.proofs.run.run_all as run-all
-use Rattle.show_store.proofs.run.run_all.Statement as stated
-use Rattle.show_store.proofs.run.run_all.Code as code
+use Rattle.run.proofs.one as one
+use Rattle.run.proofs.one.Symbol as one-def
+use Rattle.run.proofs.one.Symbol.{name as #one}
+use Rattle.run.proofs.one.Met as one-thm
+use Rattle.run.proofs.run_all.Key.{name as #run-all}
+use Rattle.run.proofs.run_all as run-all
+use Rattle.run.proofs.run_all.Statement as stated
+use Rattle.run.proofs.run_all.Code as code
 
 -- ---- the MIR: its locals' types, a turn of its loop, and what stands behind the loop
 abbrev τ : ℕ → Ty
@@ -506,4 +506,4 @@ run-all-spec 𝓤 H 𝓜 𝓖 𝓡 =
     (cited 𝓤 H (New 𝓤 H (𝓖 .A) (𝓜 .mem) (𝓡 .run)) 𝓜 𝓡 code.env #new new-def.routine code.calls-records·reader·new (new-thm.met 𝓤 H 𝓜 𝓖 𝓡))
     (cited 𝓤 H (Left 𝓤 H (𝓖 .A) (𝓜 .mem) (𝓡 .run)) 𝓜 𝓡 code.env #left left-def.routine code.calls-records·reader·left (left-thm.met 𝓤 H 𝓜 𝓖 𝓡))
     (cited 𝓤 H (Next 𝓤 H (𝓖 .A) (𝓜 .mem) (𝓡 .run)) 𝓜 𝓡 code.env #next next-def.routine code.calls-records·reader·next (next-thm.met 𝓤 H 𝓜 𝓖 𝓡))
-    (cited 𝓤 H (One 𝓤 H (𝓖 .A) (𝓜 .mem) (𝓡 .run)) 𝓜 𝓡 code.env #one one-def.routine code.calls-show-store·run·one (one-thm.met 𝓤 H 𝓜 𝓖 𝓡)))
+    (cited 𝓤 H (One 𝓤 H (𝓖 .A) (𝓜 .mem) (𝓡 .run)) 𝓜 𝓡 code.env #one one-def.routine code.calls-run·one (one-thm.met 𝓤 H 𝓜 𝓖 𝓡)))
