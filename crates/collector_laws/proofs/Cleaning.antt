@@ -64,9 +64,6 @@ module _ (w k : ℕ) (ws : List ℕ) (o : Lines (imageOf w k ws)) (t : ℕ) (h :
       pub card-from : 64 * c ≤ n + 64
       card-from = rw (a, b) (in-range .1)
 
-      pub card-to : n ≤ 64 * c
-      card-to = rw (a, b) (in-range .2)
-
   module _ (g : ℕ) (f : g ≡ nextMarked (imageOf w k ws) (64 * x .card - x .granule) (x .granule)) where
     pub next-in : g ≤ 64 * k
     next-in = omega (arith, in-range, next-below (imageOf w k ws) (64 * x .card - x .granule) (x .granule))

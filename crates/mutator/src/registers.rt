@@ -29,7 +29,6 @@ pub fn barrier(im: &mut [Word], k: usize, p: usize) -> Answer
 // Player q's register b gets a copy of p's register a.
 pub fn hand(im: &mut [Word], k: usize, p: usize, a: usize, q: usize, b: usize) -> Answer
     requires { ⌜ Sized width k (now im) ⌝ }
-    requires { ⌜ Sound (imageOf width k (now im)) ⌝ }
     requires { ⌜ (p < 16) × (a < 16) × (q < 16) × (b < 16) ⌝ }
     requires { ⌜ (owed (imageOf width k (now im)) p ≡ 0) × (owed (imageOf width k (now im)) q ≡ 0) ⌝ }
     ensures { λ r. ⌜ doneOf r (imageOf width k (now (im .exit))) ≡ step (imageOf width k (now (im .entry))) (asked 5 p a q b) ⌝ }
@@ -41,7 +40,6 @@ pub fn hand(im: &mut [Word], k: usize, p: usize, a: usize, q: usize, b: usize) -
 
 pub fn drop(im: &mut [Word], k: usize, p: usize, a: usize) -> Answer
     requires { ⌜ Sized width k (now im) ⌝ }
-    requires { ⌜ Sound (imageOf width k (now im)) ⌝ }
     requires { ⌜ (p < 16) × (a < 16) ⌝ }
     requires { ⌜ owed (imageOf width k (now im)) p ≡ 0 ⌝ }
     ensures { λ r. ⌜ doneOf r (imageOf width k (now (im .exit))) ≡ step (imageOf width k (now (im .entry))) (asked 6 p a 0 0) ⌝ }

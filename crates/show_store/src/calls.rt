@@ -24,7 +24,7 @@ fn verdict(im: &mut [Word], steps: &[u8], answers: &mut [Word]) -> Verdict
                 return Verdict::Misfit;
             }
             if judge::is_undamaged(im, k) {
-                crate::run::run_all(im, k, steps, answers);
+                run::run_all(im, k, steps, answers);
                 return Verdict::Accepted;
             }
             Verdict::Damaged

@@ -6,17 +6,13 @@ ghost use Rattle.image_laws.specs.Fresh.{madeOf};
 ghost use Rattle.show_store_laws.specs.Run.{batched};
 
 pub mod calls; // calls.rt: a batch, at this store's width
-pub mod perform; // perform.rt: a request's step, by its kind
-pub mod reader; // reader.rt: the step bytes and a position in them
-pub mod record; // record.rt: a step record from its bytes
-pub mod run; // run.rt: the records of a batch, one after the other
 
 // "Making one overwrites a slice of fitting length and gives 0, else gives 1 and writes nothing."
 #[no_mangle]
 pub extern "C" fn fresh(image: &mut [u16]) -> u16
     ensures { λ r. ⌜ madeOf r (now (image .exit)) ≡ freshOf (now (image .entry)) ⌝ }
 {
-    image::fresh::fresh(image)
+    fresh::fresh(image)
 }
 
 // "Judging gives 0, 1 or 2 and writes nothing."

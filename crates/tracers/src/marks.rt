@@ -26,7 +26,7 @@ pub fn card_marks(im: &[Word], k: usize, c: usize) -> u64
 // 1 + the first marked granule from `from` on that lies on card c - 1; 0 if there is none.
 pub fn next_marked(im: &[Word], k: usize, from: usize, c: usize) -> usize
     requires { ⌜ Sized width k (now im) ⌝ }
-    requires { ⌜ (c ≤ k) × (64 * c ≤ from + 64) × (from ≤ 64 * c) ⌝ }
+    requires { ⌜ (c ≤ k) × (64 * c ≤ from + 64) ⌝ }
     ensures { λ r. ⌜ r ≡ nextMarked (imageOf width k (now (im .entry))) (64 * c - from) from ⌝ }
 {
     if 64 * c <= from {

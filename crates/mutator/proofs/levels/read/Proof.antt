@@ -43,7 +43,7 @@ add-word-2 : tie.Need-add-word-2
 add-word-2 c = omega (arith, place c)
 
 word-requires : tie.Need-word-requires
-word-requires c κs = (search needs, place c)
+word-requires c κs = (search needs, omega (arith, place c))
 
 returns-3 : tie.Need-returns-3
 returns-3 c = search read-done

@@ -1,0 +1,42 @@
+use mathlib.Core.Path.{_≡_, sym, _∙_}
+use mathlib.Core.List.{_∷_}
+use Prim.Native.Nat.{_+_, _-_, _≤_}
+use native.Mathlib.Omega.{arith}
+use borrow.Author.Needs.{needs}
+use lib.ListN.{length, take, length-set}
+use Rattle.tracers_laws.specs.Packet.{wordsOf}
+use Rattle.tracers_laws.proofs.Copy.{headed-more, headed-first, headed-done}
+use Rattle.packets.proofs.packet.put_words.Statement.{statement}
+use Rattle.packets.proofs.packet.put_words.Tie as tie
+
+abbrev Inv-loop : tie.InvT-loop
+Inv-loop s₀ n e j₀ s j = (j ≤ 30) × (take (j + 2) s ≡ n ∷ 0 ∷ take j e) × (length s ≡ 32) × (length e ≡ 30)
+
+abbrev μ-loop : tie.MeasureT-loop
+μ-loop s₀ n e j₀ s j = 30 - j
+
+slice-write-s-2 : tie.Need-slice-write-s-2 Inv-loop μ-loop
+slice-write-s-2 c = simp length-set (omega arith)
+
+loop-holds : tie.Need-loop-holds Inv-loop μ-loop
+loop-holds c = (omega arith, headed-first _ _ (c .before .args .s .now) (c .before .pre .0), simp length-set (c .before .pre .0), search needs)
+
+loop-again : tie.Need-loop-again Inv-loop μ-loop
+loop-again c =
+    let L = c .before .loop in
+    (omega arith, headed-more _ _ _ (L .s) (L .j) (L .inv .1) (omega arith) (omega arith), simp length-set (L .inv .2), L .inv .3)
+
+same-length : tie.Need-same-length Inv-loop μ-loop
+same-length c = c .before .loop .inv .2 ∙ sym (c .before .before .before .pre .0)
+
+returns : tie.Need-returns Inv-loop μ-loop
+unfolding wordsOf
+returns c =
+    let L = c .before .loop in
+    headed-done _ _ _ (L .s) (L .j) (L .inv .1) (omega arith) (L .inv .3) (omega arith)
+
+pub put-words-spec : {M : Type 1} → statement M
+put-words-spec =
+    tie.close
+    (tie.spec Inv-loop μ-loop (λ c. search needs) (λ c. search needs) slice-write-s-2 loop-holds (λ c. search needs) (λ c. search needs)
+    (λ c. search needs) (λ c. search needs) (λ c. search needs) (λ c. search needs) (λ c. search needs) loop-again same-length returns)

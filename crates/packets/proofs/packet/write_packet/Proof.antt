@@ -1,0 +1,19 @@
+use borrow.Author.Needs.{needs}
+use Rattle.tracers_laws.proofs.Packet.{packet-written}
+use native.Mathlib.Omega.{arith}
+use Rattle.packets.specs.Plain.{packetOf}
+use Rattle.image.specs.Layout.{width, perCard, packetsFrom}
+use Prim.Native.Nat.{_+_, _*_}
+use Rattle.packets.proofs.packet.write_packet.Statement.{statement}
+use Rattle.packets.proofs.packet.write_packet.Tie as tie
+
+returns : tie.Need-returns
+returns c =
+    let A = c .before .before .before .before .before .args in
+    packet-written width (A .k) (A .im .now) (search needs) (A .p) (omega arith) (perCard * A .k + packetsFrom + 32 * A .p) (omega arith) (packetOf (A .q)) (search needs) _ (c .before .before .put-words .ensures)
+
+pub write-packet-spec : {M : Type 1} → statement M
+write-packet-spec =
+    tie.close
+    (tie.spec (λ c. search needs) (λ c. search needs) (λ c. search needs) (λ c. search needs) (λ c. search needs) (λ c. search needs)
+    (λ c. search needs) (λ c. search needs) (λ c. search needs) (λ c κs. search needs) (λ c. search needs) returns)

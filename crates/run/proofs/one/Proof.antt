@@ -1,0 +1,22 @@
+use borrow.Author.Needs.{needs}
+use Rattle.show_store_laws.proofs.Run.{turn}
+use native.Mathlib.Omega.{arith}
+use lib.ListN.{length-set}
+use Rattle.run.proofs.one.Statement.{statement}
+use Rattle.run.proofs.one.Tie as tie
+
+slice-write-answers-2 : tie.Need-slice-write-answers-2
+slice-write-answers-2 c = simp length-set (omega arith)
+
+returns : tie.Need-returns
+returns c =
+    let A = c .before .before .before .before .before .before .before .before .args in
+    let a = c .before .before .before .before .perform .ensures in
+    turn _ _ (A .answers .now) (A .i) _ _ _ (rw (c .before .number .ensures, c .value .ensures) a)
+
+pub one-spec : {M : Type 1} → statement M
+one-spec =
+    tie.close
+    (tie.spec (λ c κs. search needs) (λ c κs. search needs) (λ c κs. search needs) (λ c. search needs) (λ c. search needs)
+    (λ c. search needs) (λ c. search needs) (λ c. search needs) (λ c. search needs) slice-write-answers-2 (λ c. search needs)
+    (λ c. search needs) returns)

@@ -1,0 +1,48 @@
+// The records of a batch, one after the other.
+ghost use mathlib.Core.Path.{_≡_};
+ghost use Prim.Native.Nat.{_+_, _*_, _/_, _%_, _≤_};
+ghost use lib.ListN.{length};
+ghost use Rattle.model.specs.Image.{imageOf};
+ghost use Rattle.model.specs.Records.{records};
+ghost use Rattle.model.specs.Steps.{step, run, after, answersOf};
+ghost use Rattle.theory.specs.Lines.{Sound, Undamaged};
+ghost use Rattle.image_laws.specs.Sized.{Sized};
+ghost use Rattle.image.specs.Layout.{width, recordLength};
+ghost use Rattle.request_laws.specs.Request.{requested, InRange};
+ghost use Rattle.show_store_laws.specs.Run.{writtenAt};
+use image::layout::Word;
+use request_laws::Request;
+
+// Request i of a batch, and its two answer words.
+pub fn one(im: &mut [Word], k: usize, r: Request, answers: &mut [Word], i: usize)
+    requires { ⌜ Sized width k (now im) ⌝ }
+    requires { ⌜ Sound (imageOf width k (now im)) ⌝ }
+    requires { ⌜ InRange width r ⌝ }
+    requires { ⌜ 2 * i + 2 ≤ length (now answers) ⌝ }
+    ensures { λ _. ⌜ imageOf width k (now (im .exit)) ≡ (step (imageOf width k (now (im .entry))) (requested r)) .image ⌝ }
+    ensures { λ _. ⌜ now (answers .exit) ≡ writtenAt (now (answers .entry)) i (step (imageOf width k (now (im .entry))) (requested r)) ⌝ }
+{
+    let a = dispatch::perform::perform(im, k, r);
+    let number = a.number();
+    let value = a.value();
+    answers[2 * i] = number;
+    answers[2 * i + 1] = value;
+}
+
+// All records, in order: one reader goes from the first to the last.
+pub fn run_all(im: &mut [Word], k: usize, steps: &[u8], answers: &mut [Word])
+    requires { ⌜ Sized width k (now im) ⌝ }
+    requires { ⌜ Undamaged (imageOf width k (now im)) ⌝ }
+    requires { ⌜ (length (now steps) % recordLength ≡ 0) × (length (now answers) ≡ 2 * (length (now steps) / recordLength)) ⌝ }
+    ensures { λ _. ⌜ imageOf width k (now (im .exit)) ≡ after (imageOf width k (now (im .entry))) (run (imageOf width k (now (im .entry))) (records width (now (steps .entry)))) ⌝ }
+    ensures { λ _. ⌜ now (answers .exit) ≡ answersOf (run (imageOf width k (now (im .entry))) (records width (now (steps .entry)))) ⌝ }
+{
+    let mut reader = records::reader::new(steps);
+    let n = records::reader::left(reader);
+    let mut i = 0;
+    while i < n {
+        let r = records::reader::next(&mut reader);
+        one(im, k, r, answers, i);
+        i = i + 1;
+    }
+}
