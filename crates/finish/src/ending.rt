@@ -1,6 +1,6 @@
 // The end of a finish: start bits of what is kept, and what becomes 0.
 ghost use mathlib.Core.Path.{_≡_};
-ghost use Prim.Native.Nat.{ℕ, _*_, _<_};
+ghost use Prim.Native.Nat.{_*_};
 ghost use Rattle.model.specs.Image.{imageOf, withPlayers};
 ghost use Rattle.image_laws.specs.Sized.{Sized};
 ghost use Rattle.image.specs.Layout.{width};

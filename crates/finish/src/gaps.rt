@@ -51,7 +51,7 @@ pub fn run_at(im: &mut [Word], k: usize, a: usize, e: usize)
     image::sections::set_first_run(im, k, a as Word);
 }
 
-// What lies between a and e, if anything, becomes a run; gives its granules.
+// What lies between a and e, if anything, becomes a run; returns its granules.
 pub fn close_gap(im: &mut [Word], k: usize, a: usize, e: usize) -> usize
     requires { ⌜ Sized width k (now im) ⌝ }
     requires { ⌜ e ≤ 64 * k ⌝ }
@@ -122,7 +122,7 @@ pub fn sweep_word(im: &mut [Word], k: usize, i: usize, s: Edge) -> Edge
     sweep_bits(im, k, i, s)
 }
 
-// The whole heap; gives the granules of all runs.
+// The whole heap; returns the granules of all runs.
 pub fn sweep_all(im: &mut [Word], k: usize) -> usize
     requires { ⌜ Sized width k (now im) ⌝ }
     ensures { λ r. ⌜ edged 0 r (imageOf width k (now (im .exit))) ≡ sweptAll k (imageOf width k (now (im .entry))) ⌝ }

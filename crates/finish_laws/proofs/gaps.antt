@@ -1,5 +1,4 @@
 -- The sweep.
-pub mod Leading
 pub mod Runs
 pub mod Granules
 pub mod Bits

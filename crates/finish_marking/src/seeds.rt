@@ -1,7 +1,6 @@
 // The objects whose links a finish follows first become pending: marked ones that are entered, in hand, on a card in hand or on a
 // dirty card lose their start bits; unmarked ones in registers are marked, too.
-ghost use mathlib.Core.Path.{_≡_};
-ghost use Prim.Native.Nat.{ℕ, _+_, _*_, _/_, _%_, _≤_, _<_};
+ghost use Prim.Native.Nat.{_+_, _*_, _/_, _%_, _≤_, _<_};
 ghost use Rattle.model.specs.Base.{nth};
 ghost use Rattle.model.specs.Image.{imageOf};
 ghost use Rattle.image_laws.specs.Sized.{Sized};
@@ -149,7 +148,7 @@ pub fn hold_all(im: &mut [Word], k: usize)
     }
 }
 
-// Every card is listed, the last first; gives the head of the list.
+// Every card is listed, the last first; returns the head of the list.
 pub fn list_all(im: &mut [Word], k: usize) -> usize
     requires { ⌜ Sized width k (now im) ⌝ }
     ensures { λ r. ⌜ ListedAll k (imageOf width k (now (im .entry))) (imageOf width k (now (im .exit))) r ⌝ }

@@ -1,6 +1,6 @@
 // Start and mark bits, by shift and mask in the words.
 ghost use mathlib.Core.Path.{_≡_};
-ghost use Prim.Native.Nat.{ℕ, _+_, _*_, _≤_, _<_};
+ghost use Prim.Native.Nat.{_*_, _<_};
 ghost use Rattle.model.specs.Base.{testBit, withBit};
 ghost use Rattle.model.specs.Image.{imageOf, isStart, marked, setStart, setMark};
 ghost use Rattle.image_laws.specs.Sized.{Sized};

@@ -1,7 +1,6 @@
 // The words of an image, section by section: only leaves index the lent slice.
 ghost use mathlib.Core.Path.{_≡_};
-ghost use Prim.Native.Nat.{ℕ, _+_, _*_, _/_, _≤_, _<_};
-ghost use lib.ListN.{length};
+ghost use Prim.Native.Nat.{_+_, _*_, _/_, _<_};
 ghost use Rattle.model.specs.Base.{nth, put};
 ghost use Rattle.model.specs.Image.{imageOf, word, links, owed, scanned, running, firstRun, state, reg, withHeap, withStarts, withMarks, withRegs, withTracers, withPlayers, withGeneral, setState, setReg, setTracer, setOwed, setScanned, setFirstRun, setWord};
 ghost use Rattle.image_laws.specs.Sized.{Sized};

@@ -3,10 +3,10 @@ use borrow.Rule.Slice.PartMut.{midOf, putMid, mid-len}
 use mathlib.Core.List.{append-assoc, append-nil, List, [], _++_}
 use Rattle.image_laws.specs.Clearing.{zeroed}
 use Rattle.image_laws.specs.Sized.{Sized}
-use Rattle.image_laws.proofs.Split.{split-length, split-sets, split-part}
+use Rattle.image_laws.proofs.Split.{split-length, split-sets}
 use Rattle.model.specs.Base.{zeros}
-use Rattle.model.specs.Image.{place, lengths, split, image, imageOf, withHeap, withMarks, withCards, withPackets, withTracers}
-use Prim.Native.Nat.{ℕ, _+_, _*_, _-_, _≤_, _<_}
+use Rattle.model.specs.Image.{place, lengths, split, image, imageOf, withHeap}
+use Prim.Native.Nat.{ℕ, _+_, _*_, _-_, _≤_}
 use mathlib.Core.Path.{_≡_, sym, ap, _∙_}
 use native.Mathlib.Omega.{arith}
 use lib.ListN.{length, getD, take, drop, set, replicate, length-replicate}

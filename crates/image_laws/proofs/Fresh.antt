@@ -7,7 +7,7 @@ use Prim.Native.Nat.{ℕ, _*_, _-_}
 use Rattle.image_laws.specs.Fresh.{madeOf}
 use Rattle.image_laws.specs.Size.{extentOf}
 use Rattle.image_laws.proofs.Size.{sized-cards, misfit-fits, cards-fits, cards-sized}
-use Rattle.model.specs.Image.{imageLength, imageOf, setWord, setFirstRun}
+use Rattle.model.specs.Image.{imageOf, setWord, setFirstRun}
 use Rattle.model.specs.Undamaged.{freshStore, made, freshAt}
 use lib.ListN.{length, replicate}
 use Rattle.image_laws.specs.Sized.{Sized}

@@ -5,6 +5,7 @@ pub mod Size
 pub mod Masks
 pub mod Digits
 pub mod Trailing
+pub mod Leading
 pub mod Places
 pub mod Bits
 pub mod Fresh

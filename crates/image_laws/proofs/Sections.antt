@@ -1,13 +1,13 @@
 -- The sections of an image, for words of any width: their places among the words, and their words read and written there.
-use mathlib.Core.Path.{_≡_, sym, ap, _∙_, refl}
+use mathlib.Core.Path.{_≡_, sym, ap, refl}
 use mathlib.Core.List.{List, []}
-use Prim.Native.Nat.{ℕ, _+_, _*_, _<_, _≤_}
+use Prim.Native.Nat.{ℕ, _+_, _*_, _<_}
 use native.Mathlib.Omega.{arith}
 use lib.ListN.{getD, set, length}
 use Rattle.model.specs.Base.{nth, put}
-use Rattle.model.specs.Image.{place, total, mostCards, lengths, split, image, imageOf, sections, words, granules}
+use Rattle.model.specs.Image.{place, total, lengths, split, image, imageOf, sections, words, granules}
 use Rattle.image_laws.specs.Sized.{Sized}
-use Rattle.image_laws.proofs.Split.{split-get, split-put, split-length}
+use Rattle.image_laws.proofs.Split.{split-get, split-put}
 use Rattle.model.proofs.Words.{Fits, join-split, split-lengths}
 
 -- word i of section s, which is word o

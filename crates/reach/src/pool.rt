@@ -1,7 +1,7 @@
 // The packets that no tracer holds: the emptiest with space, the fullest with entries.
 ghost use mathlib.Core.Path.{_≡_};
 ghost use mathlib.Core.Bool.{not};
-ghost use Prim.Native.Nat.{ℕ, _+_, _*_, _≤_, _<_};
+ghost use Prim.Native.Nat.{_+_, _*_, _≤_, _<_};
 ghost use Rattle.model.specs.Base.{testBit};
 ghost use Rattle.model.specs.Image.{imageOf, count};
 ghost use Rattle.model.specs.Collect.{emptiest, fullest, hasEntries};

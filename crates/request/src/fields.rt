@@ -1,7 +1,7 @@
 // The fields of a request, tested against tables with a row for each kind before its step: numbers 3, 4 and 5.
 ghost use mathlib.Core.Path.{_≡_};
 ghost use mathlib.Core.Bool.{true, false, not, _&&_};
-ghost use Prim.Native.Nat.{ℕ, _+_, _*_, _≤_, _<_};
+ghost use Prim.Native.Nat.{_*_, _≤_, _<_};
 ghost use lib.Dec.{leb, ltb, eqb};
 ghost use Rattle.model.specs.Base.{testBit};
 ghost use Rattle.model.specs.Image.{imageOf, owed};

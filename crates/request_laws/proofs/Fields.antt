@@ -2,13 +2,13 @@
 use mathlib.Core.Path.{_≡_, refl, sym, ap, subst, _∙_}
 use mathlib.Core.Bool.{Bool, true, false, not, _&&_, _||_}
 use mathlib.Core.List.{[], _∷_}
-use Prim.Native.Nat.{ℕ, suc, _^_, _≤_, _<_}
+use Prim.Native.Nat.{ℕ, _^_, _≤_, _<_}
 use native.Mathlib.Omega.{arith}
 use lib.Dec.{leb, ltb, eqb}
 use Rattle.model.specs.Base.{some}
 use Rattle.model.specs.Image.{Image, owed}
 use Rattle.model.specs.Records.{Step, Kind, unknown, kindOf}
-use Rattle.model.specs.Rows.{Role, unused, player, tracer, register, number, rowOf, is, isPlayer, fields}
+use Rattle.model.specs.Rows.{Role, unused, player, tracer, register, number, rowOf, isPlayer, fields}
 use Rattle.model.specs.Steps.{unnamed, offDesk, owes, owing, step}
 use Rattle.model.proofs.Laws.{false≢, and-split}
 use Rattle.model.proofs.Rows.{kind-known, kind-unknown}

@@ -1,6 +1,6 @@
 // Kind 10: "player a's registers are reached in rising order, and it counts as scanned".
 ghost use mathlib.Core.Path.{_≡_};
-ghost use Prim.Native.Nat.{ℕ, _+_, _*_, _≤_, _<_};
+ghost use Prim.Native.Nat.{_*_, _<_};
 ghost use lib.Dec.{eqb};
 ghost use lib.ListN.{take, drop};
 ghost use Rattle.model.specs.Image.{imageOf, scanned};

@@ -1,6 +1,6 @@
 // The chain of free runs: the lowest run that suffices.
 ghost use mathlib.Core.Path.{_≡_};
-ghost use Prim.Native.Nat.{ℕ, _+_, _*_, _≤_, _<_};
+ghost use Prim.Native.Nat.{_+_, _*_, _<_};
 ghost use Rattle.model.specs.Image.{imageOf, word, firstRun};
 ghost use Rattle.model.specs.Mutate.{roomFor, freeGranules};
 ghost use Rattle.image_laws.specs.Sized.{Sized};

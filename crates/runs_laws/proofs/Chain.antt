@@ -10,6 +10,7 @@ use Rattle.model.specs.Image.{Image, granules, word, firstRun}
 use Rattle.model.specs.Mutate.{fit, roomFor, Room, freeFrom, freeGranules}
 use Rattle.runs_laws.specs.Chain.{Linked, linked-end, linked-run}
 use Rattle.model.specs.Steps.{run}
+use Rattle.theory.proofs.heap.Free.{chain-end}
 use native.Mathlib.Nat.{zero-add}
 use Rattle.model.specs.Mutate
 
@@ -108,11 +109,6 @@ module _ (m : Image) (b before g : ℕ) (w : Walk m b before g) where
 
 -- ---- the walk that counts granules
 
-free-end : (m : Image) (n : ℕ) → freeFrom m n 0 ≡ 0
-unfolding freeFrom
-free-end m zero = refl
-free-end m (suc n) = refl
-
 free-next : (m : Image) (n g : ℕ) → 0 < n → 0 < g → freeFrom m n g ≡ word m g 0 + freeFrom m (n - 1) (word m g 1)
 unfolding freeFrom
 free-next m zero g h i = absurd (omega arith)
@@ -135,7 +131,7 @@ count-first m g e l = record { left = granules m; on = on-first m g e l; same = 
 
 module _ (m : Image) (total g : ℕ) (w : Counting m total g) where
   pub count-end : g ≡ 0 → total ≡ freeGranules m
-  count-end e = omega (arith, w .same, ap (freeFrom m (w .left)) e, free-end m (w .left))
+  count-end e = omega (arith, w .same, ap (freeFrom m (w .left)) e, chain-end m (w .left))
 
   module _ (h : g ≡ 0 → ⊥) where
     pub count-in : g < granules m

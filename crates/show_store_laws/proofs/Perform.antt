@@ -1,11 +1,11 @@
 -- The dispatch: what an admitted request's fields are, kind by kind, and its step by its kind.
 use mathlib.Core.Path.{_≡_, refl, sym, ap, subst, _∙_}
-use mathlib.Core.Bool.{Bool, true, false}
+use mathlib.Core.Bool.{true}
 use Prim.Native.Nat.{ℕ, zero, suc, _^_, _≤_, _<_}
 use native.Mathlib.Decide.{decLt}
 use native.Mathlib.Omega.{arith}
 use Rattle.model.specs.Image.{Image, owed}
-use Rattle.model.specs.Records.{Step, Kind, unknown, kindOf}
+use Rattle.model.specs.Records.{Kind, unknown, kindOf}
 use Rattle.model.specs.Rows.{rowOf, player}
 use Rattle.model.specs.Steps as steps
 use Rattle.model.specs.Steps.{unnamed, step}

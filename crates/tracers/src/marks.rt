@@ -1,6 +1,6 @@
 // The next marked object of a card: trailing zeros of its remaining mark bits.
 ghost use mathlib.Core.Path.{_≡_};
-ghost use Prim.Native.Nat.{ℕ, _+_, _*_, _-_, _≤_, _<_};
+ghost use Prim.Native.Nat.{_+_, _*_, _-_, _≤_, _<_};
 ghost use Rattle.model.specs.Image.{imageOf};
 ghost use Rattle.model.specs.Collect.{nextMarked};
 ghost use Rattle.image_laws.specs.Sized.{Sized};

@@ -19,7 +19,7 @@ use Rattle.image_laws.proofs.Lengths.{sized-as, sized-width}
 use Rattle.image_laws.proofs.Masks.{withoutBit-same, withoutBit-less, withoutBit-other}
 use Rattle.image_laws.proofs.Places.{by-width, place-in, words-full}
 use Rattle.finish_laws.specs.Gaps.{Edged, edged, keptAt, passed, sweptFrom}
-use Rattle.finish_laws.proofs.gaps.Leading.{Highest, Leading, bit-past, word-leading}
+use Rattle.image_laws.proofs.Leading.{Highest, Leading, bit-past, word-leading}
 use Rattle.finish_laws.proofs.gaps.Granules.{from-marks, passed-keep, from-suc, from-unmarked, from-full}
 
 module _ (w k : ℕ) (ws : List ℕ) (i : ℕ) where

@@ -9,7 +9,7 @@ use lib.ListN.{length, take, drop, replicate, take-append-drop, length-append, l
 use lib.Seq.{drop-at, length-take-le}
 use borrow.Author.Tests.{leb-true, eqb-true, le-leb, eq-eqb, not-true}
 use Rattle.model.specs.Base.{nth}
-use Rattle.model.specs.Image.{Image, granules, word, isStart, marked, size, links, firstRun}
+use Rattle.model.specs.Image.{Image, granules, word, isStart, marked, size, links}
 use Rattle.model.specs.Undamaged.{bare, piece, fill, filled}
 use Rattle.model.specs.Finish.{runTail}
 use Rattle.model.proofs.Laws.{every-use, every-cons, every-nil, all-use, all-make, false≢, not-make}

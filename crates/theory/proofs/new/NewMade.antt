@@ -8,7 +8,7 @@ use native.Mathlib.Omega.{arith}
 use Rattle.model.specs.Base.{nth, put}
 use Rattle.model.specs.Image.{Image, granules, word, isStart, size, links, reg, firstRun, withRegs, setReg, owed}
 use Rattle.model.specs.Mutate.{roomFor, newObject}
-use Rattle.model.proofs.Laws.{nth-put-other, not-make}
+use Rattle.model.proofs.Laws.{not-make}
 use Rattle.theory.specs.Heap.{HeapFilled, HeapSized, Laid}
 use Rattle.theory.specs.Pieces.{Pieces, PiecesIn, PlaceIn, RunApart}
 use Rattle.theory.specs.New.{placed, reheaped, nextOf, Carved, NewMade}
