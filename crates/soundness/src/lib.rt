@@ -10,7 +10,6 @@ ghost use Rattle.soundness_laws.specs.Tests.{notScanned, idle, layout, cycleLin
 use crate::sets::TARGETS;
 use image::layout::Word;
 
-pub mod hands; // hands.rt: objects and cards in hand, packets held
 pub mod heap; // heap.rt: objects and runs fill the heap; links and registers are nil or starts
 pub mod marks; // marks.rt: marks stand only on starts
 pub mod packets; // packets.rt: packets, and no object entered twice

@@ -1,7 +1,7 @@
 use borrow.Author.Needs.{needs}
 use Rattle.soundness_laws.proofs.Hands.{hand-nil, hand-out, hand-marked}
-use Rattle.soundness.proofs.hands.hand_ok.Statement.{statement}
-use Rattle.soundness.proofs.hands.hand_ok.Tie as tie
+use Rattle.hands.proofs.hand_ok.Statement.{statement}
+use Rattle.hands.proofs.hand_ok.Tie as tie
 
 pub hand-ok-spec : {M : Type 1} → statement M
 hand-ok-spec =

@@ -3,8 +3,8 @@ use Rattle.model.specs.Base.{every}
 use Rattle.model.specs.Image.{hand, nextLink, handCard, nextGranule}
 use Rattle.model.specs.Undamaged.{tracerOk}
 use mathlib.Core.Bool.{and-true, and-assoc}
-use Rattle.soundness.proofs.hands.tracer_ok.Statement.{statement}
-use Rattle.soundness.proofs.hands.tracer_ok.Tie as tie
+use Rattle.hands.proofs.tracer_ok.Statement.{statement}
+use Rattle.hands.proofs.tracer_ok.Tie as tie
 
 returns : tie.Need-returns
 unfolding tracerOk every hand nextLink handCard nextGranule

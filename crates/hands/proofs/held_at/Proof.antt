@@ -1,7 +1,7 @@
 use borrow.Author.Needs.{needs}
 use Rattle.model.specs.Undamaged.{heldAt}
-use Rattle.soundness.proofs.hands.held_at.Statement.{statement}
-use Rattle.soundness.proofs.hands.held_at.Tie as tie
+use Rattle.hands.proofs.held_at.Statement.{statement}
+use Rattle.hands.proofs.held_at.Tie as tie
 
 returns : tie.Need-returns
 unfolding heldAt

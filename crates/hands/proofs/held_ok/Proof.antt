@@ -4,8 +4,8 @@ use borrow.Author.Needs.{needs}
 use Rattle.model.specs.Image.{imageOf}
 use Rattle.image.specs.Layout.{width}
 use Rattle.soundness_laws.proofs.Checks.{Checked, checked-none, checked-more, checked-end}
-use Rattle.soundness.proofs.hands.held_ok.Statement.{statement}
-use Rattle.soundness.proofs.hands.held_ok.Tie as tie
+use Rattle.hands.proofs.held_ok.Statement.{statement}
+use Rattle.hands.proofs.held_ok.Tie as tie
 
 abbrev Inv-loop : tie.InvT-loop
 Inv-loop im k ok₀ i₀ ok i = Checked 16 (heldOnce (imageOf width k im)) ok i

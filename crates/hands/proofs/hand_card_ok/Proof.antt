@@ -1,7 +1,7 @@
 use borrow.Author.Needs.{needs}
 use Rattle.soundness_laws.proofs.Hands.{card-nil, card-no, card-yes}
-use Rattle.soundness.proofs.hands.hand_card_ok.Statement.{statement}
-use Rattle.soundness.proofs.hands.hand_card_ok.Tie as tie
+use Rattle.hands.proofs.hand_card_ok.Statement.{statement}
+use Rattle.hands.proofs.hand_card_ok.Tie as tie
 
 pub hand-card-ok-spec : {M : Type 1} → statement M
 hand-card-ok-spec =

@@ -1,8 +1,8 @@
 use borrow.Author.Needs.{needs}
 use mathlib.Core.Path.{refl}
 use Rattle.soundness_laws.specs.Tests.{apart}
-use Rattle.soundness.proofs.hands.is_apart.Statement.{statement}
-use Rattle.soundness.proofs.hands.is_apart.Tie as tie
+use Rattle.hands.proofs.is_apart.Statement.{statement}
+use Rattle.hands.proofs.is_apart.Tie as tie
 
 returns : tie.Need-returns
 unfolding apart
