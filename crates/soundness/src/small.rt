@@ -87,7 +87,7 @@ fn is_small_word(im: &[Word], k: usize, targets: &[Word], bounds: &[Word], a: us
     all_small(im, k, targets, a, e)
 }
 
-// The granule before which all are small objects, by whole words of the n that are full of starts.
+// The same for the bit words one after the other, of the n that are full of starts.
 fn small_words(im: &[Word], k: usize, targets: &[Word], bounds: &[Word], n: usize) -> usize
     requires { ⌜ Sized width k (now im) ⌝ }
     requires { ⌜ Targets width (imageOf width k (now im)) (now targets) ⌝ }
@@ -105,6 +105,7 @@ fn small_words(im: &[Word], k: usize, targets: &[Word], bounds: &[Word], n: usiz
     g
 }
 
+// Where the walk begins: the granules before it, but granule 0, hold small objects.
 pub fn after_small(im: &[Word], k: usize, targets: &[Word]) -> usize
     requires { ⌜ Sized width k (now im) ⌝ }
     requires { ⌜ Targets width (imageOf width k (now im)) (now targets) ⌝ }

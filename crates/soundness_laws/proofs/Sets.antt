@@ -177,9 +177,6 @@ module _ (w : ℕ) where
 -- ---- what the full words of the targets tell: their values are nil or starts
 
 module _ (w k : ℕ) (l : List ℕ) (z : Sized w k l) (set : List ℕ) (t : Targets w (imageOf w k l) set) where
-  pub last-small : w * fullWords w set ≤ w * 4096
-  last-small = mul-le-mul-left w (omega (arith, full-few w set, t .long))
-
   pub low-target : (a : ℕ) → a ≤ lastFull w set → nilOrStart (imageOf w k l) a ≡ true
   unfolding nilOrStart either
   low-target a h = go (ℕ-discrete a 0)

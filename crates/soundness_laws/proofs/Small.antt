@@ -172,7 +172,7 @@ module _ (w k : ℕ) (l set bs : List ℕ) (z : Sized w k l) (t : Targets w (ima
 
 module _ (w k : ℕ) (l set : List ℕ) (z : Sized w k l) (t : Targets w (imageOf w k l) set) where
   -- the bit word of granule a ends among those that are full
-  pub word-end : (a : ℕ) → a < w * fullWords w set → (a % w < w) × ((a % w ≤ a) × (a - a % w + w ≤ w * fullWords w set))
+  word-end : (a : ℕ) → a < w * fullWords w set → (a % w < w) × ((a % w ≤ a) × (a - a % w + w ≤ w * fullWords w set))
   word-end a h =
       let m : w * (a / w + 1) ≤ w * fullWords w set = mul-le-mul-left w (omega (arith, full-place w set a h)) in
       let s : w * (a / w + 1) ≡ w * (a / w) + w = rw (add-one (a / w)) (mul-suc w (a / w)) in

@@ -20,4 +20,5 @@ pub links-ok-spec : {M : Type 1} → statement M
 links-ok-spec =
     tie.close
     (tie.spec Inv-loop μ-loop (λ c κs. search needs) (λ c κs. search needs) loop-holds (λ c κs. search needs) (λ c. search needs)
-    (λ c. search needs) (λ c. search checked-more) (λ c. search checked-end))
+    (λ c. search needs) (λ c. checked-more _ _ _ _ _ (c .before .before .loop .inv) (c .before .loop-test .taken) (c .link-ok .ensures))
+    (λ c. checked-end _ _ _ _ (c .before .loop .inv) (c .loop-test .left)))

@@ -22,10 +22,10 @@ loop-holds : tie.Need-loop-holds Inv-loop μ-loop
 loop-holds c = checked-none
 
 loop-again : tie.Need-loop-again Inv-loop μ-loop
-loop-again c = search checked-more
+loop-again c = checked-more _ _ _ _ _ (c .before .before .loop .inv) (c .before .loop-test .taken) (c .reg-ok .ensures)
 
 returns-2 : tie.Need-returns-2 Inv-loop μ-loop
-returns-2 c = search checked-end
+returns-2 c = checked-end _ _ _ _ (c .before .loop .inv) (c .loop-test .left)
 
 pub regs-ok-spec : {M : Type 1} → statement M
 regs-ok-spec =

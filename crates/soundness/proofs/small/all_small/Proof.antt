@@ -17,10 +17,10 @@ loop-holds : tie.Need-loop-holds Inv-loop μ-loop
 loop-holds c = from-none _ _ _
 
 loop-again : tie.Need-loop-again Inv-loop μ-loop
-loop-again c = search from-more
+loop-again c = from-more _ _ _ _ _ (c .before .before .loop .inv) _ (c .before .loop-test .taken) (c .is-small .ensures)
 
 returns : tie.Need-returns Inv-loop μ-loop
-returns c = search from-end
+returns c = from-end _ _ _ _ _ (c .before .loop .inv) (c .loop-test .left)
 
 pub all-small-spec : {M : Type 1} → statement M
 all-small-spec =

@@ -1,0 +1,20 @@
+use Rattle.model.specs.Undamaged.{heldOnce}
+use Prim.Native.Nat.{_-_}
+use borrow.Author.Needs.{needs}
+use Rattle.model.specs.Image.{imageOf}
+use Rattle.image.specs.Layout.{width}
+use Rattle.soundness_laws.proofs.Checks.{Checked, checked-none, checked-more, checked-end}
+use Rattle.short_sections.proofs.hands.held_ok.Statement.{statement}
+use Rattle.short_sections.proofs.hands.held_ok.Tie as tie
+
+abbrev Inv-loop : tie.InvT-loop
+Inv-loop im k ok₀ i₀ ok i = Checked 16 (heldOnce (imageOf width k im)) ok i
+
+abbrev μ-loop : tie.MeasureT-loop
+μ-loop im k ok₀ i₀ ok i = 16 - i
+
+pub held-ok-spec : {M : Type 1} → statement M
+held-ok-spec =
+    tie.close
+    (tie.spec Inv-loop μ-loop (λ c. checked-none) (λ c κs. search needs) (λ c. search needs) (λ c. search needs) (λ c. search checked-more)
+    (λ c. search checked-end))
