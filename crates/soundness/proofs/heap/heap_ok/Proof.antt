@@ -4,7 +4,7 @@ use Rattle.soundness.proofs.heap.heap_ok.Statement.{statement}
 use Rattle.soundness.proofs.heap.heap_ok.Tie as tie
 
 returns : tie.Need-returns
-returns c = search heap-no
+returns c = heap-no _ _ _ _ (c .before .first-unused .ensures) (c .if1 .taken)
 
 walk-requires : tie.Need-walk-requires
 walk-requires c κs =

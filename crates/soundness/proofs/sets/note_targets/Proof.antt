@@ -18,7 +18,7 @@ slice-write-targets c = t-place _ _ _ (c .before .before .before .before .before
 
 loop-again : tie.Need-loop-again Inv-loop μ-loop
 unfolding put
-loop-again c = search t-more
+loop-again c = t-more _ _ _ (c .before .before .before .before .before .before .pre .0) _ _ _ _ (c .before .before .loop .inv) (c .before .before .before .least .ensures) (c .before .loop-test .taken) (c .start-word .ensures)
 
 slice-read-x : tie.Need-slice-read-x Inv-loop μ-loop
 slice-read-x c = t-place _ _ _ (c .before .before .before .before .before .before .pre .0) _ _ _ (c .before .before .loop .inv) (omega arith)
@@ -32,11 +32,12 @@ same-length c = t-same _ _ _ (c .before .before .before .before .before .before 
 
 returns : tie.Need-returns Inv-loop μ-loop
 unfolding put nth
-returns c = search t-end
+returns c = t-end _ _ _ (c .before .before .before .before .before .before .before .pre .0) _ _ _ _ (c .before .before .before .loop .inv) (c .before .before .before .before .least .ensures) (c .before .before .loop-test .left) (c .with-bit .ensures)
 
 pub note-targets-spec : {M : Type 1} → statement M
 note-targets-spec =
     tie.close
-    (tie.spec Inv-loop μ-loop (λ c. search needs) (λ c κs. search needs) (λ c. search t-none) (λ c κs. search needs) (λ c. search needs)
+    (tie.spec Inv-loop μ-loop (λ c. search needs) (λ c κs. search needs)
+    (λ c. t-none _ _ _ (c .before .before .before .pre .0) _ (c .before .before .before .pre .1)) (λ c κs. search needs) (λ c. search needs)
     slice-write-targets (λ c. search needs) (λ c. search needs) loop-again slice-read-x (λ c κs. search needs) slice-write-targets-2
     same-length returns)

@@ -29,4 +29,4 @@ pub count-starts-spec : {M : Type 1} → statement M
 count-starts-spec =
     tie.close
     (tie.spec Inv-loop μ-loop loop-holds (λ c. search needs) (λ c κs. search needs) (λ c. search needs) cast-n-2 add-n (λ c. search needs)
-    (λ c. search needs) loop-again (λ c. search c-end))
+    (λ c. search needs) loop-again (λ c. c-end _ _ _ _ _ (c .before .before .before .pre) (c .before .loop .inv) (c .loop-test .left)))
