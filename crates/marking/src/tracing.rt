@@ -25,7 +25,7 @@ fn trace_input(im: &mut [Word], k: usize, t: usize, p: usize)
     requires { ⌜ (t < 8) × (p < 32) × (input (imageOf width k (now im)) t ≡ suc p) × (0 < count (imageOf width k (now im)) p) ⌝ }
     ensures { λ _. ⌜ imageOf width k (now (im .exit)) ≡ traceInput (imageOf width k (now (im .entry))) t ⌝ }
 {
-    let g = packets::packet::pop_entry(im, k, p);
+    let g = work_packets::packet::pop_entry(im, k, p);
     if image::cards::is_dirty(im, k, g as usize / 64) {
         return;
     }

@@ -49,7 +49,7 @@ pub fn enter(im: &mut [Word], k: usize, t: usize, g: Word)
     if x == 0 {
         image::cards::dirty_card(im, k, g as usize / 64);
     } else {
-        packets::packet::append_entry(im, k, x - 1, g);
+        work_packets::packet::append_entry(im, k, x - 1, g);
     }
 }
 

@@ -2,8 +2,8 @@ use borrow.Author.Needs.{needs}
 use Rattle.tracers_laws.specs.Packet.{withEntry}
 use Rattle.model.specs.Base.{put}
 use mathlib.Core.Path.{refl}
-use Rattle.packets.proofs.packet.Packet.push.Statement.{statement}
-use Rattle.packets.proofs.packet.Packet.push.Tie as tie
+use Rattle.work_packets.proofs.packet.Packet.push.Statement.{statement}
+use Rattle.work_packets.proofs.packet.Packet.push.Tie as tie
 
 returns : tie.Need-returns
 unfolding withEntry put

@@ -4,8 +4,8 @@ use native.Mathlib.Omega.{arith}
 use borrow.Author.Needs.{needs}
 use lib.ListN.{length, take, length-set}
 use Rattle.tracers_laws.proofs.Copy.{alike-more, alike-done}
-use Rattle.packets.proofs.packet.thirty.Statement.{statement}
-use Rattle.packets.proofs.packet.thirty.Tie as tie
+use Rattle.work_packets.proofs.packet.thirty.Statement.{statement}
+use Rattle.work_packets.proofs.packet.thirty.Tie as tie
 
 abbrev Inv-loop : tie.InvT-loop
 Inv-loop s e₀ j₀ e j = (j ≤ 30) × (take j e ≡ take j s) × (length e ≡ 30)

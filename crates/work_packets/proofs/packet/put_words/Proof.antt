@@ -6,8 +6,8 @@ use borrow.Author.Needs.{needs}
 use lib.ListN.{length, take, length-set}
 use Rattle.tracers_laws.specs.Packet.{wordsOf}
 use Rattle.tracers_laws.proofs.Copy.{headed-more, headed-first, headed-done}
-use Rattle.packets.proofs.packet.put_words.Statement.{statement}
-use Rattle.packets.proofs.packet.put_words.Tie as tie
+use Rattle.work_packets.proofs.packet.put_words.Statement.{statement}
+use Rattle.work_packets.proofs.packet.put_words.Tie as tie
 
 abbrev Inv-loop : tie.InvT-loop
 Inv-loop s₀ n e j₀ s j = (j ≤ 30) × (take (j + 2) s ≡ n ∷ 0 ∷ take j e) × (length s ≡ 32) × (length e ≡ 30)

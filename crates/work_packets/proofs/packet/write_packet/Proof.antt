@@ -1,11 +1,11 @@
 use borrow.Author.Needs.{needs}
 use Rattle.tracers_laws.proofs.Packet.{packet-written}
 use native.Mathlib.Omega.{arith}
-use Rattle.packets.specs.Plain.{packetOf}
+use Rattle.work_packets.specs.Plain.{packetOf}
 use Rattle.image.specs.Layout.{width, perCard, packetsFrom}
 use Prim.Native.Nat.{_+_, _*_}
-use Rattle.packets.proofs.packet.write_packet.Statement.{statement}
-use Rattle.packets.proofs.packet.write_packet.Tie as tie
+use Rattle.work_packets.proofs.packet.write_packet.Statement.{statement}
+use Rattle.work_packets.proofs.packet.write_packet.Tie as tie
 
 returns : tie.Need-returns
 returns c =

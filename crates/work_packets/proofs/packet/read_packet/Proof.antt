@@ -3,8 +3,8 @@ use Rattle.tracers_laws.proofs.Packet.{packet-read}
 use native.Mathlib.Omega.{arith}
 use Rattle.image.specs.Layout.{width, perCard, packetsFrom}
 use Prim.Native.Nat.{_+_, _*_}
-use Rattle.packets.proofs.packet.read_packet.Statement.{statement}
-use Rattle.packets.proofs.packet.read_packet.Tie as tie
+use Rattle.work_packets.proofs.packet.read_packet.Statement.{statement}
+use Rattle.work_packets.proofs.packet.read_packet.Tie as tie
 
 returns : tie.Need-returns
 returns c =

@@ -8,7 +8,7 @@ ghost use Rattle.model.specs.Collect.{append};
 ghost use Rattle.image_laws.specs.Sized.{Sized};
 ghost use Rattle.image.specs.Layout.{width};
 ghost use Rattle.tracers_laws.specs.Packet.{Tidy, LastOff, packetAt, withEntry, withoutLast, wordsOf, withPacket};
-ghost use Rattle.packets.specs.Plain.{packetOf};
+ghost use Rattle.work_packets.specs.Plain.{packetOf};
 use image::layout::PACKETS;
 use image::layout::PER_CARD;
 use image::layout::Word;

@@ -1,8 +1,8 @@
 use borrow.Author.Needs.{needs}
 use Rattle.tracers_laws.proofs.Packet.{packet-count, pushed-count, append-done}
 use native.Mathlib.Omega.{arith}
-use Rattle.packets.proofs.packet.append_entry.Statement.{statement}
-use Rattle.packets.proofs.packet.append_entry.Tie as tie
+use Rattle.work_packets.proofs.packet.append_entry.Statement.{statement}
+use Rattle.work_packets.proofs.packet.append_entry.Tie as tie
 
 push-requires : tie.Need-push-requires
 push-requires c κs = omega (arith, packet-count _ _ _ (c .read-packet .ensures))

@@ -1,8 +1,8 @@
 use borrow.Author.Needs.{needs}
 use Rattle.model.specs.Base.{nth}
 use mathlib.Core.Path.{refl}
-use Rattle.packets.proofs.packet.Packet.last.Statement.{statement}
-use Rattle.packets.proofs.packet.Packet.last.Tie as tie
+use Rattle.work_packets.proofs.packet.Packet.last.Statement.{statement}
+use Rattle.work_packets.proofs.packet.Packet.last.Tie as tie
 
 returns : tie.Need-returns
 unfolding nth

@@ -2,8 +2,8 @@ use borrow.Author.Needs.{needs}
 use Rattle.tracers_laws.specs.Packet.{withoutLast}
 use Rattle.model.specs.Base.{put}
 use mathlib.Core.Path.{refl}
-use Rattle.packets.proofs.packet.Packet.pop.Statement.{statement}
-use Rattle.packets.proofs.packet.Packet.pop.Tie as tie
+use Rattle.work_packets.proofs.packet.Packet.pop.Statement.{statement}
+use Rattle.work_packets.proofs.packet.Packet.pop.Tie as tie
 
 returns : tie.Need-returns
 unfolding withoutLast put

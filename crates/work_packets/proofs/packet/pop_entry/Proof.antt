@@ -1,8 +1,8 @@
 use borrow.Author.Needs.{needs}
 use Rattle.tracers_laws.proofs.Packet.{pop-done, packet-count, popped-count}
 use native.Mathlib.Omega.{arith}
-use Rattle.packets.proofs.packet.pop_entry.Statement.{statement}
-use Rattle.packets.proofs.packet.pop_entry.Tie as tie
+use Rattle.work_packets.proofs.packet.pop_entry.Statement.{statement}
+use Rattle.work_packets.proofs.packet.pop_entry.Tie as tie
 
 last-requires : tie.Need-last-requires
 last-requires c κs = let n = packet-count _ _ _ (c .read-packet .ensures) in (omega (arith, n), omega (arith, n))
