@@ -16,13 +16,16 @@ use crate::layout::PLAYERS;
 use crate::layout::TRACERS;
 use crate::layout::Word;
 
+// Two words at a time, one from each half: a loop that long runs as fast wherever it lies in the program.
 pub fn zeros(s: &[Word]) -> bool
     ensures { λ r. ⌜ r ≡ zeroes (now (s .entry)) ⌝ }
 {
+    let h = s.len() / 2;
+    let n = s.len() - h;
     let mut bad: Word = 0;
     let mut i = 0;
-    while i < s.len() {
-        bad |= s[i];
+    while i < n {
+        bad |= s[i] | s[h + i];
         i += 1;
     }
     bad == 0

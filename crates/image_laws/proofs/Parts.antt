@@ -1,5 +1,5 @@
 -- Parts of the slice read as a whole: words that are 0, gathered by a loop.
-use Rattle.image_laws.specs.Parts.{isZero}
+use Rattle.image_laws.specs.Parts.{isZero, bothZero}
 use Rattle.image_laws.proofs.Split.{split-part}
 use Rattle.model.specs.Base.{nth, all, zeroes}
 use Rattle.model.specs.Image.{place, lengths, split}
@@ -14,8 +14,9 @@ use lib.Seq.{drop-drop, length-take-le}
 use borrow.Author.Tests.{eq-eqb, ne-eqb}
 use lib.Bits.{bitOr, and-le-l, and-le-r, or-add-and}
 use native.Mathlib.Numerals.{add-one}
-use native.Mathlib.Decide.{ℕ-discrete}
+use native.Mathlib.Decide.{ℕ-discrete, decLt}
 use Rattle.model.proofs.Entries.{nth-drop, nth-take}
+use Rattle.model.proofs.Laws.{and-split, and-join, same-test, all-use, all-make}
 use Rattle.model.specs.Examples.{at}
 
 -- ---- all of the numbers below n
@@ -71,6 +72,28 @@ pub zeroes-all : (l : List ℕ) → all (length l) (isZero l) ≡ zeroes l
 unfolding zeroes isZero nth
 zeroes-all [] = sym (all-none _)
 zeroes-all (x ∷ l) = all-first (length l) (isZero (x ∷ l)) ∙ ap (λ b. eqb x 0 && b) (zeroes-all l)
+
+-- words taken by twos, h apart
+pub or-both : (l : List ℕ) (h i : ℕ) → eqb (bitOr (nth l i) (nth l (h + i))) 0 ≡ bothZero l h i
+unfolding bothZero isZero
+or-both l h i = or-zero (nth l i) (nth l (h + i))
+
+-- every word is one of the first n, or of the n behind the first h
+pub zeroes-both : (l : List ℕ) (n h : ℕ) → h + n ≡ length l → h ≤ n → all n (bothZero l h) ≡ zeroes l
+unfolding bothZero
+zeroes-both l n h e q = same-test _ _ there back ∙ zeroes-all l
+  where
+    there : all n (bothZero l h) ≡ true → all (length l) (isZero l) ≡ true
+    there t = all-make (length l) (isZero l) (λ i b. here i b (decLt i n))
+      where
+        here : (i : ℕ) → i < length l → Dec (i < n) → isZero l i ≡ true
+        here i b (yes p) = and-split (isZero l i) (isZero l (h + i)) (all-use n (bothZero l h) t i p) .0
+        here i b (no p) =
+            let z : h + (i - h) ≡ i = omega arith in
+            rw z at (and-split (isZero l (i - h)) (isZero l (h + (i - h))) (all-use n (bothZero l h) t (i - h) (omega arith)) .1)
+
+    back : all (length l) (isZero l) ≡ true → all n (bothZero l h) ≡ true
+    back t = all-make n (bothZero l h) (λ i p. and-join (isZero l i) (isZero l (h + i)) (all-use (length l) (isZero l) t i (omega arith)) (all-use (length l) (isZero l) t (h + i) (omega arith)))
 
 -- ---- sections, and parts of them, by their stretch of the slice
 
