@@ -2,8 +2,7 @@
 use mathlib.Core.Path.{_≡_, refl, sym, ap, _∙_}
 use mathlib.Core.Bool.{Bool, true, false, not, cond, _&&_, and-true, and-false, and-assoc}
 use mathlib.Core.List.{List, [], _∷_}
-use Prim.Native.Nat.{ℕ, zero, suc, _+_, _*_, _-_, _≤_, _<_}
-use native.Mathlib.Decide.{ℕ-discrete, decLt}
+use Prim.Native.Nat.{ℕ, suc, _+_, _*_, _-_, _≤_, _<_}
 use native.Mathlib.Nat.{add-zero, zero-add}
 use native.Mathlib.Omega.{arith}
 use lib.Dec.{eqb, leb}
@@ -24,10 +23,6 @@ use Rattle.image_laws.proofs.Lengths.{heap-words}
 use Rattle.image_laws.specs.Digits.{digit, startBit}
 
 -- ---- one turn of the model's walk
-
-fill-none : (st : ℕ → Bool) (g : ℕ) (ws : List ℕ) (next : ℕ) (run : Bool) → fill st zero g ws next run ≡ false
-unfolding fill
-fill-none st g ws next run = refl
 
 fill-end : (st : ℕ → Bool) (n g next : ℕ) (run : Bool) → fill st (suc n) g [] next run ≡ eqb next 0
 unfolding fill
@@ -219,21 +214,6 @@ module _ (w k : ℕ) (l : List ℕ) where
               let o : g ≡ 64 * k = omega (arith, v .inside) in
               let a : all (64 * k) (linksOk (imageOf w k l)) ≡ true = rw o at (v .so-far (rw (o, ← en) e)) in
               rw a refl
-
-    -- ---- every start of a filled heap is an object in order
-
-    pub starts-ok : (n g next : ℕ) (run : Bool) → fillFrom n g next run ≡ true → (h : ℕ) → g ≤ h → h < 64 * k → isStart (imageOf w k l) h ≡ true → objectOk (imageOf w k l) h ≡ true
-    starts-ok zero g next run e h p q s = false≢ (sym (fill-none _ g _ next run) ∙ e)
-    starts-ok (suc n) g next run e h p q s =
-        let hg : g < 64 * k = omega arith in
-        let f = and-split _ _ (sym (by-pieces g next run hg n) ∙ e) in
-        let p = and-split _ _ (f .0) in
-        go hg (λ r. starts-ok n (g + word (imageOf w k l) g 0) (nextRun (imageOf w k l) g next) (not (isStart (imageOf w k l) g)) (f .1) h r q s) (p .0) (p .1) (ℕ-discrete h g) (decLt h (g + word (imageOf w k l) g 0))
-      where
-        go : (hg : g < 64 * k) → (g + word (imageOf w k l) g 0 ≤ h → objectOk (imageOf w k l) h ≡ true) → pieceOk (imageOf w k l) g next run ≡ true → clear (imageOf w k l) (g + 1) (word (imageOf w k l) g 0 - 1) ≡ true → Dec (h ≡ g) → Dec (h < g + word (imageOf w k l) g 0) → objectOk (imageOf w k l) h ≡ true
-        go hg ih o c (yes d) r = rw d (piece-start g next run hg o (rw d at s))
-        go hg ih o c (no d) (yes r) = false≢ (sym (clear-use (g + 1) (word (imageOf w k l) g 0 - 1) h c (omega arith) (omega arith)) ∙ s)
-        go hg ih o c (no d) (no r) = ih (omega arith)
 
 -- ---- the ways out of `object_links`, `first_unused` and `heap_ok`
 

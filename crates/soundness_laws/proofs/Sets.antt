@@ -90,9 +90,6 @@ module _ (w k : ℕ) (l : List ℕ) (z : Sized w k l) where
   -- ---- the ways out of `is_target`
 
   module _ (set : List ℕ) (t : Targets w (imageOf w k l) set) (a : ℕ) where
-    pub target-place : a / w < 4096 → a / w < length set
-    target-place h = omega (arith, t .long)
-
     pub target-bit : (r : Bool) → a / w < 4096 → r ≡ bit w set a → r ≡ nilOrStart (imageOf w k l) a
     target-bit r h e = e ∙ t .bits a h
 
