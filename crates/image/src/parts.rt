@@ -16,8 +16,21 @@ use crate::layout::PLAYERS;
 use crate::layout::TRACERS;
 use crate::layout::Word;
 
-// Two words at a time, one from each half: a loop that long runs as fast wherever it lies in the program.
-pub fn zeros(s: &[Word]) -> bool
+// Word by word: for a few words.
+fn few_zeros(s: &[Word]) -> bool
+    ensures { λ r. ⌜ r ≡ zeroes (now (s .entry)) ⌝ }
+{
+    let mut bad: Word = 0;
+    let mut i = 0;
+    while i < s.len() {
+        bad |= s[i];
+        i += 1;
+    }
+    bad == 0
+}
+
+// A word of each half at a time: a loop that long runs as fast wherever it lies in the program.
+fn many_zeros(s: &[Word]) -> bool
     ensures { λ r. ⌜ r ≡ zeroes (now (s .entry)) ⌝ }
 {
     let h = s.len() / 2;
@@ -29,6 +42,15 @@ pub fn zeros(s: &[Word]) -> bool
         i += 1;
     }
     bad == 0
+}
+
+pub fn zeros(s: &[Word]) -> bool
+    ensures { λ r. ⌜ r ≡ zeroes (now (s .entry)) ⌝ }
+{
+    if s.len() < 256 {
+        return few_zeros(s);
+    }
+    many_zeros(s)
 }
 
 pub fn zero_marks(im: &[Word], k: usize) -> bool

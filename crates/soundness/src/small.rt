@@ -105,6 +105,17 @@ fn small_words(im: &[Word], k: usize, targets: &[Word], bounds: &[Word], n: usiz
     g
 }
 
+// The last value that n full words have a bit for.
+fn last_full(n: usize) -> Word
+    requires { ⌜ n ≤ 4096 ⌝ }
+    ensures { λ r. ⌜ r ≡ width * n - 1 ⌝ }
+{
+    if n == 0 {
+        return 0;
+    }
+    (BITS * n - 1) as Word
+}
+
 // Where the walk begins: the granules before it, but granule 0, hold small objects.
 pub fn after_small(im: &[Word], k: usize, targets: &[Word]) -> usize
     requires { ⌜ Sized width k (now im) ⌝ }
@@ -116,19 +127,19 @@ pub fn after_small(im: &[Word], k: usize, targets: &[Word]) -> usize
         return 1;
     }
     let mut bounds: [Word; 8 * BITS] = [0; 8 * BITS];
-    note_bounds(&mut bounds, (BITS * n - 1) as Word);
+    note_bounds(&mut bounds, last_full(n));
     small_words(im, k, targets, &bounds, n)
 }
 
-// No register holds more than the full words have bits for: then all are nil or starts.
+// No register holds more than the full words have bits for: then all are nil or starts. Where some do, the first mostly is one.
 pub fn low_regs(im: &[Word], k: usize, targets: &[Word]) -> bool
     requires { ⌜ Sized width k (now im) ⌝ }
     requires { ⌜ Targets width (imageOf width k (now im)) (now targets) ⌝ }
     ensures { λ r. ⌜ r ≡ atMost (lastFull width (now (targets .entry))) (imageOf width k (now (im .entry)) .regs) ⌝ }
 {
-    let n = crate::sets::full_words(targets);
-    if n == 0 {
-        return image::compare::regs_at_most(im, k, 0);
+    let top = last_full(crate::sets::full_words(targets));
+    if top < image::sections::reg_word(im, k, 0) {
+        return false;
     }
-    image::compare::regs_at_most(im, k, (BITS * n - 1) as Word)
+    image::compare::regs_at_most(im, k, top)
 }

@@ -206,6 +206,15 @@ module _ (w k : ℕ) (l : List ℕ) (z : Sized w k l) (set : List ℕ) (t : Targ
   unfolding atMost noMore regOk
   low-regs e = sym (all-make 256 _ (λ i h. low-target _ (leb-true _ _ (all-use _ _ (sym e) i (rw regs-words h)))))
 
+  -- the first of them holds more
+  pub high-reg : (top x : ℕ) → x ≡ nth (imageOf w k l .regs) 0 → top < x → false ≡ atMost top (imageOf w k l .regs)
+  unfolding atMost noMore
+  high-reg top x e h = go (all (length (imageOf w k l .regs)) (noMore top (imageOf w k l .regs))) refl
+    where
+      go : (b : Bool) → all (length (imageOf w k l .regs)) (noMore top (imageOf w k l .regs)) ≡ b → false ≡ b
+      go false q = refl
+      go true q = absurd (omega (arith, leb-true (nth (imageOf w k l .regs) 0) top (all-use _ _ q 0 (omega (arith, regs-words)))))
+
 -- ---- no granule twice, by the set of those seen
 
 eqb-sym : (x y : ℕ) → eqb x y ≡ eqb y x

@@ -1,5 +1,5 @@
 -- Objects of one granule, side by side: the tests that find them, and the walk's turns that they stand for.
-use mathlib.Core.Path.{_≡_, refl, sym, subst, _∙_}
+use mathlib.Core.Path.{_≡_, refl, sym, subst, _∙_, ap}
 use mathlib.Core.Bool.{Bool, true, false, _&&_, and-true, and-assoc}
 use mathlib.Core.List.{List, [], _∷_}
 use Prim.Native.Nat.{ℕ, zero, suc, _+_, _*_, _-_, _/_, _%_, _≤_, _<_, min}
@@ -97,8 +97,8 @@ module _ (w top : ℕ) (l : List ℕ) where
     pub bounds-end : w ≤ n → Bounds w top w l
     bounds-end h = let e : n ≡ w = omega (arith, b .within) in rw e at b
 
-pub bounds-full : (w n : ℕ) (set l : List ℕ) → n ≡ fullWords w set → Bounds w (w * n - 1) w l → Bounds w (lastFull w set) w l
-bounds-full w n set l e b = rw e at b
+pub bounds-full : (w n top : ℕ) (set l : List ℕ) → n ≡ fullWords w set → top ≡ w * n - 1 → Bounds w top w l → Bounds w (lastFull w set) w l
+bounds-full w n top set l e q b = rw (q ∙ ap (λ (x : ℕ). w * x - 1) e) at b
 
 -- ---- the granules of a bit word, from granule a on: c of them lie before it
 

@@ -5,8 +5,8 @@ use Prim.Native.Nat.{_-_}
 use mathlib.Core.Path.{_∙_}
 use native.Mathlib.Omega.{arith}
 use borrow.Author.Needs.{needs}
-use Rattle.image.proofs.parts.zeros.Statement.{statement}
-use Rattle.image.proofs.parts.zeros.Tie as tie
+use Rattle.image.proofs.parts.many_zeros.Statement.{statement}
+use Rattle.image.proofs.parts.many_zeros.Tie as tie
 
 abbrev Inv-loop : tie.InvT-loop
 Inv-loop s h n bad₀ i₀ bad i = Gathered n (bothZero s h) bad i
@@ -24,7 +24,7 @@ loop-again c = g-more _ _ _ _ _ (c .before .before .before .loop .inv) (omega ar
 returns : tie.Need-returns Inv-loop μ-loop
 returns c = g-end (c .before .loop .inv) (omega arith) ∙ zeroes-both _ _ _ (omega arith) (omega arith)
 
-pub zeros-spec : {M : Type 1} → statement M
-zeros-spec =
+pub many-zeros-spec : {M : Type 1} → statement M
+many-zeros-spec =
     tie.close
     (tie.spec Inv-loop μ-loop (λ c. search needs) loop-holds (λ c. search needs) (λ c. search needs) (λ c. search needs) (λ c. search needs) (λ c. search needs) (λ c. search needs) (λ c. search needs) loop-again returns)
