@@ -44,7 +44,6 @@ pub fn link_to_come(im: &[Word], k: usize, g: usize, j: usize) -> bool
 pub fn card_comes(im: &[Word], k: usize, g: usize, t: usize) -> bool
     requires { ⌜ Sized width k (now im) ⌝ }
     requires { ⌜ t < 8 ⌝ }
-    requires { ⌜ g < 64 * k ⌝ }
     ensures { λ r. ⌜ r ≡ cardComes (imageOf width k (now (im .entry))) g t ⌝ }
 {
     let c = image::sections::tracer_word(im, k, 8 * t + 4) as usize;
@@ -54,7 +53,6 @@ pub fn card_comes(im: &[Word], k: usize, g: usize, t: usize) -> bool
 
 pub fn granule_to_come(im: &[Word], k: usize, g: usize) -> bool
     requires { ⌜ Sized width k (now im) ⌝ }
-    requires { ⌜ g < 64 * k ⌝ }
     ensures { λ r. ⌜ r ≡ any 8 (cardComes (imageOf width k (now (im .entry))) g) ⌝ }
 {
     let mut found = false;
@@ -93,7 +91,6 @@ pub fn held_by(im: &[Word], k: usize, p: usize, a: usize) -> bool
 pub fn is_owing(im: &[Word], k: usize, g: usize, a: usize, p: usize) -> bool
     requires { ⌜ Sized width k (now im) ⌝ }
     requires { ⌜ p < 16 ⌝ }
-    requires { ⌜ g < 64 * k ⌝ }
     ensures { λ r. ⌜ r ≡ owesHolding (imageOf width k (now (im .entry))) g a p ⌝ }
 {
     if image::sections::owed(im, k, p) as usize != g / 64 + 1 {
@@ -104,7 +101,6 @@ pub fn is_owing(im: &[Word], k: usize, g: usize, a: usize, p: usize) -> bool
 
 pub fn owed_with(im: &[Word], k: usize, g: usize, a: usize) -> bool
     requires { ⌜ Sized width k (now im) ⌝ }
-    requires { ⌜ g < 64 * k ⌝ }
     ensures { λ r. ⌜ r ≡ any 16 (owesHolding (imageOf width k (now (im .entry))) g a) ⌝ }
 {
     let mut found = false;
@@ -174,7 +170,6 @@ pub fn first_plain(im: &[Word], k: usize, g: usize, n: usize) -> bool
 
 pub fn all_plain(im: &[Word], k: usize, g: usize, n: usize) -> bool
     requires { ⌜ Sized width k (now im) ⌝ }
-    requires { ⌜ g < 64 * k ⌝ }
     requires { ⌜ 4 * g + 2 + n ≤ 256 * k ⌝ }
     requires { ⌜ LinksBelow k (imageOf width k (now im)) g n ⌝ }
     ensures { λ r. ⌜ r ≡ all n (plain (imageOf width k (now (im .entry))) g) ⌝ }

@@ -68,7 +68,6 @@ pub fn first_links(im: &[Word], k: usize, targets: &[Word], g: usize, n: usize) 
 pub fn links_ok(im: &[Word], k: usize, targets: &[Word], g: usize, n: usize) -> bool
     requires { ⌜ Sized width k (now im) ⌝ }
     requires { ⌜ Targets width (imageOf width k (now im)) (now targets) ⌝ }
-    requires { ⌜ g < 64 * k ⌝ }
     requires { ⌜ 4 * g + 2 + n ≤ 256 * k ⌝ }
     ensures { λ r. ⌜ r ≡ all n (linkOk (imageOf width k (now (im .entry))) g) ⌝ }
 {
