@@ -8,13 +8,17 @@ ghost use Rattle.model.specs.Undamaged.{cover};
 ghost use Rattle.image_laws.specs.Sized.{Sized};
 ghost use Rattle.soundness_laws.specs.Tests.{wordwise};
 ghost use Rattle.soundness_laws.specs.Sets.{EnteredSet};
-ghost use Rattle.judge_laws.specs.Order.{Coverable, LinksBelow, handComes, cardComes, holds, owesHolding, nilOrMarked, plain, linkOrNil, coming, late, objectCovered};
+ghost use Rattle.judge_laws.specs.Order.{Coverable, LinksBelow, handComes, cardComes, holds, owesHolding, plain, linkOrNil, coming, late, objectCovered};
 ghost use Rattle.judge_laws.specs.Near.{MarkedStretch};
+ghost use Rattle.judge_laws.specs.Links.{LinkTable};
 ghost use Rattle.image.specs.Layout.{width};
 use image::layout::BITS;
 use image::layout::VALUES;
 use image::layout::Word;
 use soundness::sets::SEEN;
+
+// Cards of a store whose table of links is a small one.
+const FEW_CARDS: usize = 32;
 
 // ---- hands
 
@@ -129,22 +133,16 @@ pub fn is_coming(im: &[Word], k: usize, entered: &[Word], g: usize) -> bool
     granule_to_come(im, k, g)
 }
 
-pub fn is_nil_or_marked(im: &[Word], k: usize, a: usize) -> bool
-    requires { ⌜ Sized width k (now im) ⌝ }
-    requires { ⌜ a < 64 * k ⌝ }
-    ensures { λ r. ⌜ r ≡ nilOrMarked (imageOf width k (now (im .entry))) a ⌝ }
-{
-    (a == 0) | image::bits::is_marked(im, k, a)
-}
-
 // The image is sound, so a link is not asked to lie in the store.
-pub fn is_plain(im: &[Word], k: usize, g: usize, j: usize) -> bool
+pub fn is_plain(im: &[Word], k: usize, table: &[Word], g: usize, j: usize) -> bool
     requires { ⌜ Sized width k (now im) ⌝ }
+    requires { ⌜ LinkTable width k (imageOf width k (now im)) (now table) ⌝ }
     requires { ⌜ 4 * g + 2 + j < 256 * k ⌝ }
     requires { ⌜ link (imageOf width k (now im)) g j < 64 * k ⌝ }
     ensures { λ r. ⌜ r ≡ plain (imageOf width k (now (im .entry))) g j ⌝ }
 {
-    is_nil_or_marked(im, k, image::sections::word(im, k, g, 2 + j) as usize)
+    let a = image::sections::word(im, k, g, 2 + j) as usize;
+    soundness::sets::in_set(table, a)
 }
 
 pub fn link_or_nil(im: &[Word], k: usize, g: usize, n: usize, j: usize) -> usize
@@ -157,47 +155,51 @@ pub fn link_or_nil(im: &[Word], k: usize, g: usize, n: usize, j: usize) -> usize
 }
 
 // The first two words for links stand in every object: both are read, so that no branch hangs on how many links there are.
-pub fn first_plain(im: &[Word], k: usize, g: usize, n: usize) -> bool
+pub fn first_plain(im: &[Word], k: usize, table: &[Word], g: usize, n: usize) -> bool
     requires { ⌜ Sized width k (now im) ⌝ }
+    requires { ⌜ LinkTable width k (imageOf width k (now im)) (now table) ⌝ }
     requires { ⌜ g < 64 * k ⌝ }
     requires { ⌜ LinksBelow k (imageOf width k (now im)) g n ⌝ }
     ensures { λ r. ⌜ r ≡ all (min 2 n) (plain (imageOf width k (now (im .entry))) g) ⌝ }
 {
     let a = link_or_nil(im, k, g, n, 0);
     let b = link_or_nil(im, k, g, n, 1);
-    is_nil_or_marked(im, k, a) & is_nil_or_marked(im, k, b)
+    soundness::sets::in_set(table, a) & soundness::sets::in_set(table, b)
 }
 
-pub fn all_plain(im: &[Word], k: usize, g: usize, n: usize) -> bool
+pub fn all_plain(im: &[Word], k: usize, table: &[Word], g: usize, n: usize) -> bool
     requires { ⌜ Sized width k (now im) ⌝ }
+    requires { ⌜ LinkTable width k (imageOf width k (now im)) (now table) ⌝ }
     requires { ⌜ 4 * g + 2 + n ≤ 256 * k ⌝ }
     requires { ⌜ LinksBelow k (imageOf width k (now im)) g n ⌝ }
     ensures { λ r. ⌜ r ≡ all n (plain (imageOf width k (now (im .entry))) g) ⌝ }
 {
-    let mut ok = first_plain(im, k, g, n);
+    let mut ok = first_plain(im, k, table, g, n);
     let mut i = soundness::least(2, n);
     while i < n {
-        ok = ok & is_plain(im, k, g, i);
+        ok = ok & is_plain(im, k, table, g, i);
         i += 1;
     }
     ok
 }
 
-pub fn is_late(im: &[Word], k: usize, g: usize, j: usize) -> bool
+pub fn is_late(im: &[Word], k: usize, table: &[Word], g: usize, j: usize) -> bool
     requires { ⌜ Sized width k (now im) ⌝ }
+    requires { ⌜ LinkTable width k (imageOf width k (now im)) (now table) ⌝ }
     requires { ⌜ 4 * g + 2 + j < 256 * k ⌝ }
     requires { ⌜ link (imageOf width k (now im)) g j < 64 * k ⌝ }
     ensures { λ r. ⌜ r ≡ late (imageOf width k (now (im .entry))) g j ⌝ }
 {
     let a = image::sections::word(im, k, g, 2 + j) as usize;
-    if is_plain(im, k, g, j) {
+    if is_plain(im, k, table, g, j) {
         return true;
     }
     link_to_come(im, k, g, j) | owed_with(im, k, g, a)
 }
 
-pub fn all_late(im: &[Word], k: usize, g: usize, n: usize) -> bool
+pub fn all_late(im: &[Word], k: usize, table: &[Word], g: usize, n: usize) -> bool
     requires { ⌜ Sized width k (now im) ⌝ }
+    requires { ⌜ LinkTable width k (imageOf width k (now im)) (now table) ⌝ }
     requires { ⌜ 4 * g + 2 + n ≤ 256 * k ⌝ }
     requires { ⌜ LinksBelow k (imageOf width k (now im)) g n ⌝ }
     ensures { λ r. ⌜ r ≡ all n (late (imageOf width k (now (im .entry))) g) ⌝ }
@@ -205,33 +207,35 @@ pub fn all_late(im: &[Word], k: usize, g: usize, n: usize) -> bool
     let mut ok = true;
     let mut i = 0;
     while i < n {
-        ok = ok & is_late(im, k, g, i);
+        ok = ok & is_late(im, k, table, g, i);
         i += 1;
     }
     ok
 }
 
-pub fn object_covered(im: &[Word], k: usize, entered: &[Word], g: usize) -> bool
+pub fn object_covered(im: &[Word], k: usize, entered: &[Word], table: &[Word], g: usize) -> bool
     requires { ⌜ Sized width k (now im) ⌝ }
+    requires { ⌜ LinkTable width k (imageOf width k (now im)) (now table) ⌝ }
     requires { ⌜ Coverable k (imageOf width k (now im)) ⌝ }
     requires { ⌜ EnteredSet width (imageOf width k (now im)) (now entered) ⌝ }
     requires { ⌜ (g < 64 * k) × (marked (imageOf width k (now im)) g ≡ true) ⌝ }
     ensures { λ r. ⌜ r ≡ objectCovered (imageOf width k (now (im .entry))) g ⌝ }
 {
     let n = image::sections::links(im, k, g);
-    if all_plain(im, k, g, n) {
+    if all_plain(im, k, table, g, n) {
         return true;
     }
     if is_coming(im, k, entered, g) {
         return true;
     }
-    all_late(im, k, g, n)
+    all_late(im, k, table, g, n)
 }
 
 // ---- the marked objects of a word, by their mark bits
 
-pub fn word_covered(im: &[Word], k: usize, entered: &[Word], w: usize) -> bool
+pub fn word_covered(im: &[Word], k: usize, entered: &[Word], table: &[Word], w: usize) -> bool
     requires { ⌜ Sized width k (now im) ⌝ }
+    requires { ⌜ LinkTable width k (imageOf width k (now im)) (now table) ⌝ }
     requires { ⌜ Coverable k (imageOf width k (now im)) ⌝ }
     requires { ⌜ EnteredSet width (imageOf width k (now im)) (now entered) ⌝ }
     requires { ⌜ w < 64 * k / width ⌝ }
@@ -244,15 +248,23 @@ pub fn word_covered(im: &[Word], k: usize, entered: &[Word], w: usize) -> bool
     let mut left = image::sections::mark_word(im, k, w);
     while left != 0 {
         let j = u64::trailing_zeros(left as u64) as usize;
-        ok = ok & object_covered(im, k, entered, BITS * w + j);
+        ok = ok & object_covered(im, k, entered, table, BITS * w + j);
         left = image::bits::without_bit(left, j as Word);
     }
     ok
 }
 
 // word i, at the end of the stretch of marked granules that begins with word `from`
-pub fn stretch_covered(im: &[Word], k: usize, entered: &[Word], from: usize, i: usize) -> bool
+pub fn stretch_covered(
+    im: &[Word],
+    k: usize,
+    entered: &[Word],
+    table: &[Word],
+    from: usize,
+    i: usize,
+) -> bool
     requires { ⌜ Sized width k (now im) ⌝ }
+    requires { ⌜ LinkTable width k (imageOf width k (now im)) (now table) ⌝ }
     requires { ⌜ Coverable k (imageOf width k (now im)) ⌝ }
     requires { ⌜ EnteredSet width (imageOf width k (now im)) (now entered) ⌝ }
     requires { ⌜ i < 64 * k / width ⌝ }
@@ -264,11 +276,12 @@ pub fn stretch_covered(im: &[Word], k: usize, entered: &[Word], from: usize, i: 
             return true;
         }
     }
-    word_covered(im, k, entered, i)
+    word_covered(im, k, entered, table, i)
 }
 
-pub fn all_covered(im: &[Word], k: usize, entered: &[Word]) -> bool
+pub fn all_covered(im: &[Word], k: usize, entered: &[Word], table: &[Word]) -> bool
     requires { ⌜ Sized width k (now im) ⌝ }
+    requires { ⌜ LinkTable width k (imageOf width k (now im)) (now table) ⌝ }
     requires { ⌜ Coverable k (imageOf width k (now im)) ⌝ }
     requires { ⌜ EnteredSet width (imageOf width k (now im)) (now entered) ⌝ }
     ensures { λ r. ⌜ r ≡ cover (imageOf width k (now (im .entry))) ⌝ }
@@ -281,10 +294,34 @@ pub fn all_covered(im: &[Word], k: usize, entered: &[Word]) -> bool
         if (!low) | (image::sections::mark_word(im, k, i) as usize != VALUES - 1) {
             from = i + 1;
         }
-        ok = ok & stretch_covered(im, k, entered, from, i);
+        ok = ok & stretch_covered(im, k, entered, table, from, i);
         i += 1;
     }
     ok
+}
+
+// The table of a store of few cards is small, since a large one takes longer to clear than such a store to judge.
+fn few_covered(im: &[Word], k: usize, entered: &[Word]) -> bool
+    requires { ⌜ Sized width k (now im) ⌝ }
+    requires { ⌜ Coverable k (imageOf width k (now im)) ⌝ }
+    requires { ⌜ EnteredSet width (imageOf width k (now im)) (now entered) ⌝ }
+    requires { ⌜ k ≤ 32 ⌝ }
+    ensures { λ r. ⌜ r ≡ cover (imageOf width k (now (im .entry))) ⌝ }
+{
+    let mut table: [Word; 64 * FEW_CARDS / BITS] = [0; 64 * FEW_CARDS / BITS];
+    crate::links::note_marked(im, k, &mut table);
+    all_covered(im, k, entered, &table)
+}
+
+fn many_covered(im: &[Word], k: usize, entered: &[Word]) -> bool
+    requires { ⌜ Sized width k (now im) ⌝ }
+    requires { ⌜ Coverable k (imageOf width k (now im)) ⌝ }
+    requires { ⌜ EnteredSet width (imageOf width k (now im)) (now entered) ⌝ }
+    ensures { λ r. ⌜ r ≡ cover (imageOf width k (now (im .entry))) ⌝ }
+{
+    let mut table: [Word; SEEN] = [0; SEEN];
+    crate::links::note_marked(im, k, &mut table);
+    all_covered(im, k, entered, &table)
 }
 
 pub fn is_covered(im: &[Word], k: usize) -> bool
@@ -294,5 +331,8 @@ pub fn is_covered(im: &[Word], k: usize) -> bool
 {
     let mut entered: [Word; SEEN] = [0; SEEN];
     soundness::packets::all_once(im, k, &mut entered);
-    all_covered(im, k, &entered)
+    if k <= FEW_CARDS {
+        return few_covered(im, k, &entered);
+    }
+    many_covered(im, k, &entered)
 }

@@ -196,14 +196,6 @@ module _ (m : Image) where
 
   -- ---- one link
 
-  pub nil-or-marked : (a : ℕ) (t : Bool) → t ≡ marked m a → (eqb a 0 || t) ≡ nilOrMarked m a
-  unfolding nilOrMarked some
-  nil-or-marked a t e = rw (← e, or-false)
-
-  pub plain-is : (g j a : ℕ) (t : Bool) → a ≡ word m g (2 + j) → t ≡ nilOrMarked m a → t ≡ plain m g j
-  unfolding plain link
-  plain-is g j a t ea et = rw (← ea) et
-
   pub link-below : (k g j a : ℕ) → a ≡ word m g (2 + j) → link m g j < 64 * k → a < 64 * k
   unfolding link
   link-below k g j a e h = rw e h

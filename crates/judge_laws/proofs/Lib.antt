@@ -1,3 +1,4 @@
 pub mod Cover
+pub mod Links
 pub mod Near
 pub mod Verdict

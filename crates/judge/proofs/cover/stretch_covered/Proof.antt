@@ -5,4 +5,5 @@ use Rattle.judge.proofs.cover.stretch_covered.Tie as tie
 
 pub stretch-covered-spec : {M : Type 1} → statement M
 stretch-covered-spec =
-    tie.close (tie.spec (λ c κs. search needs) (λ c. search near-covered) (λ c κs. search needs) (λ c. search needs))
+    tie.close (tie.spec (λ c κs. search needs) (λ c. search near-covered)
+    (λ c κs. (search needs, (search needs, (search needs, (search needs, search needs))))) (λ c. search needs))

@@ -8,28 +8,28 @@ use Rattle.judge.proofs.cover.word_covered.Statement.{statement}
 use Rattle.judge.proofs.cover.word_covered.Tie as tie
 
 abbrev Inv-loop : tie.InvT-loop
-Inv-loop im k entered w ok₀ left₀ ok left = Taken width k im w ok left
+Inv-loop im k entered table w ok₀ left₀ ok left = Taken width k im w ok left
 
 abbrev μ-loop : tie.MeasureT-loop
-μ-loop im k entered w ok₀ left₀ ok left = left
+μ-loop im k entered table w ok₀ left₀ ok left = left
 
 loop-holds : tie.Need-loop-holds Inv-loop μ-loop
-loop-holds c = taken-none _ _ _ (c .before .before .before .before .before .pre .0) _ _ (omega arith) (c .mark-word .ensures)
+loop-holds c = taken-none _ _ _ (c .before .before .before .before .before .before .pre .0) _ _ (omega arith) (c .mark-word .ensures)
 
 cast-j-2 : tie.Need-cast-j-2 Inv-loop μ-loop
-cast-j-2 c = omega (arith, taken-low _ _ _ (c .before .before .before .before .before .before .before .pre .0) _ _ _ (c .before .loop .inv) (c .loop-test .taken))
+cast-j-2 c = omega (arith, taken-low _ _ _ (c .before .before .before .before .before .before .before .before .pre .0) _ _ _ (c .before .loop .inv) (c .loop-test .taken))
 
 add-object-covered : tie.Need-add-object-covered Inv-loop μ-loop
-add-object-covered c = omega (arith, taken-low _ _ _ (c .before .before .before .before .before .before .before .pre .0) _ _ _ (c .before .loop .inv) (c .loop-test .taken))
+add-object-covered c = omega (arith, taken-low _ _ _ (c .before .before .before .before .before .before .before .before .pre .0) _ _ _ (c .before .loop .inv) (c .loop-test .taken))
 
 object-covered-requires : tie.Need-object-covered-requires Inv-loop μ-loop
-object-covered-requires c κs = (search needs, (search needs, (search needs, taken-place _ _ _ (c .before .before .before .before .before .before .before .pre .0) _ _ _ (c .before .loop .inv) (c .loop-test .taken) (omega arith))))
+object-covered-requires c κs = (search needs, (search needs, (search needs, (search needs, taken-place _ _ _ (c .before .before .before .before .before .before .before .before .pre .0) _ _ _ (c .before .loop .inv) (c .loop-test .taken) (omega arith)))))
 
 cast-without-bit : tie.Need-cast-without-bit Inv-loop μ-loop
-cast-without-bit c = omega (arith, taken-low _ _ _ (c .before .before .before .before .before .before .before .before .pre .0) _ _ _ (c .before .before .loop .inv) (c .before .loop-test .taken))
+cast-without-bit c = omega (arith, taken-low _ _ _ (c .before .before .before .before .before .before .before .before .before .pre .0) _ _ _ (c .before .before .loop .inv) (c .before .loop-test .taken))
 
 loop-less : tie.Need-loop-less Inv-loop μ-loop
-loop-less c = rw (c .without-bit .ensures) (taken-less _ _ _ (c .before .before .before .before .before .before .before .before .before .pre .0) _ _ _ (c .before .before .before .loop .inv) (c .before .before .loop-test .taken))
+loop-less c = rw (c .without-bit .ensures) (taken-less _ _ _ (c .before .before .before .before .before .before .before .before .before .before .pre .0) _ _ _ (c .before .before .before .loop .inv) (c .before .before .loop-test .taken))
 
 pub word-covered-spec : {M : Type 1} → statement M
 word-covered-spec =

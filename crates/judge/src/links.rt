@@ -1,0 +1,23 @@
+// The table by which links are asked: nil and the marked granules, a bit each.
+ghost use Prim.Native.Nat.{_*_, _/_, _≤_};
+ghost use lib.ListN.{length};
+ghost use Rattle.model.specs.Image.{imageOf};
+ghost use Rattle.image_laws.specs.Sized.{Sized};
+ghost use Rattle.judge_laws.specs.Links.{LinkTable};
+ghost use Rattle.image.specs.Layout.{width};
+use image::layout::BITS;
+use image::layout::Word;
+
+pub fn note_marked(im: &[Word], k: usize, table: &mut [Word])
+    requires { ⌜ Sized width k (now im) ⌝ }
+    requires { ⌜ 64 * k / width ≤ length (now table) ⌝ }
+    ensures { λ _. ⌜ LinkTable width k (imageOf width k (now (im .entry))) (now (table .exit)) ⌝ }
+{
+    let mut i = 0;
+    while i < 64 * k / BITS {
+        table[i] = image::sections::mark_word(im, k, i);
+        i += 1;
+    }
+    let x = table[0];
+    table[0] = image::bits::with_bit(x, 0);
+}
