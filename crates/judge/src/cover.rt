@@ -3,12 +3,12 @@ ghost use mathlib.Core.Path.{_≡_};
 ghost use mathlib.Core.Bool.{true};
 ghost use Prim.Native.Nat.{_+_, _*_, _/_, _≤_, _<_, min};
 ghost use Rattle.model.specs.Base.{all, any};
-ghost use Rattle.model.specs.Image.{imageOf, marked, link};
+ghost use Rattle.model.specs.Image.{imageOf, marked};
 ghost use Rattle.model.specs.Undamaged.{cover};
 ghost use Rattle.image_laws.specs.Sized.{Sized};
-ghost use Rattle.soundness_laws.specs.Tests.{wordwise};
+ghost use Rattle.soundness_laws.specs.Tests.{wordwise, fourBelow};
 ghost use Rattle.soundness_laws.specs.Sets.{EnteredSet};
-ghost use Rattle.judge_laws.specs.Order.{Coverable, LinksBelow, handComes, cardComes, holds, owesHolding, plain, linkOrNil, coming, late, objectCovered};
+ghost use Rattle.judge_laws.specs.Order.{Coverable, handComes, cardComes, holds, owesHolding, plain, coming, late, objectCovered};
 ghost use Rattle.judge_laws.specs.Near.{MarkedStretch};
 ghost use Rattle.judge_laws.specs.Links.{LinkTable};
 ghost use Rattle.image.specs.Layout.{width};
@@ -17,8 +17,10 @@ use image::layout::VALUES;
 use image::layout::Word;
 use soundness::sets::SEEN;
 
-// Cards of a store whose table of links is a small one.
+// Cards of a store whose table of links is a small one, and the words of that.
 const FEW_CARDS: usize = 32;
+
+const FEW_WORDS: usize = 64 * FEW_CARDS / BITS + 1;
 
 // ---- hands
 
@@ -133,52 +135,50 @@ pub fn is_coming(im: &[Word], k: usize, entered: &[Word], g: usize) -> bool
     granule_to_come(im, k, g)
 }
 
-// The image is sound, so a link is not asked to lie in the store.
 pub fn is_plain(im: &[Word], k: usize, table: &[Word], g: usize, j: usize) -> bool
     requires { ⌜ Sized width k (now im) ⌝ }
     requires { ⌜ LinkTable width k (imageOf width k (now im)) (now table) ⌝ }
     requires { ⌜ 4 * g + 2 + j < 256 * k ⌝ }
-    requires { ⌜ link (imageOf width k (now im)) g j < 64 * k ⌝ }
     ensures { λ r. ⌜ r ≡ plain (imageOf width k (now (im .entry))) g j ⌝ }
 {
     let a = image::sections::word(im, k, g, 2 + j) as usize;
-    soundness::sets::in_set(table, a)
+    soundness::sets::in_set(table, soundness::least(a, 64 * k))
 }
 
-pub fn link_or_nil(im: &[Word], k: usize, g: usize, n: usize, j: usize) -> usize
-    requires { ⌜ Sized width k (now im) ⌝ }
-    requires { ⌜ 4 * g + 2 + j < 256 * k ⌝ }
-    ensures { λ r. ⌜ r ≡ linkOrNil (imageOf width k (now (im .entry))) g n j ⌝ }
-{
-    let a = image::sections::word(im, k, g, 2 + j) as usize;
-    if j < n { a } else { 0 }
-}
-
-// The first two words for links stand in every object: both are read, so that no branch hangs on how many links there are.
+// The first two words for links stand in every object: both are asked, so that no branch hangs on how many links there are.
 pub fn first_plain(im: &[Word], k: usize, table: &[Word], g: usize, n: usize) -> bool
     requires { ⌜ Sized width k (now im) ⌝ }
     requires { ⌜ LinkTable width k (imageOf width k (now im)) (now table) ⌝ }
     requires { ⌜ g < 64 * k ⌝ }
-    requires { ⌜ LinksBelow k (imageOf width k (now im)) g n ⌝ }
     ensures { λ r. ⌜ r ≡ all (min 2 n) (plain (imageOf width k (now (im .entry))) g) ⌝ }
 {
-    let a = link_or_nil(im, k, g, n, 0);
-    let b = link_or_nil(im, k, g, n, 1);
-    soundness::sets::in_set(table, a) & soundness::sets::in_set(table, b)
+    ((n <= 0) | is_plain(im, k, table, g, 0)) & ((n <= 1) | is_plain(im, k, table, g, 1))
+}
+
+// The links in a later granule of the object, the first of them link i.
+pub fn four_plain(im: &[Word], k: usize, table: &[Word], g: usize, n: usize, i: usize) -> bool
+    requires { ⌜ Sized width k (now im) ⌝ }
+    requires { ⌜ LinkTable width k (imageOf width k (now im)) (now table) ⌝ }
+    requires { ⌜ 4 * g + 6 + i ≤ 256 * k ⌝ }
+    ensures { λ r. ⌜ r ≡ fourBelow n (plain (imageOf width k (now (im .entry))) g) i ⌝ }
+{
+    is_plain(im, k, table, g, i)
+        & ((n <= i + 1) | is_plain(im, k, table, g, i + 1))
+        & ((n <= i + 2) | is_plain(im, k, table, g, i + 2))
+        & ((n <= i + 3) | is_plain(im, k, table, g, i + 3))
 }
 
 pub fn all_plain(im: &[Word], k: usize, table: &[Word], g: usize, n: usize) -> bool
     requires { ⌜ Sized width k (now im) ⌝ }
     requires { ⌜ LinkTable width k (imageOf width k (now im)) (now table) ⌝ }
     requires { ⌜ 4 * g + 2 + n ≤ 256 * k ⌝ }
-    requires { ⌜ LinksBelow k (imageOf width k (now im)) g n ⌝ }
     ensures { λ r. ⌜ r ≡ all n (plain (imageOf width k (now (im .entry))) g) ⌝ }
 {
     let mut ok = first_plain(im, k, table, g, n);
-    let mut i = soundness::least(2, n);
+    let mut i = 2;
     while i < n {
-        ok = ok & is_plain(im, k, table, g, i);
-        i += 1;
+        ok = ok & four_plain(im, k, table, g, n, i);
+        i += 4;
     }
     ok
 }
@@ -187,7 +187,6 @@ pub fn is_late(im: &[Word], k: usize, table: &[Word], g: usize, j: usize) -> boo
     requires { ⌜ Sized width k (now im) ⌝ }
     requires { ⌜ LinkTable width k (imageOf width k (now im)) (now table) ⌝ }
     requires { ⌜ 4 * g + 2 + j < 256 * k ⌝ }
-    requires { ⌜ link (imageOf width k (now im)) g j < 64 * k ⌝ }
     ensures { λ r. ⌜ r ≡ late (imageOf width k (now (im .entry))) g j ⌝ }
 {
     let a = image::sections::word(im, k, g, 2 + j) as usize;
@@ -201,7 +200,6 @@ pub fn all_late(im: &[Word], k: usize, table: &[Word], g: usize, n: usize) -> bo
     requires { ⌜ Sized width k (now im) ⌝ }
     requires { ⌜ LinkTable width k (imageOf width k (now im)) (now table) ⌝ }
     requires { ⌜ 4 * g + 2 + n ≤ 256 * k ⌝ }
-    requires { ⌜ LinksBelow k (imageOf width k (now im)) g n ⌝ }
     ensures { λ r. ⌜ r ≡ all n (late (imageOf width k (now (im .entry))) g) ⌝ }
 {
     let mut ok = true;
@@ -308,7 +306,7 @@ fn few_covered(im: &[Word], k: usize, entered: &[Word]) -> bool
     requires { ⌜ k ≤ 32 ⌝ }
     ensures { λ r. ⌜ r ≡ cover (imageOf width k (now (im .entry))) ⌝ }
 {
-    let mut table: [Word; 64 * FEW_CARDS / BITS] = [0; 64 * FEW_CARDS / BITS];
+    let mut table: [Word; FEW_WORDS] = [0; FEW_WORDS];
     crate::links::note_marked(im, k, &mut table);
     all_covered(im, k, entered, &table)
 }
@@ -319,7 +317,7 @@ fn many_covered(im: &[Word], k: usize, entered: &[Word]) -> bool
     requires { ⌜ EnteredSet width (imageOf width k (now im)) (now entered) ⌝ }
     ensures { λ r. ⌜ r ≡ cover (imageOf width k (now (im .entry))) ⌝ }
 {
-    let mut table: [Word; SEEN] = [0; SEEN];
+    let mut table: [Word; SEEN + 1] = [0; SEEN + 1];
     crate::links::note_marked(im, k, &mut table);
     all_covered(im, k, entered, &table)
 }

@@ -1,6 +1,9 @@
-// The table by which links are asked: nil and the marked granules, a bit each.
-ghost use Prim.Native.Nat.{_*_, _/_, _≤_};
+// The table by which links are asked: nil and the marked granules, a bit each. Words that name no granule are asked of the bit behind
+// the last granule's, which is 0: so no word needs a branch.
+ghost use mathlib.Core.Path.{_≡_};
+ghost use Prim.Native.Nat.{_*_, _/_, _<_};
 ghost use lib.ListN.{length};
+ghost use Rattle.model.specs.Base.{nth};
 ghost use Rattle.model.specs.Image.{imageOf};
 ghost use Rattle.image_laws.specs.Sized.{Sized};
 ghost use Rattle.judge_laws.specs.Links.{LinkTable};
@@ -10,7 +13,8 @@ use image::layout::Word;
 
 pub fn note_marked(im: &[Word], k: usize, table: &mut [Word])
     requires { ⌜ Sized width k (now im) ⌝ }
-    requires { ⌜ 64 * k / width ≤ length (now table) ⌝ }
+    requires { ⌜ 64 * k / width < length (now table) ⌝ }
+    requires { ⌜ nth (now table) (64 * k / width) ≡ 0 ⌝ }
     ensures { λ _. ⌜ LinkTable width k (imageOf width k (now (im .entry))) (now (table .exit)) ⌝ }
 {
     let mut i = 0;

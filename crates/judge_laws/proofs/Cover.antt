@@ -14,7 +14,7 @@ use Rattle.model.specs.Base.{nth, all, any, every, some, implies, testBit, bit}
 use Rattle.model.specs.Image.{image, imageOf, word, marked, link, dirty, hand, nextLink, handCard, nextGranule, owed, Image, mostCards, links}
 use Rattle.model.specs.Undamaged.{linkToCome, granuleToCome, owedWith, covered, cover}
 use Rattle.model.proofs.Laws.{false≢, all-use, all-make, imp-make, some-make}
-use Rattle.judge_laws.specs.Order.{handComes, cardComes, holds, owesHolding, nilOrMarked, plain, linkOrNil, coming, late, objectCovered, LinksBelow, Coverable}
+use Rattle.judge_laws.specs.Order.{handComes, cardComes, holds, owesHolding, nilOrMarked, plain, coming, late, objectCovered, Coverable}
 use Rattle.image_laws.specs.Bits.{withoutBit}
 use Rattle.image_laws.specs.Sized.{Sized}
 use Rattle.image_laws.proofs.Bits.{bit-at, zero-bit}
@@ -71,9 +71,6 @@ object-coming m g e = imp-make (marked m g) _ (λ _. all-make (links m g) _ (λ 
 module _ (m : Image) (g : ℕ) (mg : marked m g ≡ true) (n : ℕ) (en : n ≡ links m g) where
   pub inside-of : (k : ℕ) → Coverable k m → g < 64 * k → 4 * g + 2 + n ≤ 256 * k
   inside-of k r h = rw en (r .inside g h mg)
-
-  pub below-of : (k : ℕ) → Coverable k m → LinksBelow k m g n
-  below-of k r = rw en (r .below g mg)
 
   pub cov-plain : (r : Bool) → r ≡ all n (plain m g) → r ≡ true → true ≡ objectCovered m g
   cov-plain r e h = sym (object-plain m g (rw en at (sym e ∙ h)))
@@ -195,47 +192,6 @@ module _ (m : Image) where
     owes-yes r h q = rw (← e, eq-eqb v (suc (g / 64)) (omega arith), ← q) (sym (and-true r))
 
   -- ---- one link
-
-  pub link-below : (k g j a : ℕ) → a ≡ word m g (2 + j) → link m g j < 64 * k → a < 64 * k
-  unfolding link
-  link-below k g j a e h = rw e h
-
-  pub below-at : (k g n i : ℕ) → LinksBelow k m g n → i < n → link m g i < 64 * k
-  below-at k g n i r h = r .below i h
-
-  -- the first two words for links, of which n are links
-
-  module _ (g n j a : ℕ) (e : a ≡ word m g (2 + j)) where
-    pub link-there : j < n → a ≡ linkOrNil m g n j
-    unfolding linkOrNil link
-    link-there h = rw (lt-ltb j n h) e
-
-    pub link-none : n ≤ j → 0 ≡ linkOrNil m g n j
-    unfolding linkOrNil
-    link-none h = rw (le-ltb j n h)
-
-  nil-plain : nilOrMarked m 0 ≡ true
-  unfolding nilOrMarked some
-  nil-plain = refl
-
-  pub first-plain : (g n : ℕ) (a b : Bool) → a ≡ nilOrMarked m (linkOrNil m g n 0) → b ≡ nilOrMarked m (linkOrNil m g n 1) → (a && b) ≡ all (min 2 n) (plain m g)
-  unfolding all plain linkOrNil
-  first-plain g n a b ea eb = rw (ea, eb) (go (decLt n 1) (decLt n 2))
-    where
-      go : Dec (n < 1) → Dec (n < 2) → (nilOrMarked m (linkOrNil m g n 0) && nilOrMarked m (linkOrNil m g n 1)) ≡ all (min 2 n) (plain m g)
-      go (yes h) d = let e : n ≡ 0 = omega arith in rw (e, nil-plain)
-      go (no h) (yes d) = let e : n ≡ 1 = omega arith in rw (e, nil-plain) (and-true _)
-      go (no h) (no d) =
-          let e : min 2 n ≡ 2 = omega arith in
-          rw (e, lt-ltb 0 n (omega arith), lt-ltb 1 n (omega arith))
-
-  pub below-nil : (k g n j a : ℕ) → LinksBelow k m g n → 1 ≤ k → a ≡ linkOrNil m g n j → a < 64 * k
-  unfolding linkOrNil
-  below-nil k g n j a r h e = rw e (go (decLt j n))
-    where
-      go : Dec (j < n) → linkOrNil m g n j < 64 * k
-      go (yes q) = rw (lt-ltb j n q) (r .below j q)
-      go (no q) = rw (le-ltb j n (omega arith)) (omega arith)
 
   module _ (g j : ℕ) (t : Bool) (e : t ≡ plain m g j) where
     pub late-plain : t ≡ true → true ≡ late m g j

@@ -36,18 +36,10 @@ module _ (w k : ℕ) (l : List ℕ) (z : Sized w k l) where
     d : Laid (imageOf w k l)
     d = laid-of o
 
-    below : (g : ℕ) → marked (imageOf w k l) g ≡ true → (i : ℕ) → i < links (imageOf w k l) g → link (imageOf w k l) g i < 64 * k
-    below g q i h = go (ℕ-discrete (link (imageOf w k l) g i) 0)
-      where
-        go : Dec (link (imageOf w k l) g i ≡ 0) → link (imageOf w k l) g i < 64 * k
-        go (yes n) = omega (arith, z .low)
-        go (no n) = omega (arith, heap-filled-of o .start-range _ (proper-of o .link-start g i (d .marks-start g q) h n), granules-image w k l)
-
     ready : Coverable k (imageOf w k l)
     unfolding sound
     ready = record {
       inside = λ g h q. omega (arith, d .inside g (d .marks-start g q), granules-image w k l);
-      below = λ g q. record { below = below g q };
       two-links = λ g q r. omega (arith, d .inside g (d .marks-start g q), d .apart g (suc g) (d .marks-start g q) (d .marks-start (suc g) r) (omega arith));
       packed = packed w k l z (sym (all-packets w k l z) ∙ every-use _ e 8);
     }

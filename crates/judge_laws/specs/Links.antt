@@ -1,13 +1,13 @@
 -- The table by which links are asked: nil and the marked granules, kept as bits in words of w bits.
 use mathlib.Core.Path.{_≡_}
 use mathlib.Core.List.{List}
-use Prim.Native.Nat.{ℕ, _*_, _/_, _<_}
+use Prim.Native.Nat.{ℕ, _*_, _/_, _<_, min}
 use lib.ListN.{length}
 use Rattle.model.specs.Base.{bit}
 use Rattle.model.specs.Image.{Image}
 use Rattle.judge_laws.specs.Order.{nilOrMarked}
 
--- the table says of each granule of k cards whether it is nil or marked
+-- the table says of each word whether it names nil or a marked granule; those past the granules of k cards share a bit
 pub record LinkTable (w k : ℕ) (m : Image) (table : List ℕ) : Type 0 where
-  pub long : (a : ℕ) → a < 64 * k → a / w < length table
-  pub bits : (a : ℕ) → a < 64 * k → bit w table a ≡ nilOrMarked m a
+  pub long : (a : ℕ) → min a (64 * k) / w < length table
+  pub bits : (a : ℕ) → bit w table (min a (64 * k)) ≡ nilOrMarked m a

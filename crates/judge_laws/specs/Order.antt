@@ -1,9 +1,9 @@
 -- Cover, in the order in which the code asks: links that are nil or marked, then what covers a whole object, then what covers one link.
 use mathlib.Core.Path.{_≡_}
-use mathlib.Core.Bool.{Bool, true, cond}
+use mathlib.Core.Bool.{Bool, true}
 use mathlib.Core.List.{[], _∷_}
 use Prim.Native.Nat.{ℕ, suc, _+_, _*_, _/_, _≤_, _<_}
-use lib.Dec.{leb, ltb, eqb}
+use lib.Dec.{leb, eqb}
 use Rattle.model.specs.Base.{all, any, every, some, implies}
 use Rattle.model.specs.Image.{Image, marked, links, link, dirty, reg, hand, nextLink, handCard, nextGranule, owed}
 use Rattle.model.specs.Undamaged.{entered, linkToCome, granuleToCome, owedWith, covered}
@@ -32,10 +32,6 @@ module _ (m : Image) where
   unfoldable pub plain : ℕ → ℕ → Bool
   plain g i = nilOrMarked (link m g i)
 
-  -- link i of g, where g has n links; else nil
-  unfoldable pub linkOrNil : ℕ → ℕ → ℕ → ℕ
-  linkOrNil g n i = cond (ltb i n) (link m g i) 0
-
   -- every link of g is covered
   unfoldable pub coming : ℕ → Bool
   coming g = some (dirty m (g / 64) ∷ entered m g ∷ granuleToCome m g ∷ [])
@@ -47,14 +43,9 @@ module _ (m : Image) where
   unfoldable pub objectCovered : ℕ → Bool
   objectCovered g = implies (marked m g) (all (links m g) (covered m g))
 
--- the first n links of g are granules of k cards, or nil
-pub record LinksBelow (k : ℕ) (m : Image) (g n : ℕ) : Type 0 where
-  pub below : (i : ℕ) → i < n → link m g i < 64 * k
-
--- the links of marked objects lie in the heap of k cards and name granules of it, there are at most two where the next granule is marked
--- too, and packets have no more entries than places
+-- the links of marked objects lie in the heap of k cards, there are at most two where the next granule is marked too, and packets have no
+-- more entries than places
 pub record Coverable (k : ℕ) (m : Image) : Type 0 where
   pub inside : (g : ℕ) → g < 64 * k → marked m g ≡ true → 4 * g + 2 + links m g ≤ 256 * k
-  pub below : (g : ℕ) → marked m g ≡ true → LinksBelow k m g (links m g)
   pub two-links : (g : ℕ) → marked m g ≡ true → marked m (suc g) ≡ true → links m g ≤ 2
   pub packed : Packed m
