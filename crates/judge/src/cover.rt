@@ -327,6 +327,9 @@ pub fn is_covered(im: &[Word], k: usize) -> bool
     requires { ⌜ Coverable k (imageOf width k (now im)) ⌝ }
     ensures { λ r. ⌜ r ≡ cover (imageOf width k (now (im .entry))) ⌝ }
 {
+    if crate::links::all_marked(im, k) {
+        return true;
+    }
     let mut entered: [Word; SEEN] = [0; SEEN];
     soundness::packets::all_once(im, k, &mut entered);
     if k <= FEW_CARDS {

@@ -3,10 +3,10 @@
 ghost use mathlib.Core.Path.{_≡_};
 ghost use Prim.Native.Nat.{_*_, _/_, _<_};
 ghost use lib.ListN.{length};
-ghost use Rattle.model.specs.Base.{nth};
+ghost use Rattle.model.specs.Base.{nth, all};
 ghost use Rattle.model.specs.Image.{imageOf};
 ghost use Rattle.image_laws.specs.Sized.{Sized};
-ghost use Rattle.judge_laws.specs.Links.{LinkTable};
+ghost use Rattle.judge_laws.specs.Links.{LinkTable, sameWord};
 ghost use Rattle.image.specs.Layout.{width};
 use image::layout::BITS;
 use image::layout::Word;
@@ -24,4 +24,18 @@ pub fn note_marked(im: &[Word], k: usize, table: &mut [Word])
     }
     let x = table[0];
     table[0] = image::bits::with_bit(x, 0);
+}
+
+// Whether every object is marked: then no link leads to an unmarked one.
+pub fn all_marked(im: &[Word], k: usize) -> bool
+    requires { ⌜ Sized width k (now im) ⌝ }
+    ensures { λ r. ⌜ r ≡ all (64 * k / width) (sameWord (imageOf width k (now (im .entry)))) ⌝ }
+{
+    let mut ok = true;
+    let mut i = 0;
+    while i < 64 * k / BITS {
+        ok = ok & (image::sections::start_word(im, k, i) == image::sections::mark_word(im, k, i));
+        i += 1;
+    }
+    ok
 }

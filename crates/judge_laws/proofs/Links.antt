@@ -1,23 +1,25 @@
 -- The table of nil and the marked granules, made of the mark bits; the ways in which links are asked by it.
 use mathlib.Core.Path.{_≡_, refl, sym, _∙_}
-use mathlib.Core.Bool.{Bool, or-false}
+use mathlib.Core.Bool.{Bool, true, or-false}
 use mathlib.Core.List.{List}
 use Prim.Native.Nat.{ℕ, _+_, _*_, _/_, _≤_, _<_, min}
 use native.Mathlib.Decide.{ℕ-discrete, decLt}
 use native.Mathlib.Nat.{zero-div, zero-mod}
 use native.Mathlib.Omega.{arith}
+use lib.Dec.{eqb}
 use lib.ListN.{length}
-use borrow.Author.Tests.{ne-eqb}
-use Rattle.model.specs.Base.{nth, put, some, bit, setBit, withBit}
-use Rattle.model.specs.Image.{Image, image, imageOf, word, marked, link}
-use Rattle.model.proofs.Laws.{length-put, nth-put-same, nth-put-other}
+use borrow.Author.Tests.{eq-eqb, ne-eqb, eqb-true}
+use Rattle.model.specs.Base.{nth, put, all, some, bit, setBit, withBit}
+use Rattle.model.specs.Image.{Image, image, imageOf, word, isStart, marked, link}
+use Rattle.model.specs.Undamaged.{covered, cover}
+use Rattle.model.proofs.Laws.{false≢, all-use, all-make, imp-make, some-make, length-put, nth-put-same, nth-put-other}
 use Rattle.model.proofs.Bits.{setBit-same, setBit-other}
 use Rattle.image_laws.specs.Sized.{Sized}
-use Rattle.image_laws.proofs.Bits.{mark-past, zero-bit}
+use Rattle.image_laws.proofs.Bits.{start-past, mark-past, zero-bit}
 use Rattle.image_laws.proofs.Lengths.{sized-width}
 use Rattle.image_laws.proofs.Places.{word-in}
-use Rattle.judge_laws.specs.Order.{nilOrMarked, plain}
-use Rattle.judge_laws.specs.Links.{LinkTable}
+use Rattle.judge_laws.specs.Order.{nilOrMarked, plain, Coverable}
+use Rattle.judge_laws.specs.Links.{LinkTable, sameWord}
 
 -- the first i words of mark bits stand in the table, and 0 in the word behind them all
 pub record Noted (w k : ℕ) (l was table : List ℕ) (i : ℕ) : Type 0 where
@@ -80,3 +82,28 @@ module _ (w k : ℕ) (m : Image) (table : List ℕ) (t : LinkTable w k m table) 
   pub table-plain : (g j : ℕ) (r : Bool) → a ≡ word m g (2 + j) → r ≡ bit w table b → r ≡ plain m g j
   unfolding plain link
   table-plain g j r ea q = rw (q, e, ← ea) (t .bits a)
+
+-- ---- every object is marked
+
+pub same-word : (m : Image) (i a b : ℕ) → a ≡ nth (m .starts) i → b ≡ nth (m .marks) i → eqb a b ≡ sameWord m i
+unfolding sameWord
+same-word m i a b ea eb = rw (ea, eb)
+
+module _ (w k : ℕ) (l : List ℕ) (z : Sized w k l) (r : Bool) (e : r ≡ all (64 * k / w) (sameWord (imageOf w k l))) (h : r ≡ true) where
+  words-same : (i : ℕ) → i < 64 * k / w → nth (imageOf w k l .starts) i ≡ nth (imageOf w k l .marks) i
+  unfolding sameWord
+  words-same i q = eqb-true _ _ (all-use (64 * k / w) (sameWord (imageOf w k l)) (sym e ∙ h) i q)
+
+  start-marked : (a : ℕ) → isStart (imageOf w k l) a ≡ true → marked (imageOf w k l) a ≡ true
+  unfolding isStart marked bit imageOf image
+  start-marked a s = elim (decLt a (64 * k)) [
+    | yes q ↦ rw (words-same (a / w) (word-in w k (sized-width z) a q)) at s
+    | no q ↦ false≢ (sym (start-past w k l z a (omega arith)) ∙ s)
+  ]
+
+  pub marked-covered : Coverable k (imageOf w k l) → true ≡ cover (imageOf w k l)
+  unfolding cover covered
+  marked-covered c = sym (all-make _ _ (λ g p. imp-make _ _ (λ q. all-make _ _ (λ i b. elim (ℕ-discrete (link (imageOf w k l) g i) 0) [
+    | yes o ↦ some-make _ 0 (eq-eqb _ _ o)
+    | no n ↦ some-make _ 1 (start-marked _ (c .to-starts g q i b n))
+  ]))))

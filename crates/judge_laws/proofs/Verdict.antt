@@ -40,6 +40,7 @@ module _ (w k : ℕ) (l : List ℕ) (z : Sized w k l) where
     unfolding sound
     ready = record {
       inside = λ g h q. omega (arith, d .inside g (d .marks-start g q), granules-image w k l);
+      to-starts = λ g q i. proper-of o .link-start g i (d .marks-start g q);
       two-links = λ g q r. omega (arith, d .inside g (d .marks-start g q), d .apart g (suc g) (d .marks-start g q) (d .marks-start (suc g) r) (omega arith));
       packed = packed w k l z (sym (all-packets w k l z) ∙ every-use _ e 8);
     }

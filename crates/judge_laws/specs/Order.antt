@@ -5,7 +5,7 @@ use mathlib.Core.List.{[], _∷_}
 use Prim.Native.Nat.{ℕ, suc, _+_, _*_, _/_, _≤_, _<_}
 use lib.Dec.{leb, eqb}
 use Rattle.model.specs.Base.{all, any, every, some, implies}
-use Rattle.model.specs.Image.{Image, marked, links, link, dirty, reg, hand, nextLink, handCard, nextGranule, owed}
+use Rattle.model.specs.Image.{Image, isStart, marked, links, link, dirty, reg, hand, nextLink, handCard, nextGranule, owed}
 use Rattle.model.specs.Undamaged.{entered, linkToCome, granuleToCome, owedWith, covered}
 use Rattle.soundness_laws.specs.Tests.{Packed}
 
@@ -43,9 +43,10 @@ module _ (m : Image) where
   unfoldable pub objectCovered : ℕ → Bool
   objectCovered g = implies (marked m g) (all (links m g) (covered m g))
 
--- the links of marked objects lie in the heap of k cards, there are at most two where the next granule is marked too, and packets have no
--- more entries than places
+-- the links of marked objects lie in the heap of k cards and are nil or starts, there are at most two where the next granule is marked too,
+-- and packets have no more entries than places
 pub record Coverable (k : ℕ) (m : Image) : Type 0 where
   pub inside : (g : ℕ) → g < 64 * k → marked m g ≡ true → 4 * g + 2 + links m g ≤ 256 * k
+  pub to-starts : (g : ℕ) → marked m g ≡ true → (i : ℕ) → i < links m g → (link m g i ≡ 0 → ⊥) → isStart m (link m g i) ≡ true
   pub two-links : (g : ℕ) → marked m g ≡ true → marked m (suc g) ≡ true → links m g ≤ 2
   pub packed : Packed m
