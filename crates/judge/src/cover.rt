@@ -6,7 +6,7 @@ ghost use Rattle.model.specs.Base.{all, any};
 ghost use Rattle.model.specs.Image.{imageOf, marked};
 ghost use Rattle.model.specs.Undamaged.{cover};
 ghost use Rattle.image_laws.specs.Sized.{Sized};
-ghost use Rattle.soundness_laws.specs.Tests.{wordwise, fourBelow};
+ghost use Rattle.soundness_laws.specs.Tests.{wordwise};
 ghost use Rattle.soundness_laws.specs.Sets.{EnteredSet};
 ghost use Rattle.judge_laws.specs.Order.{Coverable, handComes, cardComes, holds, owesHolding, plain, coming, late, objectCovered};
 ghost use Rattle.judge_laws.specs.Near.{MarkedStretch};
@@ -152,20 +152,7 @@ pub fn first_plain(im: &[Word], k: usize, table: &[Word], g: usize, n: usize) ->
     requires { ⌜ g < 64 * k ⌝ }
     ensures { λ r. ⌜ r ≡ all (min 2 n) (plain (imageOf width k (now (im .entry))) g) ⌝ }
 {
-    ((n <= 0) | is_plain(im, k, table, g, 0)) & ((n <= 1) | is_plain(im, k, table, g, 1))
-}
-
-// The links in a later granule of the object, the first of them link i.
-pub fn four_plain(im: &[Word], k: usize, table: &[Word], g: usize, n: usize, i: usize) -> bool
-    requires { ⌜ Sized width k (now im) ⌝ }
-    requires { ⌜ LinkTable width k (imageOf width k (now im)) (now table) ⌝ }
-    requires { ⌜ 4 * g + 6 + i ≤ 256 * k ⌝ }
-    ensures { λ r. ⌜ r ≡ fourBelow n (plain (imageOf width k (now (im .entry))) g) i ⌝ }
-{
-    is_plain(im, k, table, g, i)
-        & ((n <= i + 1) | is_plain(im, k, table, g, i + 1))
-        & ((n <= i + 2) | is_plain(im, k, table, g, i + 2))
-        & ((n <= i + 3) | is_plain(im, k, table, g, i + 3))
+    ((n < 1) | is_plain(im, k, table, g, 0)) & ((n < 2) | is_plain(im, k, table, g, 1))
 }
 
 pub fn all_plain(im: &[Word], k: usize, table: &[Word], g: usize, n: usize) -> bool
@@ -175,10 +162,10 @@ pub fn all_plain(im: &[Word], k: usize, table: &[Word], g: usize, n: usize) -> b
     ensures { λ r. ⌜ r ≡ all n (plain (imageOf width k (now (im .entry))) g) ⌝ }
 {
     let mut ok = first_plain(im, k, table, g, n);
-    let mut i = 2;
+    let mut i = soundness::least(2, n);
     while i < n {
-        ok = ok & four_plain(im, k, table, g, n, i);
-        i += 4;
+        ok = ok & is_plain(im, k, table, g, i);
+        i += 1;
     }
     ok
 }

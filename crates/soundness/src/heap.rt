@@ -10,7 +10,7 @@ ghost use Rattle.image_laws.specs.Digits.{digit};
 ghost use Rattle.soundness_laws.specs.Sets.{Targets};
 ghost use Rattle.soundness_laws.specs.Small.{SmallUpto};
 ghost use Rattle.image.specs.Layout.{width, most};
-ghost use Rattle.soundness_laws.specs.Tests.{LinksInside, fourBelow, linkOk, objectOk, runOk, pieceOk, nextRun};
+ghost use Rattle.soundness_laws.specs.Tests.{LinksInside, linkOk, objectOk, runOk, pieceOk, nextRun};
 use image::layout::Word;
 
 // ---- registers, and links of the object at g
@@ -62,20 +62,7 @@ pub fn first_links(im: &[Word], k: usize, targets: &[Word], g: usize, n: usize) 
     requires { ⌜ g < 64 * k ⌝ }
     ensures { λ r. ⌜ r ≡ all (min 2 n) (linkOk (imageOf width k (now (im .entry))) g) ⌝ }
 {
-    ((n <= 0) | link_ok(im, k, targets, g, 0)) & ((n <= 1) | link_ok(im, k, targets, g, 1))
-}
-
-// The links in a later granule of the object, the first of them link i; with no branch on how many there are.
-pub fn four_links(im: &[Word], k: usize, targets: &[Word], g: usize, n: usize, i: usize) -> bool
-    requires { ⌜ Sized width k (now im) ⌝ }
-    requires { ⌜ Targets width (imageOf width k (now im)) (now targets) ⌝ }
-    requires { ⌜ 4 * g + 6 + i ≤ 256 * k ⌝ }
-    ensures { λ r. ⌜ r ≡ fourBelow n (linkOk (imageOf width k (now (im .entry))) g) i ⌝ }
-{
-    link_ok(im, k, targets, g, i)
-        & ((n <= i + 1) | link_ok(im, k, targets, g, i + 1))
-        & ((n <= i + 2) | link_ok(im, k, targets, g, i + 2))
-        & ((n <= i + 3) | link_ok(im, k, targets, g, i + 3))
+    ((n < 1) | link_ok(im, k, targets, g, 0)) & ((n < 2) | link_ok(im, k, targets, g, 1))
 }
 
 pub fn links_ok(im: &[Word], k: usize, targets: &[Word], g: usize, n: usize) -> bool
@@ -85,10 +72,10 @@ pub fn links_ok(im: &[Word], k: usize, targets: &[Word], g: usize, n: usize) -> 
     ensures { λ r. ⌜ r ≡ all n (linkOk (imageOf width k (now (im .entry))) g) ⌝ }
 {
     let mut ok = first_links(im, k, targets, g, n);
-    let mut i = 2;
+    let mut i = crate::least(2, n);
     while i < n {
-        ok = ok & four_links(im, k, targets, g, n, i);
-        i += 4;
+        ok = ok & link_ok(im, k, targets, g, i);
+        i += 1;
     }
     ok
 }

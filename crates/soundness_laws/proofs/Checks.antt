@@ -1,17 +1,17 @@
 -- Loops that test every number below n, as `all n p` or `any n p`; laws of these tests.
-use mathlib.Core.Path.{_≡_, refl, sym, _∙_}
+use mathlib.Core.Path.{_≡_, refl, sym}
 use mathlib.Core.Bool.{Bool, true, false, _&&_, _||_, and-true, and-assoc}
 use Prim.Native.Nat.{ℕ, zero, suc, _+_, _≤_, _<_, min, _-_}
 use native.Mathlib.Numerals.{add-one}
 use native.Mathlib.Nat.{add-zero, add-suc}
 use native.Mathlib.Decide.{ℕ-discrete, decLt}
 use native.Mathlib.Omega.{arith}
-use lib.Dec.{leb, ltb}
-use borrow.Author.Tests.{le-ltb, lt-ltb, le-leb, lt-leb}
+use lib.Dec.{ltb}
+use borrow.Author.Tests.{le-ltb, lt-ltb}
 use Rattle.model.specs.Base.{all, any, every}
 use Rattle.image_laws.proofs.Parts.{all-cong}
 use Rattle.model.proofs.Laws.{all-use}
-use Rattle.soundness_laws.specs.Tests.{onward, ifBelow, fourBelow}
+use Rattle.soundness_laws.specs.Tests.{onward}
 use mathlib.Core.List.{[], _∷_}
 
 -- ---- `ok` says whether all below i pass
@@ -24,50 +24,27 @@ pub checked-none : {n : ℕ} {p : ℕ → Bool} → Checked n p true 0
 unfolding all
 checked-none {n} = record { within = omega arith; so-far = refl }
 
+-- the first two at once
+pub first-two : (p : ℕ → Bool) (n : ℕ) (a b : Bool) → a ≡ p 0 → b ≡ p 1 → ((ltb n 1 || a) && (ltb n 2 || b)) ≡ all (min 2 n) p
+unfolding all
+first-two p n a b ea eb = rw (ea, eb) (go (decLt n 1) (decLt n 2))
+  where
+    go : Dec (n < 1) → Dec (n < 2) → ((ltb n 1 || p 0) && (ltb n 2 || p 1)) ≡ all (min 2 n) p
+    go (yes h) d = let e : n ≡ 0 = omega arith in rw e
+    go (no h) (yes d) = let e : n ≡ 1 = omega arith in rw e (and-true (p 0))
+    go (no h) (no d) =
+        let e : min 2 n ≡ 2 = omega arith in
+        rw (e, le-ltb n 1 (omega arith), le-ltb n 2 (omega arith))
+
+pub after-two : (n : ℕ) (p : ℕ → Bool) (ok : Bool) (i : ℕ) → i ≡ min 2 n → ok ≡ all (min 2 n) p → Checked n p ok i
+after-two n p ok i h e = record { within = omega arith; so-far = rw (← h) at e }
+
 pub checked-more : (n : ℕ) (p : ℕ → Bool) (ok : Bool) (i : ℕ) (t : Bool) → Checked n p ok i → i < n → t ≡ p i → Checked n p (ok && t) (i + 1)
 unfolding all
 checked-more n p ok i t s h e = rw add-one (record { within = omega arith; so-far = rw (s .so-far, e) })
 
 pub checked-end : (n : ℕ) (p : ℕ → Bool) (ok : Bool) (i : ℕ) → Checked n p ok i → n ≤ i → ok ≡ all n p
 checked-end n p ok i s h = let e : i ≡ n = omega (arith, s .within) in rw e at (s .so-far)
-
--- ---- several at once, up to n, whatever stands behind
-
--- `ok` says whether all below i and n pass
-pub record CheckedTo (n : ℕ) (p : ℕ → Bool) (ok : Bool) (i : ℕ) : Type 0 where
-  pub so-far : ok ≡ all (min i n) p
-
-module _ (n : ℕ) (p : ℕ → Bool) where
-  one-more : {ok : Bool} {i : ℕ} (j : ℕ) → j ≡ i + 1 → CheckedTo n p ok i → CheckedTo n p (ok && ifBelow n p i) j
-  unfolding all ifBelow
-  one-more {ok} {i} j q s = elim (decLt i n) [
-    | yes h ↦ let e : min j n ≡ suc i = omega arith in let o : min i n ≡ i = omega arith in
-        record { so-far = rw (e, lt-leb n i h, s .so-far, o) }
-    | no h ↦ let e : min j n ≡ min i n = omega arith in record { so-far = rw (e, le-leb n i (omega arith)) (and-true ok ∙ s .so-far) }
-  ]
-
-  pub first-two : (a b : Bool) → a ≡ p 0 → b ≡ p 1 → ((leb n 0 || a) && (leb n 1 || b)) ≡ all (min 2 n) p
-  unfolding all ifBelow
-  first-two a b ea eb =
-      let none : min 0 n ≡ 0 = omega arith in
-      rw (ea, eb) (one-more {i = 1} 2 refl (one-more {ok = true} {i = 0} 1 refl (record { so-far = rw none refl })) .so-far)
-
-  pub after-two : (ok : Bool) → ok ≡ all (min 2 n) p → CheckedTo n p ok 2
-  after-two ok e = record { so-far = e }
-
-  pub four-is : (i : ℕ) (a b c d : Bool) → a ≡ p i → b ≡ p (i + 1) → c ≡ p (i + 2) → d ≡ p (i + 3) → (((a && (leb n (i + 1) || b)) && (leb n (i + 2) || c)) && (leb n (i + 3) || d)) ≡ fourBelow n p i
-  unfolding fourBelow ifBelow
-  four-is i a b c d ea eb ec ed = rw (ea, eb, ec, ed)
-
-  pub four-more : (ok : Bool) (i : ℕ) (t : Bool) → CheckedTo n p ok i → i < n → t ≡ fourBelow n p i → CheckedTo n p (ok && t) (i + 4)
-  unfolding fourBelow
-  four-more ok i t s h e =
-      let f = one-more (i + 4) (omega arith) (one-more (i + 3) (omega arith) (one-more (i + 2) (omega arith) (one-more (i + 1) refl s))) in
-      let here : ifBelow n p i ≡ p i = unfold ifBelow in rw (lt-leb n i h) in
-      record { so-far = rw e (simp and-assoc (rw here at (simp and-assoc at (f .so-far)))) }
-
-  pub to-end : (ok : Bool) (i : ℕ) → CheckedTo n p ok i → n ≤ i → ok ≡ all n p
-  to-end ok i s h = let e : min i n ≡ n = omega arith in rw e at (s .so-far)
 
 -- ---- the same from a to e - 1
 

@@ -1,9 +1,9 @@
 -- The tests of an image as the code makes them, and what one of them may rely on.
 use mathlib.Core.Path.{_≡_}
-use mathlib.Core.Bool.{Bool, true, false, not, cond, _&&_, _||_}
+use mathlib.Core.Bool.{Bool, true, false, not, cond}
 use mathlib.Core.List.{[], _∷_}
 use Prim.Native.Nat.{ℕ, zero, suc, _+_, _*_, _≤_, _<_}
-use lib.Dec.{eqb, leb, ltb}
+use lib.Dec.{eqb, ltb}
 use lib.ListN.{take, drop}
 use Rattle.model.specs.Base.{all, every, distinct, eachPiece, zeroes}
 use Rattle.model.specs.Image.{Image, granules, word, isStart, marked, links, link, count, entry, entries, scanned}
@@ -21,14 +21,6 @@ wordwise w p i = all w (atWord w p i)
 -- the number i places behind a passes
 unfoldable pub onward : ℕ → (ℕ → Bool) → ℕ → Bool
 onward a p i = p (a + i)
-
--- the number i passes, or is not below n
-unfoldable pub ifBelow : ℕ → (ℕ → Bool) → ℕ → Bool
-ifBelow n p i = leb n i || p i
-
--- the four numbers from i on pass, where i is below n, as far as they are below n
-unfoldable pub fourBelow : ℕ → (ℕ → Bool) → ℕ → Bool
-fourBelow n p i = ((p i && ifBelow n p (i + 1)) && ifBelow n p (i + 2)) && ifBelow n p (i + 3)
 
 module _ (m : Image) where
   -- ---- the heap
