@@ -31,11 +31,13 @@ pub fn all_marked(im: &[Word], k: usize) -> bool
     requires { ⌜ Sized width k (now im) ⌝ }
     ensures { λ r. ⌜ r ≡ all (64 * k / width) (sameWord (imageOf width k (now (im .entry)))) ⌝ }
 {
-    let mut ok = true;
     let mut i = 0;
     while i < 64 * k / BITS {
-        ok = ok & (image::sections::start_word(im, k, i) == image::sections::mark_word(im, k, i));
+        let s = image::sections::start_word(im, k, i);
+        if s != image::sections::mark_word(im, k, i) {
+            return false;
+        }
         i += 1;
     }
-    ok
+    true
 }

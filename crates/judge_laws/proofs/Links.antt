@@ -1,6 +1,6 @@
 -- The table of nil and the marked granules, made of the mark bits; the ways in which links are asked by it.
 use mathlib.Core.Path.{_≡_, refl, sym, _∙_}
-use mathlib.Core.Bool.{Bool, true, or-false}
+use mathlib.Core.Bool.{Bool, true, false, or-false}
 use mathlib.Core.List.{List}
 use Prim.Native.Nat.{ℕ, _+_, _*_, _/_, _≤_, _<_, min}
 use native.Mathlib.Decide.{ℕ-discrete, decLt}
@@ -85,9 +85,14 @@ module _ (w k : ℕ) (m : Image) (table : List ℕ) (t : LinkTable w k m table) 
 
 -- ---- every object is marked
 
-pub same-word : (m : Image) (i a b : ℕ) → a ≡ nth (m .starts) i → b ≡ nth (m .marks) i → eqb a b ≡ sameWord m i
-unfolding sameWord
-same-word m i a b ea eb = rw (ea, eb)
+module _ (m : Image) (i a b : ℕ) (ea : a ≡ nth (m .starts) i) (eb : b ≡ nth (m .marks) i) where
+  pub same-yes : a ≡ b → true ≡ sameWord m i
+  unfolding sameWord
+  same-yes e = rw (← ea, ← eb, eq-eqb a b e)
+
+  pub same-no : (a ≡ b → ⊥) → sameWord m i ≡ false
+  unfolding sameWord
+  same-no e = rw (← ea, ← eb) (ne-eqb a b e)
 
 module _ (w k : ℕ) (l : List ℕ) (z : Sized w k l) (r : Bool) (e : r ≡ all (64 * k / w) (sameWord (imageOf w k l))) (h : r ≡ true) where
   words-same : (i : ℕ) → i < 64 * k / w → nth (imageOf w k l .starts) i ≡ nth (imageOf w k l .marks) i

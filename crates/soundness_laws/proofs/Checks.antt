@@ -1,5 +1,6 @@
 -- Loops that test every number below n, as `all n p` or `any n p`; laws of these tests.
-use mathlib.Core.Path.{_≡_, refl, sym}
+use mathlib.Core.Path.{_≡_, refl, sym, _∙_}
+use mathlib.Core.Logic.{inl, inr}
 use mathlib.Core.Bool.{Bool, true, false, _&&_, _||_, and-true, and-assoc}
 use Prim.Native.Nat.{ℕ, zero, suc, _+_, _≤_, _<_, min, _-_}
 use native.Mathlib.Numerals.{add-one}
@@ -10,7 +11,7 @@ use lib.Dec.{ltb}
 use borrow.Author.Tests.{le-ltb, lt-ltb}
 use Rattle.model.specs.Base.{all, any, every}
 use Rattle.image_laws.proofs.Parts.{all-cong}
-use Rattle.model.proofs.Laws.{all-use}
+use Rattle.model.proofs.Laws.{false≢, bool-cases, all-use}
 use Rattle.soundness_laws.specs.Tests.{onward}
 use mathlib.Core.List.{[], _∷_}
 
@@ -45,6 +46,9 @@ checked-more n p ok i t s h e = rw add-one (record { within = omega arith; so-fa
 
 pub checked-end : (n : ℕ) (p : ℕ → Bool) (ok : Bool) (i : ℕ) → Checked n p ok i → n ≤ i → ok ≡ all n p
 checked-end n p ok i s h = let e : i ≡ n = omega (arith, s .within) in rw e at (s .so-far)
+
+pub checked-stop : (n : ℕ) (p : ℕ → Bool) (i : ℕ) → i < n → p i ≡ false → false ≡ all n p
+checked-stop n p i h e = elim (bool-cases (all n p)) [ inl q ↦ false≢ (sym e ∙ all-use n p q i h) | inr q ↦ sym q ]
 
 -- ---- the same from a to e - 1
 
