@@ -1,5 +1,6 @@
 -- A step by its number: the lines that an accepted one has passed, and the image and value that a step leaves. Lists of steps.
 use mathlib.Core.Path.{_≡_, refl, sym, ap, _∙_}
+use mathlib.Core.Logic.{_⊎_, inl, inr}
 use mathlib.Core.Bool.{false}
 use mathlib.Core.List.{[], _∷_, List, _++_}
 use Prim.Native.Nat.{ℕ, zero, suc, _<_, _+_, _*_, _-_, _≤_}
@@ -11,6 +12,11 @@ use Rattle.model.specs.Image.{Image}
 use Rattle.model.specs.Records.{Step, Kind, new, load, store, barrier, handOver, dropReg, read, write, begin, scan, trace, clean, finish, isDue, unknown, kindOf}
 use Rattle.model.specs.Steps.{Done, unnamed, offDesk, owing, noObject, pastEnd, badSize, noRoom, wrongPhase, nothingToDo, refusal, accept, finishDone, act, outcome, step, run, after}
 use Rattle.model.proofs.Laws.{first-none, some-false}
+
+-- a number is 0, or has one before it
+pub zero-or-suc : (n : ℕ) → (n ≡ 0) ⊎ ((p : ℕ) × (n ≡ suc p))
+zero-or-suc zero = inl refl
+zero-or-suc (suc n) = inr (n, refl)
 
 -- a player, register or tracer that is on the desk
 pub not-above : (b x : ℕ) → ltb b x ≡ false → x < suc b
@@ -82,11 +88,7 @@ module _ (m : Image) (s : Step) where
   -- the image is as it was, or as an accepted step of the kind leaves it
   pub step-cases : (P : Image → Type 0) → P m → ((n : Kind) → kindOf (s .kind) ≡ n → refusal m s n ≡ 0 → P ((act m s n) .image)) → P ((step m s) .image)
   unfolding step outcome
-  step-cases P same f = go (refusal m s (kindOf (s .kind))) refl
-    where
-      go : (r : ℕ) → refusal m s (kindOf (s .kind)) ≡ r → P ((outcome m s (kindOf (s .kind)) r) .image)
-      go zero e = f (kindOf (s .kind)) refl e
-      go (suc r) e = same
+  step-cases P same f = elim (zero-or-suc (refusal m s (kindOf (s .kind)))) [ inl e ↦ rw e (f (kindOf (s .kind)) refl e) | inr (r, e) ↦ rw e same ]
 
 -- ---- lists of steps
 
