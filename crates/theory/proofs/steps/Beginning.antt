@@ -11,7 +11,7 @@ use Rattle.model.specs.Collect.{scanPlayer, beginCycle}
 use Rattle.model.proofs.Laws.{false≢, nth-put-same, nth-put-other, length-put, nth-replicate}
 use Rattle.model.proofs.Entries.{nth-drop}
 use Rattle.model.proofs.Bits.{no-bit}
-use Rattle.theory.specs.Cover.{Covered, Cover, owes-by, to-nil, to-marked, is-coming, is-owed}
+use Rattle.theory.specs.Cover.{Cover, owes-by, is-coming, is-owed}
 use Rattle.theory.specs.Lines.{NilOr, GeneralOk, Start, Lines, Idle, Undamaged, none}
 use Rattle.theory.proofs.lines.Covering.{same-coming}
 use Rattle.theory.proofs.lines.Lines.{put-players, put-general}

@@ -1,20 +1,19 @@
 -- Every accepted step keeps "undamaged", kind by kind.
 use mathlib.Core.Path.{_≡_, refl, sym, ap, _∙_}
 use mathlib.Core.Logic.{inl, inr}
-use mathlib.Core.Bool.{true, false}
-use Prim.Native.Nat.{ℕ, zero, suc, _*_, _-_, _<_}
+use mathlib.Core.Bool.{false}
+use Prim.Native.Nat.{ℕ, _*_, _-_, _<_}
 use native.Mathlib.Omega.{arith}
 use lib.Dec.{eqb}
 use borrow.Author.Tests.{leb-false, eqb-true, eqb-false, not-false}
 use Rattle.model.specs.Base.{nth}
-use Rattle.model.specs.Image.{Image, size, links, levels, reg, owed, running, fields-open, withHeap, withCards, withRegs, withPlayers, withGeneral, setWord, setState, dirtyCard, setReg, setOwed}
+use Rattle.model.specs.Image.{Image, size, links, levels, owed, running, fields-open}
 use Rattle.model.specs.Records.{Step, Kind, new, load, store, barrier, handOver, dropReg, read, write, begin, scan, trace, clean, finish, isDue, unknown}
-use Rattle.model.specs.Mutate.{newObject}
-use Rattle.model.specs.Collect.{scanPlayer, beginCycle, traceStep, cleanStep}
+use Rattle.model.specs.Collect.{beginCycle}
 use Rattle.model.specs.Finish.{finishWith, finishStep}
 use Rattle.model.specs.Steps.{offDesk, object, owes, owing, noObject, pastEnd, wrongPhase, nothingToDo, refusal, accept, finishDone, act}
 use Rattle.model.proofs.Laws.{some-false}
-use Rattle.theory.specs.Lines.{NilOr, Start, Lines, Undamaged}
+use Rattle.theory.specs.Lines.{Start, Undamaged}
 use Rattle.theory.proofs.steps.Beginning.{scan-does, begin-does}
 use Rattle.theory.proofs.steps.Cleaning.{clean-does}
 use Rattle.theory.proofs.heap.Facts.{reg-value, link-value}

@@ -2,11 +2,11 @@
 use mathlib.Core.Path.{_≡_, refl, _∙_}
 use mathlib.Core.Logic.{inl, inr}
 use mathlib.Core.List.{List}
-use Prim.Native.Nat.{ℕ, zero, suc}
+use Prim.Native.Nat.{ℕ}
 use Rattle.model.specs.Image.{Image, parts}
 use Rattle.model.specs.Undamaged.{judgeAt}
 use Rattle.model.specs.Records.{Step, records}
-use Rattle.model.specs.Steps.{step, run, after}
+use Rattle.model.specs.Steps.{step}
 use Rattle.model.specs.Batch.{callNumber, events, batchWith, batchAt}
 use Rattle.theory.specs.Lines.{Undamaged, Passes}
 use Rattle.theory.proofs.steps.EachKind.{Keeps, kind-keeps}

@@ -1,5 +1,5 @@
 -- Load, hand, drop, barrier, store and write keep "undamaged".
-use mathlib.Core.Path.{_≡_, sym, subst, _∙_, refl}
+use mathlib.Core.Path.{_≡_, sym, _∙_, refl}
 use mathlib.Core.Logic.{inl, inr}
 use mathlib.Core.Bool.{true}
 use mathlib.Core.List.{List}
@@ -7,15 +7,14 @@ use Prim.Native.Nat.{ℕ, suc, _+_, _*_, _/_, _≤_, _<_}
 use native.Mathlib.Decide.{ℕ-discrete}
 use native.Mathlib.Omega.{arith}
 use lib.ListN.{length}
-use Rattle.model.specs.Base.{nth, put}
+use Rattle.model.specs.Base.{put}
 use Rattle.model.specs.Image.{Image, granules, word, isStart, marked, size, links, link, reg, owed, withHeap, withCards, withRegs, withPlayers, setWord, setState, dirtyCard, setReg, setOwed, fields-open}
 use Rattle.model.proofs.Laws.{nth-put-same, nth-put-other}
-use Rattle.theory.specs.Cover.{Covered, Cover, on-dirty, owes-by, to-nil, to-marked, is-coming, is-owed}
-use Rattle.theory.specs.Lines.{NilOr, Start, Lines, Idle, Sound, Undamaged}
+use Rattle.theory.specs.Cover.{Cover, on-dirty, owes-by, is-coming, is-owed}
+use Rattle.theory.specs.Lines.{NilOr, Start, Lines, Idle, Undamaged}
 use Rattle.theory.proofs.lines.Covering.{dirty-same, same-coming}
 use Rattle.theory.proofs.heap.Facts.{laid-of, reg-value}
 use Rattle.theory.proofs.lines.Lines.{put-regs, put-players}
-use Rattle.theory.proofs.lines.Packets.{Wrote}
 use Rattle.theory.proofs.steps.Reaching.{dirty-coming, dirty-lines, covered-on}
 use Rattle.theory.proofs.lines.Sections.{owed-set, reg-ok}
 use Rattle.theory.proofs.steps.Written.{links-written, link-written, word-lines}
