@@ -1,13 +1,13 @@
 -- An image and a plain store that agree give a player's step the same number, but for 9.
 use mathlib.Core.Path.{_≡_, refl, sym, ap, _∙_}
-use mathlib.Core.Bool.{Bool, true, false, not, _&&_}
+use mathlib.Core.Bool.{Bool, true, false, not, _&&_, Bool·not-not}
 use mathlib.Core.List.{[], _∷_}
 use Prim.Native.Nat.{ℕ, _<_}
 use lib.Dec.{eqb, leb}
 use lib.ListN.{getD}
 use borrow.Author.Tests.{eqb-false, leb-false}
 use Rattle.model.specs.Base.{some, first}
-use Rattle.model.specs.Image.{Image, links, levels, owed}
+use Rattle.model.specs.Image.{Image, links, levels}
 use Rattle.model.specs.Records.{Step, Kind, new, load, store, barrier, handOver, dropReg, read, write, begin, scan, trace, clean, finish, isDue, unknown}
 use Rattle.model.specs.Mutate.{roomFor}
 use Rattle.model.specs.Rows.{Role, unused, player, tracer, register, number, rowOf, is, isPlayer, limit, reaches, fields}
@@ -111,12 +111,8 @@ module _ (m : Image) (s : Step) (q : PlainStore) (name : ℕ → Object) (i : �
     owing-line = λ d. refl;
     object-line = λ d. refl;
     end-line = λ d o. refl;
-    nothing-line = λ d. twice (eqb (owed m (s .who)) 0) ∙ ap not (owes-alike (s .who) (not-above 15 (s .who) (some-false _ d 0)));
+    nothing-line = λ d. sym (Bool·not-not _) ∙ ap not (owes-alike (s .who) (not-above 15 (s .who) (some-false _ d 0)));
   }
-    where
-      twice : (a : Bool) → a ≡ not (not a)
-      twice true = refl
-      twice false = refl
 
   lines-of : (n : Kind) → feeds n 0 ≡ true → LinesOf n
   unfolding wrongPhase offDesk noObject pastEnd nothingToDo plainNoObject plainPastEnd plainNothing feeds

@@ -1,7 +1,7 @@
 -- Which steps the plain store is fed; the others leave registers, owed cards and the words of what a chain reaches.
 use mathlib.Core.Path.{_≡_, refl, sym, ap, _∙_}
-use mathlib.Core.Logic.{_⊎_, inl, inr}
-use mathlib.Core.Bool.{true, false, not, cond, _&&_}
+use mathlib.Core.Logic.{inl, inr}
+use mathlib.Core.Bool.{true, false, not, and-false}
 use Prim.Native.Nat.{ℕ}
 use native.Mathlib.Omega.{arith}
 use lib.Dec.{eqb}
@@ -9,9 +9,9 @@ use borrow.Author.Tests.{eqb-true, eqb-false, ne-eqb, not-true, not-false}
 use Rattle.model.specs.Image.{Image, reg, owed}
 use Rattle.model.specs.Records.{Step, Kind, new, load, store, barrier, handOver, dropReg, read, write, begin, scan, trace, clean, finish, isDue, unknown, kindOf}
 use Rattle.model.specs.Finish.{finishWith, finishStep}
-use Rattle.model.specs.Rows.{rowOf, is, isPlayer}
+use Rattle.model.specs.Rows.{is}
 use Rattle.model.specs.Steps.{Event, refusal, accept, finishDone, act, step}
-use Rattle.model.specs.Plain.{Object, made, upd, feeds, feedsEvent, named}
+use Rattle.model.specs.Plain.{Object, feeds, feedsEvent, named}
 use Rattle.model.proofs.Laws.{false≢, bool-cases}
 use Rattle.model.proofs.Rows.{is-same}
 use Rattle.theory.specs.Cycle.{Quiet}
@@ -30,39 +30,25 @@ fed-new n r e = ap (λ x. feeds x r) (is-same n new e)
 
 fed-other : (n : Kind) (r t : ℕ) → is n new ≡ false → feeds n r ≡ feeds n t
 unfolding feeds
-fed-other n r t e = answered r ∙ sym (answered t)
-  where
-    answered : (r : ℕ) → (isPlayer ((rowOf n) .who) && not (is n new && eqb r 9)) ≡ (isPlayer ((rowOf n) .who) && true)
-    answered r = ap (λ b. isPlayer ((rowOf n) .who) && not (b && eqb r 9)) e
+fed-other n r t e = rw e
 
 pub fed-not-nine : (m : Image) (s : Step) (n : Kind) → feeds n (refusal m s n) ≡ true → refusal m s n ≡ 9 → ⊥
-fed-not-nine m s n e = go (bool-cases (is n new))
-  where
-    go : (is n new ≡ true) ⊎ (is n new ≡ false) → refusal m s n ≡ 9 → ⊥
-    go (inl x) = eqb-false (refusal m s n) 9 (not-true _ (sym (fed-new n (refusal m s n) x) ∙ e))
-    go (inr x) = not-nine m s n x
+fed-not-nine m s n e =
+    elim (bool-cases (is n new)) [ inl x ↦ eqb-false (refusal m s n) 9 (not-true _ (sym (fed-new n (refusal m s n) x) ∙ e)) | inr x ↦ not-nine m s n x ]
 
 pub fed-zero : (n : Kind) (r : ℕ) → feeds n r ≡ true → feeds n 0 ≡ true
-fed-zero n r e = go (bool-cases (is n new))
-  where
-    go : (is n new ≡ true) ⊎ (is n new ≡ false) → feeds n 0 ≡ true
-    go (inl x) = fed-new n 0 x
-    go (inr x) = fed-other n 0 r x ∙ e
+fed-zero n r e = elim (bool-cases (is n new)) [ inl x ↦ fed-new n 0 x | inr x ↦ fed-other n 0 r x ∙ e ]
 
 -- a step that is not fed names nothing
 pub unfed-named : (name : ℕ → Object) (i : ℕ) (e : Event) → feedsEvent e ≡ false → named name i e ≡ name
 unfolding named feedsEvent
-unfed-named name i e u = ap (λ b. cond b (upd name (e .done .value) (made i)) name) (go (bool-cases (is (kindOf (e .request .kind)) new)))
-  where
-    n : Kind
-    n = kindOf (e .request .kind)
-
-    r : ℕ
-    r = e .done .number
-
-    go : (is n new ≡ true) ⊎ (is n new ≡ false) → (is n new && eqb r 0) ≡ false
-    go (inl x) = let k : r ≡ 9 = eqb-true r 9 (not-false _ (sym (fed-new n r x) ∙ u)) in ap (λ b. b && eqb r 0) x ∙ ne-eqb r 0 (λ z. omega arith)
-    go (inr x) = ap (λ b. b && eqb r 0) x
+unfed-named name i e u =
+    let n : Kind = kindOf (e .request .kind) in
+    let r : ℕ = e .done .number in
+    elim (bool-cases (is n new)) [
+      | inl x ↦ let k : r ≡ 9 = eqb-true r 9 (not-false _ (sym (fed-new n r x) ∙ u)) in rw (ne-eqb r 0 (λ z. omega arith), and-false)
+      | inr x ↦ rw x
+    ]
 
 -- ---- what a step that is not fed leaves
 
