@@ -1,13 +1,13 @@
 -- Over a whole list of steps the plain store answers as the real one.
 use mathlib.Core.Path.{_≡_, refl, sym, ap, _∙_}
 use mathlib.Core.Logic.{inl, inr}
-use Rattle.model.proofs.Laws.{bool-cases}
 use mathlib.Core.List.{List, [], _∷_}
 use Prim.Native.Nat.{ℕ, suc}
 use Rattle.model.specs.Image.{Image}
 use Rattle.model.specs.Records.{Step, Kind, finish, kindOf}
 use Rattle.model.specs.Steps.{Done, Event, refusal, act, step, run}
 use Rattle.model.specs.Plain.{Object, old, PlainStore, plainOf, PlainDone, plainStep, feeds, feedsEvent, feed, plainRun, named, readings, SameAnswers}
+use Rattle.model.proofs.Laws.{bool-cases}
 use Rattle.theory.specs.Same.{Names, SameStore, Related, event, WordsStay}
 use Rattle.theory.specs.Cycle.{Facts}
 use Rattle.theory.proofs.plain.PlainLaws.{names-old, names-more, agrees-first, same-kept}

@@ -1,6 +1,6 @@
 -- Numbers 3 and 4 as tests of the fields against their limits, for every kind at once; and what a field is where 3, 4 and 5 do not apply.
 use mathlib.Core.Path.{_≡_, refl, sym, ap, _∙_}
-use mathlib.Core.Bool.{Bool, true, false, not, _&&_, _||_}
+use mathlib.Core.Bool.{Bool, true, false, not, _&&_, _||_, and-false}
 use mathlib.Core.List.{[], _∷_}
 use Prim.Native.Nat.{ℕ, zero, suc, _^_, _<_}
 use native.Mathlib.Omega.{arith}
@@ -26,10 +26,6 @@ four P a b c d (suc (suc zero)) h = c
 four P a b c d (suc (suc (suc zero))) h = d
 four P a b c d (suc (suc (suc (suc i)))) h = absurd (omega arith)
 
-and-false : (a : Bool) → (a && false) ≡ false
-and-false true = refl
-and-false false = refl
-
 -- an unused field that is not 0; a field that reaches its limit
 abbrev stray : Role → ℕ → Bool
 stray r x = isUnused r && not (eqb x 0)
@@ -38,12 +34,9 @@ abbrev over : ℕ → Role → ℕ → Bool
 over k r x = reaches (limit k r) x
 
 module _ (s : Step) (n : Kind) (f : Role → ℕ → Bool) where
-  test-at : (i : ℕ) → i < 4 → getD (fields s f (rowOf n)) i false ≡ f (roleAt n i) (fieldAt s i)
-  unfolding fields roleAt fieldAt
-  test-at = four (λ i. getD (fields s f (rowOf n)) i false ≡ f (roleAt n i) (fieldAt s i)) refl refl refl refl
-
   no-test : some (fields s f (rowOf n)) ≡ false → (i : ℕ) → i < 4 → f (roleAt n i) (fieldAt s i) ≡ false
-  no-test e i h = sym (test-at i h) ∙ some-false (fields s f (rowOf n)) e i
+  unfolding fields roleAt fieldAt
+  no-test e = let d = some-false _ e in four (λ i. f (roleAt n i) (fieldAt s i) ≡ false) (d 0) (d 1) (d 2) (d 3)
 
 -- ---- numbers 3 and 4, with words of w bits and k cards
 

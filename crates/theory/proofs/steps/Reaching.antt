@@ -72,6 +72,7 @@ few-packets x f = elim (zero-or-suc x) [ inl e ↦ omega arith | inr (q, e) ↦ 
 pub take-lines : {m : Image} → Lines m → (t : ℕ) → t < 8 → Lines (takeOutput m t)
 unfolding takeOutput setTracer withTracers output
 take-lines {m} o t ht =
+    let m₀ : Image = setTracer m t 1 0 in
     put-tracers o _ (elim (bool-cases (noOutput m t)) [
       | inl b ↦ rw b (hold-ok (o .tracers-ok) t ht 1 (emptiest m₀) (omega arith) (few-packets _ (λ q e. emptiest-ok m₀ q e .0))
           (λ u j p hu hj x y. elim (ℕ-discrete (8 * u + j) (8 * t + 1)) [
@@ -81,9 +82,6 @@ take-lines {m} o t ht =
       | inr b ↦ rw b (hold-ok (o .tracers-ok) t ht 1 (nth (m .tracers) (8 * t + 1)) (omega arith) (o .tracers-ok .places .held t 1 ht (omega arith))
           (λ u j p hu hj x y. o .tracers-ok .places .once u j t 1 p hu ht hj (omega arith) y x))
     ])
-  where
-    m₀ : Image
-    m₀ = setTracer m t 1 0
 
 -- the output packet that is taken is one of the 32 and has space
 pub took : {m : Image} → Lines m → (t p : ℕ) → t < 8 → output (takeOutput m t) t ≡ suc p → (p < 32) × (count m p < 30)
@@ -164,14 +162,20 @@ module _ (m : Image) (o : Lines m) (t a : ℕ) (ht : t < 8) where
   reach-new : marked m a ≡ false → Start m a → ReachedOnce m a (enter ready t a)
   unfolding takeOutput setTracer withTracers setMark withMarks dirtyCard setState withCards append withPackets marked count
   reach-new un sa =
+      let room = o .marks-ok .sized a (sa .0) in
+      let here = setBit-same (m .width) (m .marks) a room in
+      let o₁ = mark-lines o a sa in
+      let o₂ : Lines ready = take-lines o₁ t ht in
+      let hc : a / 64 < m .k = omega (arith, sa .0) in
+      let hc′ : a / 64 < length (m .cards) = rw (o .cards-ok .sized) hc in
       enter-cases (ReachedOnce m a) ready t a
       (record {
         lines = dirty-lines o₂ (a / 64) hc;
         regs-same = refl;
         rest-same = refl;
-        tracer-same = same;
+        tracer-same = λ u i h h′. nth-put-other (m .tracers) (8 * t + 1) (8 * u + i) _ (omega arith);
         coming-kept = λ g i c. dirty-coming ready (a / 64) g i hc′ (ready-coming g i c);
-        marks-up = up;
+        marks-up = λ g k. setBit-keeps (m .width) (m .marks) a g room k;
         new-comes = λ g i u k. rw (marks-new m a g u k) (on-dirty (dirty-same ready (a / 64) hc′));
         now-marked = inr here;
       })
@@ -180,33 +184,12 @@ module _ (m : Image) (o : Lines m) (t a : ℕ) (ht : t < 8) where
         lines = append-lines o₂ p a (r .0) (r .1) here (λ q f i. false≢ (sym un ∙ o .packets-ok .full q f a i));
         regs-same = refl;
         rest-same = refl;
-        tracer-same = same;
+        tracer-same = λ u i h h′. nth-put-other (m .tracers) (8 * t + 1) (8 * u + i) _ (omega arith);
         coming-kept = λ g i c. append-coming ready (o .packets-ok) p a (r .0) (r .1) g i (ready-coming g i c);
-        marks-up = up;
+        marks-up = λ g k. setBit-keeps (m .width) (m .marks) a g room k;
         new-comes = λ g i u k. rw (marks-new m a g u k) (append-comes ready (o .packets-ok) p a (r .0) (r .1) i);
         now-marked = inr here;
       })
-    where
-      o₁ : Lines (setMark m a)
-      o₁ = mark-lines o a sa
-
-      o₂ : Lines ready
-      o₂ = take-lines o₁ t ht
-
-      hc : a / 64 < m .k
-      hc = omega (arith, sa .0)
-
-      hc′ : a / 64 < length (m .cards)
-      hc′ = rw (o .cards-ok .sized) hc
-
-      here : bit (m .width) (setBit (m .width) (m .marks) a) a ≡ true
-      here = setBit-same (m .width) (m .marks) a (o .marks-ok .sized a (sa .0))
-
-      up : (g : ℕ) → bit (m .width) (m .marks) g ≡ true → bit (m .width) (setBit (m .width) (m .marks) a) g ≡ true
-      up g k = setBit-keeps (m .width) (m .marks) a g (o .marks-ok .sized a (sa .0)) k
-
-      same : (u i : ℕ) → 2 ≤ i → i < 8 → nth (put (m .tracers) (8 * t + 1) (cond (noOutput (setMark m a) t) (emptiest (setTracer (setMark m a) t 1 0)) (output (setMark m a) t))) (8 * u + i) ≡ nth (m .tracers) (8 * u + i)
-      same u i h h′ = nth-put-other (m .tracers) (8 * t + 1) (8 * u + i) _ (omega arith)
 
   reach-none : NilOr (λ g. marked m g ≡ true) a → ReachedOnce m a m
   reach-none n = record {
@@ -251,6 +234,6 @@ unfolding reachAll nth
 reachAll-does m o cov t ht [] f = record { lines = o; cover = cov; frame-same = refl }
 reachAll-does m o cov t ht (a ∷ l) f =
     let r = reach-does m o t a ht (f zero) in
-    let s = reachAll-does (reach m t a) (r .lines) (reached-cover r cov) t ht l
-    (λ i. rw (ap (λ x. x .0 .1) (r .rest-same), ap (λ x. x .0 .0) (r .rest-same), ap (λ x. x .2) (r .rest-same)) (f (suc i))) in
-    record { lines = s .lines; cover = s .cover; frame-same = s .frame-same ∙ ap (λ x. x .0) (r .rest-same) }
+    let e = r .rest-same in
+    let s = reachAll-does (reach m t a) (r .lines) (reached-cover r cov) t ht l (λ i. rw (ap (λ x. x .0 .1) e, ap (λ x. x .0 .0) e, ap (λ x. x .2) e) (f (suc i))) in
+    record { lines = s .lines; cover = s .cover; frame-same = s .frame-same ∙ ap (λ x. x .0) e }

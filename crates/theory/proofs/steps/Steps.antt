@@ -79,11 +79,7 @@ module _ (m : Image) (s : Step) where
   -- "the others refuse one step, with value 0"
   pub refused-same : ((step m s) .number ≡ 0 → ⊥) → ((step m s) .image ≡ m) × ((step m s) .value ≡ 0)
   unfolding step outcome
-  refused-same nz = go (kindOf (s .kind)) (refusal m s (kindOf (s .kind))) nz
-    where
-      go : (n : Kind) (r : ℕ) → ((outcome m s n r) .number ≡ 0 → ⊥) → ((outcome m s n r) .image ≡ m) × ((outcome m s n r) .value ≡ 0)
-      go n zero z = absurd (z (act-number n))
-      go n (suc r) z = (refl, refl)
+  refused-same nz = elim (zero-or-suc (refusal m s (kindOf (s .kind)))) [ inl e ↦ absurd (nz (step-number refl ∙ e)) | inr (r, e) ↦ rw e (refl, refl) ]
 
   -- the image is as it was, or as an accepted step of the kind leaves it
   pub step-cases : (P : Image → Type 0) → P m → ((n : Kind) → kindOf (s .kind) ≡ n → refusal m s n ≡ 0 → P ((act m s n) .image)) → P ((step m s) .image)
