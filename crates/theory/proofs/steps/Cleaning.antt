@@ -10,8 +10,8 @@ use native.Mathlib.Omega.{arith}
 use lib.Dec.{eqb}
 use lib.ListN.{getD}
 use borrow.Author.Tests.{eqb-true, eqb-false, not-true, not-false}
-use Rattle.model.specs.Base.{lowest, first}
-use Rattle.model.specs.Image.{Image, marked, state, hand, handCard, nextGranule, withCards, withTracers, setState, setTracer}
+use Rattle.model.specs.Base.{nth, put, lowest, first}
+use Rattle.model.specs.Image.{Image, marked, hand, handCard, nextGranule, withCards, withTracers, setState, setTracer}
 use Rattle.model.specs.Collect.{traceHand, putCard, nextMarked, cleanTo, cleanCard, lowestDirty, takeCard, cleanLine, cleanStep}
 use Rattle.model.proofs.Laws.{false≢, bool-cases, nth-put-same, best-ok}
 use Rattle.theory.specs.Cover.{Cover}
@@ -89,22 +89,20 @@ cleanCard-does m o cov t ht e nz =
           })
     ]
 
-lowestDirty-ok : (m : Image) (c : ℕ) → lowestDirty m ≡ suc c → (c < m .k) × (state m c ≡ 1)
-unfolding lowestDirty lowest
-lowestDirty-ok m c e = let u = best-ok _ _ (m .k) c e in (u .0, eqb-true _ _ (u .1))
-
-takeCard-does : (m : Image) → Lines m → Cover m → (t c : ℕ) → t < 8 → handCard m t ≡ 0 → c < m .k → state m c ≡ 1 → StepStays m (takeCard m t c)
-unfolding takeCard putCard setState setTracer withTracers withCards state
-takeCard-does m o cov t c ht e hc s = record { lines = card-lines o′ t (suc c) (64 * c) ht (one (omega arith) ok); cover = takeCard-cover m t c (o .tracers-ok .sized) ht e cov; frame-same = refl }
-  where
-    o′ : Lines (setState m c 2)
-    o′ = put-cards o _ (state-ok (o .cards-ok) c 2 hc (omega arith)) (λ d. taken-on (o .cards-ok) c 2 d hc (λ x. omega arith))
-
-    ok : CardInHand (setState m c 2) (suc c) (64 * c)
-    ok = let p : suc c - 1 ≡ c = omega arith in (hc, rw (p, nth-put-same (m .cards) c 2 (rw (o .cards-ok .sized) hc)) (omega arith), omega arith, omega arith)
+takeCard-does : (m : Image) → Lines m → Cover m → (t c : ℕ) → t < 8 → handCard m t ≡ 0 → c < m .k → StepStays m (takeCard m t c)
+unfolding takeCard putCard setState setTracer withTracers withCards
+takeCard-does m o cov t c ht e hc =
+    let o′ = put-cards o _ (state-ok (o .cards-ok) c 2 hc (omega arith)) (λ d. taken-on (o .cards-ok) c 2 d hc (λ x. omega arith)) in
+    let p : suc c - 1 ≡ c = omega arith in
+    let now : nth (put (m .cards) c 2) c ≡ 2 = nth-put-same (m .cards) c 2 (rw (o .cards-ok .sized) hc) in
+    record {
+      lines = card-lines o′ t (suc c) (64 * c) ht (one (omega arith) (hc, rw (p, now) (omega arith), omega arith, omega arith));
+      cover = takeCard-cover m t c (o .tracers-ok .sized) ht e cov;
+      frame-same = refl;
+    }
 
 pub clean-does : (m : Image) → Lines m → Cover m → (t : ℕ) → t < 8 → StepStays m (cleanStep m t)
-unfolding cleanStep cleanLine first
+unfolding cleanStep cleanLine first lowestDirty lowest
 clean-does m o cov t ht = go (not (eqb (hand m t) 0)) refl (not (eqb (handCard m t) 0)) refl (not (eqb (lowestDirty m) 0)) refl
   where
     go : (a : Bool) → not (eqb (hand m t) 0) ≡ a → (b : Bool) → not (eqb (handCard m t) 0) ≡ b → (c : Bool) → not (eqb (lowestDirty m) 0) ≡ c
@@ -112,6 +110,6 @@ clean-does m o cov t ht = go (not (eqb (hand m t) 0)) refl (not (eqb (handCard m
     go true x b y c z = traceHand-does m o cov t ht (eqb-false _ _ (not-true _ x))
     go false x true y c z = cleanCard-does m o cov t ht (eqb-true _ _ (not-false _ x)) (eqb-false _ _ (not-true _ y))
     go false x false y true z =
-        let f = lowestDirty-ok m (lowestDirty m - 1) (omega (arith, eqb-false (lowestDirty m) 0 (not-true _ z))) in
-        takeCard-does m o cov t (lowestDirty m - 1) ht (eqb-true _ _ (not-false _ y)) (f .0) (f .1)
+        let e : lowestDirty m ≡ suc (lowestDirty m - 1) = omega (arith, eqb-false (lowestDirty m) 0 (not-true _ z)) in
+        takeCard-does m o cov t (lowestDirty m - 1) ht (eqb-true _ _ (not-false _ y)) (best-ok _ _ (m .k) (lowestDirty m - 1) e .0)
     go false x false y false z = record { lines = o; cover = cov; frame-same = refl }

@@ -2,12 +2,12 @@
 use mathlib.Core.Path.{_≡_, refl, sym, ap, _∙_}
 use mathlib.Core.Logic.{inl, inr}
 use mathlib.Core.Bool.{false}
-use Prim.Native.Nat.{ℕ, _*_, _-_, _<_}
+use Prim.Native.Nat.{ℕ, _-_, _<_}
 use native.Mathlib.Omega.{arith}
 use lib.Dec.{eqb}
 use borrow.Author.Tests.{leb-false, eqb-true, eqb-false, not-false}
 use Rattle.model.specs.Base.{nth}
-use Rattle.model.specs.Image.{Image, size, links, levels, owed, running, fields-open}
+use Rattle.model.specs.Image.{Image, levels, owed, running, fields-open}
 use Rattle.model.specs.Records.{Step, Kind, new, load, store, barrier, handOver, dropReg, read, write, begin, scan, trace, clean, finish, isDue, unknown}
 use Rattle.model.specs.Collect.{beginCycle}
 use Rattle.model.specs.Finish.{finishWith, finishStep}
@@ -34,8 +34,7 @@ unfolding owes
 owes-none m s p e = eqb-true _ _ (not-false _ e)
 
 module _ (m : Image) (s : Step) (u : Undamaged m) where
-  -- ---- the collector's kinds: a cycle runs
-
+  -- what a step of the collector keeps, while a cycle runs
   stays-keeps : {m′ : Image} → eqb (running m) 0 ≡ false → StepStays m m′ → Keeps m m′
   unfolding running
   stays-keeps e r =
@@ -43,66 +42,46 @@ module _ (m : Image) (s : Step) (u : Undamaged m) where
       let z : nth (m .general) 0 ≡ 0 → ⊥ = eqb-false (nth (m .general) 0) 0 e in
       (record { sound = record { lines = r .lines; idle = λ q. absurd (z (sym (ap (λ x. nth (x .2) 0) f) ∙ q)) }; cover = r .cover }, ap (λ x. x .0) f, ap (λ x. x .1) f)
 
-  -- ---- the players' kinds
-
   -- an object register that is not nil holds a start
   held-start : (r : ℕ) → eqb (object m s r) 0 ≡ false → Start m (object m s r)
   unfolding object
   held-start r n = elim (reg-value (u .sound .lines) (s .who) r) [ inl z ↦ absurd (eqb-false _ _ n z) | inr h ↦ h ]
 
-  load-keeps : refusal m s load ≡ 0 → Undamaged ((act m s load) .image)
-  unfolding act accept offDesk owing noObject pastEnd
-  load-keeps r =
-      let d = some-false _ (line m s load r 1) in
-      let g = held-start (s .b) (line m s load r 3) in
-      reg-keeps m u (s .who) (s .a) _ (not-above 15 (s .who) (d 0)) (not-above 15 (s .a) (d 1)) (owes-none m s (s .who) (some-false _ (line m s load r 2) 0))
-      (link-value (u .sound .lines) (object m s (s .b)) (s .c) g (leb-false _ _ (line m s load r 4)))
-
-  hand-keeps : refusal m s handOver ≡ 0 → Undamaged ((act m s handOver) .image)
-  unfolding act accept object offDesk owing
-  hand-keeps r =
-      let d = some-false _ (line m s handOver r 1) in
-      let e = some-false _ (line m s handOver r 2) in
-      reg-keeps m u (s .b) (s .c) _ (not-above 15 (s .b) (d 2)) (not-above 15 (s .c) (d 3)) (owes-none m s (s .b) (e 2)) (reg-value (u .sound .lines) (s .who) (s .a))
-
-  drop-keeps : refusal m s dropReg ≡ 0 → Undamaged ((act m s dropReg) .image)
-  unfolding act accept offDesk owing
-  drop-keeps r =
-      let d = some-false _ (line m s dropReg r 1) in
-      reg-keeps m u (s .who) (s .a) 0 (not-above 15 (s .who) (d 0)) (not-above 15 (s .a) (d 1)) (owes-none m s (s .who) (some-false _ (line m s dropReg r 2) 0)) (inl refl)
-
-  barrier-step : refusal m s barrier ≡ 0 → Undamaged ((act m s barrier) .image)
-  unfolding act accept offDesk nothingToDo
-  barrier-step r =
-      barrier-keeps m u (s .who) (owed m (s .who) - 1) (not-above 15 (s .who) (some-false _ (line m s barrier r 1) 0))
-      (omega (arith, eqb-false (owed m (s .who)) 0 (line m s barrier r 8)))
-
-  store-step : refusal m s store ≡ 0 → Undamaged ((act m s store) .image)
-  unfolding act accept object offDesk owing noObject pastEnd
-  store-step r =
-      let d = some-false _ (line m s store r 1) in
-      store-keeps m u (s .who) (object m s (s .a)) (s .b) (s .c) (not-above 15 (s .who) (d 0)) (not-above 15 (s .c) (d 3)) (owes-none m s (s .who) (some-false _ (line m s store r 2) 0))
-      (held-start (s .a) (line m s store r 3)) (leb-false _ _ (line m s store r 4))
-
-  write-step : refusal m s write ≡ 0 → Undamaged ((act m s write) .image)
-  unfolding act accept noObject pastEnd levels
-  write-step r =
-      let g : ℕ = object m s (s .a) in
-      let l : s .b < 4 * size m (object m s (s .a)) - 2 - links m (object m s (s .a)) = leb-false (4 * size m (object m s (s .a)) - 2 - links m (object m s (s .a))) (s .b) (line m s write r 4) in
-      write-keeps m u g (s .b) (s .c) (held-start (s .a) (line m s write r 3)) (omega arith)
-
-  -- ---- every kind
-
   pub kind-keeps : (n : Kind) → refusal m s n ≡ 0 → Keeps m ((act m s n) .image)
-  unfolding act accept offDesk wrongPhase finishDone finishStep finishWith beginCycle fields-open
+  unfolding act accept object offDesk owing noObject pastEnd nothingToDo wrongPhase finishDone finishStep finishWith beginCycle fields-open
   kind-keeps new r = let e = new-does m s (u .sound .lines) r .sections in (new-step m s u r, ap (λ x. x .width) e, ap (λ x. x .k) e)
-  kind-keeps load r = (load-keeps r, refl, refl)
-  kind-keeps store r = (store-step r, refl, refl)
-  kind-keeps barrier r = (barrier-step r, refl, refl)
-  kind-keeps handOver r = (hand-keeps r, refl, refl)
-  kind-keeps dropReg r = (drop-keeps r, refl, refl)
+  kind-keeps load r =
+      let d = some-false _ (line m s load r 1) in
+      let v = link-value (u .sound .lines) (object m s (s .b)) (s .c) (held-start (s .b) (line m s load r 3)) (leb-false _ _ (line m s load r 4)) in
+      let w = owes-none m s (s .who) (some-false _ (line m s load r 2) 0) in
+      (reg-keeps m u (s .who) (s .a) _ (not-above 15 (s .who) (d 0)) (not-above 15 (s .a) (d 1)) w v, refl, refl)
+  kind-keeps store r =
+      let d = some-false _ (line m s store r 1) in
+      let w = owes-none m s (s .who) (some-false _ (line m s store r 2) 0) in (
+        store-keeps m u (s .who) (object m s (s .a)) (s .b) (s .c) (not-above 15 (s .who) (d 0)) (not-above 15 (s .c) (d 3)) w (held-start (s .a) (line m s store r 3))
+            (leb-false _ _ (line m s store r 4)),
+        refl,
+        refl,
+      )
+  kind-keeps barrier r = (
+    barrier-keeps m u (s .who) (owed m (s .who) - 1) (not-above 15 (s .who) (some-false _ (line m s barrier r 1) 0))
+        (omega (arith, eqb-false (owed m (s .who)) 0 (line m s barrier r 8))),
+    refl,
+    refl,
+  )
+  kind-keeps handOver r =
+      let d = some-false _ (line m s handOver r 1) in
+      let w = owes-none m s (s .b) (some-false _ (line m s handOver r 2) 2) in
+      (reg-keeps m u (s .b) (s .c) _ (not-above 15 (s .b) (d 2)) (not-above 15 (s .c) (d 3)) w (reg-value (u .sound .lines) (s .who) (s .a)), refl, refl)
+  kind-keeps dropReg r =
+      let d = some-false _ (line m s dropReg r 1) in
+      let w = owes-none m s (s .who) (some-false _ (line m s dropReg r 2) 0) in
+      (reg-keeps m u (s .who) (s .a) 0 (not-above 15 (s .who) (d 0)) (not-above 15 (s .a) (d 1)) w (inl refl), refl, refl)
   kind-keeps read r = (u, refl, refl)
-  kind-keeps write r = (write-step r, refl, refl)
+  kind-keeps write r =
+      let g : ℕ = object m s (s .a) in
+      let l : s .b < levels m g = leb-false _ _ (line m s write r 4) in
+      (write-keeps m u g (s .b) (s .c) (held-start (s .a) (line m s write r 3)) (omega arith), refl, refl)
   kind-keeps begin r =
       let z : nth (m .general) 0 ≡ 0 = omega (arith, u .sound .lines .general-ok .runs, eqb-false (nth (m .general) 0) 1 (line m s begin r 7)) in
       (begin-does m (u .sound .lines) (u .sound .idle z), refl, refl)

@@ -9,7 +9,7 @@ use native.Mathlib.Omega.{arith}
 use lib.Dec.{eqb}
 use lib.ListN.{length, take}
 use borrow.Author.Tests.{ltb-true, leb-false, eqb-true, eqb-false, not-true, eq-eqb}
-use Rattle.model.specs.Base.{nth, put, some, bit, setBit}
+use Rattle.model.specs.Base.{nth, some}
 use Rattle.model.specs.Image.{Image, granules, word, marked, links, link, state, dirty, reg, count, entry, input, output, hand, nextLink, handCard, nextGranule, owed, withMarks, withCards, withPackets, withTracers, setMark, setState, dirtyCard, setTracer}
 use Rattle.model.specs.Collect.{held, emptiest, append, noOutput, takeOutput, enter, reach, reachAll}
 use Rattle.model.proofs.Laws.{false≢, bool-cases, any-make, every-use, some-use, some-nil, some-make, nth-put-same, nth-put-other, best-ok, some-false}
