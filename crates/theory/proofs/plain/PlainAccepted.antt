@@ -41,9 +41,6 @@ object-at name i zero ns = sym (ns .name-nil)
 object-at name i (suc g) ns = refl
 
 module _ (m : Image) (f : Facts m) (s : Step) (q : PlainStore) (name : ℕ → Object) (i : ℕ) (ns : Names name i) (S : SameStore name m q) where
-  abbrev Alike : Kind → Type 0
-  Alike n = kindOf (s .kind) ≡ n → Admitted m s n → Related name i (event m s (act m s n)) (plainAct q s i n)
-
   reach-of : (r : ℕ) → s .who < 16 → r < 16 → (object m s r ≡ 0 → ⊥) → Chain m (object m s r)
   reach-of = held-chain m s q name i ns S
 
@@ -60,42 +57,38 @@ module _ (m : Image) (f : Facts m) (s : Step) (q : PlainStore) (name : ℕ → O
       let no = ne-eqb (suc r) 0 (λ e. omega arith) in
       as-number name i ns m m s (suc r) 0 q 0 refl (rw (no, and-false)) (rw (no, and-false)) S
 
-  new-alike : NewLeaves m s → refusal m s new ≡ 0 → Alike new
-  unfolding act accept plainAct plainAccept named reading offDesk
-  new-alike made-by z k a =
-      let g : ℕ = (act m s new) .value in
-      let o = made-by z in
-      let ns′ = names-new ns g (new-not-nil o) in
+  accepted-alike : NewLeaves m s → (n : Kind) → feeds n 0 ≡ true → refusal m s n ≡ 0 → kindOf (s .kind) ≡ n → Related name i (event m s (act m s n)) (plainAct q s i n)
+  unfolding feeds act accept plainAct plainAccept named reading offDesk noObject pastEnd setWord withHeap dirtyCard setState withCards reg owed word
+  accepted-alike o new e z k =
+      let a = admitted m s new z in
       let d = some-false _ (a .on-desk) in
+      let g : ℕ = (act m s new) .value in
+      let ns′ = names-new ns g (new-not-nil (o z)) in
       record {
         names-after = rw k ns′;
-        same-after = rw k (same-new m _ f (s .who) (s .a) (s .b) (s .c) g (not-above 15 (s .who) (d 0)) (not-above 15 (s .a) (d 1)) (good-size s (a .good-size) .2) o name i ns q S);
+        same-after = rw k (same-new m _ f (s .who) (s .a) (s .b) (s .c) g (not-above 15 (s .who) (d 0)) (not-above 15 (s .a) (d 1)) (good-size s (a .good-size) .2) (o z) name i ns q S);
         same-reply = rw (k, object-at (upd name g (made i)) (suc i) g ns′, upd-same name g (made i));
       }
-
-  load-alike : Alike load
-  unfolding act accept plainAct plainAccept named reading offDesk noObject pastEnd
-  load-alike k a =
+  accepted-alike o load e z k =
+      let a = admitted m s load z in
+      let d = some-false _ (a .on-desk) in
       let g : ℕ = object m s (s .b) in
       let l : ℕ = link m g (s .c) in
-      let d = some-false _ (a .on-desk) in
       let hp : s .who < 16 = not-above 15 (s .who) (d 0) in
       let hb : s .b < 16 = not-above 15 (s .b) (d 2) in
       let cg : Chain m g = reach-of (s .b) hp hb (eqb-false _ _ (a .has-object)) in
       let lc : s .c < links m g = leb-false _ _ (a .not-past) in
-      let e : q .linkOf (holding q s (s .b)) (s .c) ≡ name l = ap (λ o. q .linkOf o (s .c)) (in-reg (s .b) hp hb) ∙ S .same-link g (s .c) cg lc in
+      let x : q .linkOf (holding q s (s .b)) (s .c) ≡ name l = ap (λ o. q .linkOf o (s .c)) (in-reg (s .b) hp hb) ∙ S .same-link g (s .c) cg lc in
       record {
         names-after = rw k (names-more ns);
-        same-after = rw (k, e) (same-setReg m f (s .who) (s .a) l hp (not-above 15 (s .a) (d 1)) name q S (λ nz. chain-link g (s .c) cg lc refl nz));
-        same-reply = rw (k, object-at name i l ns, e);
+        same-after = rw (k, x) (same-setReg m f (s .who) (s .a) l hp (not-above 15 (s .a) (d 1)) name q S (λ nz. chain-link g (s .c) cg lc refl nz));
+        same-reply = rw (k, object-at name i l ns, x);
       }
-
-  store-alike : Alike store
-  unfolding act accept plainAct plainAccept offDesk noObject pastEnd setWord withHeap
-  store-alike k a =
+  accepted-alike o store e z k =
+      let a = admitted m s store z in
+      let d = some-false _ (a .on-desk) in
       let g : ℕ = object m s (s .a) in
       let v : ℕ = object m s (s .c) in
-      let d = some-false _ (a .on-desk) in
       let hp : s .who < 16 = not-above 15 (s .who) (d 0) in
       let ha : s .a < 16 = not-above 15 (s .a) (d 1) in
       let hc : s .c < 16 = not-above 15 (s .c) (d 3) in
@@ -103,58 +96,42 @@ module _ (m : Image) (f : Facts m) (s : Step) (q : PlainStore) (name : ℕ → O
       number-reply store k refl refl _ 0 _ 0 refl
       (rw (in-reg (s .a) hp ha, in-reg (s .c) hp hc, ← nz) (same-setOwed (setWord m g (2 + s .b) v) (f .players-length) (s .who) (suc (g / 64)) hp name _
       (same-stored m f g (s .b) v (reach-of (s .a) hp ha (eqb-false _ _ (a .has-object))) (leb-false _ _ (a .not-past)) (reach-of (s .c) hp hc) name (ns .name-one) q S)))
-
-  barrier-alike : Alike barrier
-  unfolding act accept plainAct plainAccept offDesk dirtyCard setState withCards reg owed word
-  barrier-alike k a =
+  accepted-alike o barrier e z k =
+      let a = admitted m s barrier z in
+      let d = some-false _ (a .on-desk) in
       let m₁ : Image = dirtyCard m (owed m (s .who) - 1) in
       number-reply barrier k refl refl _ 0 _ 0 refl
-      (same-setOwed m₁ (f .players-length) (s .who) 0 (not-above 15 (s .who) (some-false _ (a .on-desk) 0)) name q
+      (same-setOwed m₁ (f .players-length) (s .who) 0 (not-above 15 (s .who) (d 0)) name q
       (same-kept m f m₁ (record { kept-reg = λ p r. refl; kept-owed = λ p. refl; kept-word = λ g j c l. refl }) name q S))
-
-  hand-alike : Alike handOver
-  unfolding act accept plainAct plainAccept offDesk
-  hand-alike k a =
-      let hp : s .who < 16 = not-above 15 (s .who) (some-false _ (a .on-desk) 0) in
-      let ha : s .a < 16 = not-above 15 (s .a) (some-false _ (a .on-desk) 1) in
+  accepted-alike o handOver e z k =
+      let a = admitted m s handOver z in
+      let d = some-false _ (a .on-desk) in
+      let hp : s .who < 16 = not-above 15 (s .who) (d 0) in
+      let ha : s .a < 16 = not-above 15 (s .a) (d 1) in
       number-reply handOver k refl refl _ 0 _ 0 refl
-      (rw (in-reg (s .a) hp ha) (same-setReg m f (s .b) (s .c) (object m s (s .a)) (not-above 15 (s .b) (some-false _ (a .on-desk) 2)) (not-above 15 (s .c) (some-false _ (a .on-desk) 3)) name q S (reach-of (s .a) hp ha)))
-
-  drop-alike : Alike dropReg
-  unfolding act accept plainAct plainAccept offDesk
-  drop-alike k a =
+      (rw (in-reg (s .a) hp ha) (same-setReg m f (s .b) (s .c) (object m s (s .a)) (not-above 15 (s .b) (d 2)) (not-above 15 (s .c) (d 3)) name q S (reach-of (s .a) hp ha)))
+  accepted-alike o dropReg e z k =
+      let a = admitted m s dropReg z in
+      let d = some-false _ (a .on-desk) in
       number-reply dropReg k refl refl _ 0 _ 0 refl
-      (rw (← ns .name-nil) (same-setReg m f (s .who) (s .a) 0 (not-above 15 (s .who) (some-false _ (a .on-desk) 0)) (not-above 15 (s .a) (some-false _ (a .on-desk) 1)) name q S (λ nz. absurd (nz refl))))
-
-  read-alike : Alike read
-  unfolding act accept plainAct plainAccept offDesk noObject pastEnd
-  read-alike k a =
-      let hp : s .who < 16 = not-above 15 (s .who) (some-false _ (a .on-desk) 0) in
-      let ha : s .a < 16 = not-above 15 (s .a) (some-false _ (a .on-desk) 1) in
+      (rw (← ns .name-nil) (same-setReg m f (s .who) (s .a) 0 (not-above 15 (s .who) (d 0)) (not-above 15 (s .a) (d 1)) name q S (λ nz. absurd (nz refl))))
+  accepted-alike o read e z k =
+      let a = admitted m s read z in
+      let d = some-false _ (a .on-desk) in
+      let hp : s .who < 16 = not-above 15 (s .who) (d 0) in
+      let ha : s .a < 16 = not-above 15 (s .a) (d 1) in
       let g : ℕ = object m s (s .a) in
       number-reply read k refl refl m _ q _
       (sym (ap (λ o. q .levelOf o (s .b)) (in-reg (s .a) hp ha) ∙ S .same-level g (s .b) (reach-of (s .a) hp ha (eqb-false _ _ (a .has-object))) (leb-false _ _ (a .not-past))))
       S
-
-  write-alike : Alike write
-  unfolding act accept plainAct plainAccept offDesk noObject pastEnd
-  write-alike k a =
-      let hp : s .who < 16 = not-above 15 (s .who) (some-false _ (a .on-desk) 0) in
-      let ha : s .a < 16 = not-above 15 (s .a) (some-false _ (a .on-desk) 1) in
+  accepted-alike o write e z k =
+      let a = admitted m s write z in
+      let d = some-false _ (a .on-desk) in
+      let hp : s .who < 16 = not-above 15 (s .who) (d 0) in
+      let ha : s .a < 16 = not-above 15 (s .a) (d 1) in
       let g : ℕ = object m s (s .a) in
       number-reply write k refl refl _ 0 _ 0 refl
       (rw (in-reg (s .a) hp ha) (same-written m f g (s .b) (s .c) (reach-of (s .a) hp ha (eqb-false _ _ (a .has-object))) (leb-false _ _ (a .not-past)) name (ns .name-one) q S))
-
-  accepted-alike : NewLeaves m s → (n : Kind) → feeds n 0 ≡ true → refusal m s n ≡ 0 → kindOf (s .kind) ≡ n → Related name i (event m s (act m s n)) (plainAct q s i n)
-  unfolding feeds
-  accepted-alike o new e z k = new-alike o z k (admitted m s new z)
-  accepted-alike o load e z k = load-alike k (admitted m s load z)
-  accepted-alike o store e z k = store-alike k (admitted m s store z)
-  accepted-alike o barrier e z k = barrier-alike k (admitted m s barrier z)
-  accepted-alike o handOver e z k = hand-alike k (admitted m s handOver z)
-  accepted-alike o dropReg e z k = drop-alike k (admitted m s dropReg z)
-  accepted-alike o read e z k = read-alike k (admitted m s read z)
-  accepted-alike o write e z k = write-alike k (admitted m s write z)
   accepted-alike o begin e z k = false≢ e
   accepted-alike o scan e z k = false≢ e
   accepted-alike o trace e z k = false≢ e
