@@ -13,7 +13,7 @@ use Rattle.model.specs.Steps.{offDesk, object, noObject, pastEnd, refusal, acce
 use Rattle.model.specs.Plain.{Object, made, PlainStore, Value, as-is, PlainDone, holding, plainRefusal, plainAccept, plainAct, plainOutcome, feeds, objectAt, upd, named, reading}
 use Rattle.model.specs.Claim.{Chain, chain-link}
 use Rattle.model.proofs.Laws.{false≢, some-false}
-use Rattle.theory.specs.Same.{Names, SameStore, Related, event, Admitted}
+use Rattle.theory.specs.Same.{Names, SameStore, Related, event}
 use Rattle.theory.specs.Cycle.{Facts}
 use Rattle.theory.proofs.plain.PlainLaws.{upd-same, names-more, names-new, same-kept}
 use Rattle.theory.proofs.plain.PlainWrites.{same-setReg, same-stored, same-written, same-setOwed}
@@ -97,22 +97,19 @@ module _ (m : Image) (f : Facts m) (s : Step) (q : PlainStore) (name : ℕ → O
       (rw (in-reg (s .a) hp ha, in-reg (s .c) hp hc, ← nz) (same-setOwed (setWord m g (2 + s .b) v) (f .players-length) (s .who) (suc (g / 64)) hp name _
       (same-stored m f g (s .b) v (reach-of (s .a) hp ha (eqb-false _ _ (a .has-object))) (leb-false _ _ (a .not-past)) (reach-of (s .c) hp hc) name (ns .name-one) q S)))
   accepted-alike o barrier e z k =
-      let a = admitted m s barrier z in
-      let d = some-false _ (a .on-desk) in
+      let d = some-false _ (admitted m s barrier z .on-desk) in
       let m₁ : Image = dirtyCard m (owed m (s .who) - 1) in
       number-reply barrier k refl refl _ 0 _ 0 refl
       (same-setOwed m₁ (f .players-length) (s .who) 0 (not-above 15 (s .who) (d 0)) name q
       (same-kept m f m₁ (record { kept-reg = λ p r. refl; kept-owed = λ p. refl; kept-word = λ g j c l. refl }) name q S))
   accepted-alike o handOver e z k =
-      let a = admitted m s handOver z in
-      let d = some-false _ (a .on-desk) in
+      let d = some-false _ (admitted m s handOver z .on-desk) in
       let hp : s .who < 16 = not-above 15 (s .who) (d 0) in
       let ha : s .a < 16 = not-above 15 (s .a) (d 1) in
       number-reply handOver k refl refl _ 0 _ 0 refl
       (rw (in-reg (s .a) hp ha) (same-setReg m f (s .b) (s .c) (object m s (s .a)) (not-above 15 (s .b) (d 2)) (not-above 15 (s .c) (d 3)) name q S (reach-of (s .a) hp ha)))
   accepted-alike o dropReg e z k =
-      let a = admitted m s dropReg z in
-      let d = some-false _ (a .on-desk) in
+      let d = some-false _ (admitted m s dropReg z .on-desk) in
       number-reply dropReg k refl refl _ 0 _ 0 refl
       (rw (← ns .name-nil) (same-setReg m f (s .who) (s .a) 0 (not-above 15 (s .who) (d 0)) (not-above 15 (s .a) (d 1)) name q S (λ nz. absurd (nz refl))))
   accepted-alike o read e z k =

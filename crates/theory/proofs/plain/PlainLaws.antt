@@ -44,35 +44,25 @@ pub updObject-other : {A : Type 0} (f : Object → A) (o : Object) (v : A) (p : 
 unfolding updObject
 updObject-other f o v p ne = rw (same-ne p o ne)
 
--- two places are one, or not
-pub both : (g h i j : ℕ) → ((g ≡ h) × (i ≡ j)) ⊎ ((g ≡ h) × (i ≡ j) → ⊥)
-both g h i j = elim (ℕ-discrete g h) [ yes x ↦ elim (ℕ-discrete i j) [ yes y ↦ inl (x, y) | no y ↦ inr (λ k. y (k .1)) ] | no x ↦ inr (λ k. x (k .0)) ]
+-- x is v at the place that is replaced, and elsewhere what stood there
+abbrev pub Renewed : {A : Type 0} → Type 0 → A → A → A → Type 0
+Renewed C v before x = (C × (v ≡ x)) ⊎ ((C → ⊥) × (before ≡ x))
 
 -- register r of player p
-pub upd-at : {A : Type 0} (f : ℕ → ℕ → A) (p r : ℕ) (v : A) (u t : ℕ) (x : A) → ((u ≡ p) × (t ≡ r) → v ≡ x) → (((u ≡ p) × (t ≡ r) → ⊥) → f u t ≡ x)
-    → upd f p (upd (f p) r v) u t ≡ x
+pub upd-at : {A : Type 0} (f : ℕ → ℕ → A) (p r : ℕ) (v : A) (u t : ℕ) (x : A) → Renewed ((u ≡ p) × (t ≡ r)) v (f u t) x → upd f p (upd (f p) r v) u t ≡ x
 unfolding upd
-upd-at f p r v u t x here there =
-    elim (ℕ-discrete u p) [
-      | yes e ↦ elim (ℕ-discrete t r) [
-        | yes d ↦ rw (eq-eqb u p e, eq-eqb t r d) (here (e, d))
-        | no d ↦ rw (eq-eqb u p e, ne-eqb t r d) (rw e at (there (λ k. d (k .1))))
-      ]
-      | no e ↦ rw (ne-eqb u p e) (there (λ k. e (k .0)))
-    ]
+upd-at f p r v u t x (inl ((e, d), w)) = rw (eq-eqb u p e, eq-eqb t r d) w
+upd-at f p r v u t x (inr (n, w)) = elim (ℕ-discrete u p) [ yes e ↦ rw (eq-eqb u p e, ne-eqb t r (λ d. n (e, d))) (rw e at w) | no e ↦ rw (ne-eqb u p e) w ]
 
 -- link or level word b of the object that g names
 pub updObject-at : {A : Type 0} (name : ℕ → Object) → ((g h : ℕ) → name g ≡ name h → g ≡ h) → (f : Object → ℕ → A) (g b : ℕ) (v : A) (h i : ℕ) (x : A)
-    → ((h ≡ g) × (i ≡ b) → v ≡ x) → (((h ≡ g) × (i ≡ b) → ⊥) → f (name h) i ≡ x)
-    → updObject f (name g) (upd (f (name g)) b v) (name h) i ≡ x
+    → Renewed ((h ≡ g) × (i ≡ b)) v (f (name h) i) x → updObject f (name g) (upd (f (name g)) b v) (name h) i ≡ x
 unfolding upd updObject
-updObject-at name one f g b v h i x here there =
+updObject-at name one f g b v h i x (inl ((e, d), w)) = rw (e, same-refl (name g), eq-eqb i b d) w
+updObject-at name one f g b v h i x (inr (n, w)) =
     elim (ℕ-discrete h g) [
-      | yes e ↦ elim (ℕ-discrete i b) [
-        | yes d ↦ rw (e, same-refl (name g), eq-eqb i b d) (here (e, d))
-        | no d ↦ rw (e, same-refl (name g), ne-eqb i b d) (rw e at (there (λ k. d (k .1))))
-      ]
-      | no e ↦ rw (same-ne (name h) (name g) (λ q. e (one h g q))) (there (λ k. e (k .0)))
+      | yes e ↦ rw (e, same-refl (name g), ne-eqb i b (λ d. n (e, d))) (rw e at w)
+      | no e ↦ rw (same-ne (name h) (name g) (λ q. e (one h g q))) w
     ]
 
 -- ---- names
