@@ -28,16 +28,13 @@ fed-new : (n : Kind) (r : ℕ) → is n new ≡ true → feeds n r ≡ not (eqb 
 unfolding feeds
 fed-new n r e = ap (λ x. feeds x r) (is-same n new e)
 
-fed-other : (n : Kind) (r t : ℕ) → is n new ≡ false → feeds n r ≡ feeds n t
-unfolding feeds
-fed-other n r t e = rw e
-
 pub fed-not-nine : (m : Image) (s : Step) (n : Kind) → feeds n (refusal m s n) ≡ true → refusal m s n ≡ 9 → ⊥
 fed-not-nine m s n e =
     elim (bool-cases (is n new)) [ inl x ↦ eqb-false (refusal m s n) 9 (not-true _ (sym (fed-new n (refusal m s n) x) ∙ e)) | inr x ↦ not-nine m s n x ]
 
 pub fed-zero : (n : Kind) (r : ℕ) → feeds n r ≡ true → feeds n 0 ≡ true
-fed-zero n r e = elim (bool-cases (is n new)) [ inl x ↦ fed-new n 0 x | inr x ↦ fed-other n 0 r x ∙ e ]
+unfolding feeds
+fed-zero n r e = elim (bool-cases (is n new)) [ inl x ↦ fed-new n 0 x | inr x ↦ rw x (rw x at e) ]
 
 -- a step that is not fed names nothing
 pub unfed-named : (name : ℕ → Object) (i : ℕ) (e : Event) → feedsEvent e ≡ false → named name i e ≡ name
@@ -52,20 +49,12 @@ unfed-named name i e u =
 
 -- ---- what a step that is not fed leaves
 
--- whatever is newly marked
-abbrev Still : Image → Image → Type 0
-Still m n = Quiet (λ g. Unit {0}) m n
-
-quiet-kept : (m n : Image) → Still m n → KeptWords m n
+quiet-kept : (m n : Image) → Quiet (λ g. Unit {0}) m n → KeptWords m n
 quiet-kept m n q = record { kept-reg = q .same-reg; kept-owed = q .same-owed; kept-word = λ g i c l. q .same-word g i }
-
-finish-kept : (m : Image) (s : Step) → WordsStay m ((act m s finish) .image) → KeptWords m ((act m s finish) .image)
-unfolding act accept finishDone finishStep finishWith reg owed
-finish-kept m s k = record { kept-reg = λ p r. refl; kept-owed = λ p. off-owed (m .players) p; kept-word = k }
 
 module _ (m : Image) (s : Step) (stays : refusal m s finish ≡ 0 → WordsStay m ((act m s finish) .image)) where
   unfed-act : (n : Kind) → feeds n 0 ≡ false → refusal m s n ≡ 0 → KeptWords m ((act m s n) .image)
-  unfolding feeds act accept
+  unfolding feeds act accept finishDone finishStep finishWith reg owed
   unfed-act new e z = false≢ (sym e)
   unfed-act load e z = false≢ (sym e)
   unfed-act store e z = false≢ (sym e)
@@ -78,7 +67,7 @@ module _ (m : Image) (s : Step) (stays : refusal m s finish ≡ 0 → WordsStay 
   unfed-act scan e z = quiet-kept m _ (quiet-scan m (s .who) (s .a) (λ g k nz. tt))
   unfed-act trace e z = quiet-kept m _ (quiet-trace m (s .who) (λ h nz. tt))
   unfed-act clean e z = quiet-kept m _ (quiet-clean m (s .who) (λ h nz. tt))
-  unfed-act finish e z = finish-kept m s (stays z)
+  unfed-act finish e z = record { kept-reg = λ p r. refl; kept-owed = λ p. off-owed (m .players) p; kept-word = stays z }
   unfed-act isDue e z = quiet-kept m _ (quiet-refl m)
   unfed-act unknown e z = quiet-kept m _ (quiet-refl m)
 

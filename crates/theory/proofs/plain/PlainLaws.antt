@@ -148,10 +148,6 @@ agrees-either s t = record {
 
 -- Where size and number of links of what a chain reaches in m stay, agreement on that is asked in the words of m.
 module _ (m m′ : Image) (head : (g i : ℕ) → Chain m g → i < 2 → word m′ g i ≡ word m g i) where
-  pub size-stays : (g : ℕ) → Chain m g → size m′ g ≡ size m g
-  unfolding size
-  size-stays g c = head g 0 c (omega arith)
-
   pub count-stays : (g : ℕ) → Chain m g → links m′ g ≡ links m g
   unfolding links
   count-stays g c = head g 1 c (omega arith)
@@ -162,14 +158,14 @@ module _ (m m′ : Image) (head : (g i : ℕ) → Chain m g → i < 2 → word m
       → ((g : ℕ) → Chain m g → q .linkCount (name g) ≡ links m g)
       → ((g i : ℕ) → Chain m g → i < links m g → q .linkOf (name g) i ≡ name (link m′ g i))
       → ((g i : ℕ) → Chain m g → i < levels m g → q .levelOf (name g) i ≡ word m′ g (2 + links m g + i)) → Agrees (Chain m) name m′ q
-  unfolding level levels
+  unfolding size level levels
   agrees-renew name q regs owes sizes counts ls vs = record {
     same-reg = regs;
     same-owing = owes;
-    same-size = λ g c. sizes g c ∙ sym (size-stays g c);
+    same-size = λ g c. sizes g c ∙ sym (head g 0 c (omega arith));
     same-count = λ g c. counts g c ∙ sym (count-stays g c);
     same-link = λ g i c l. ls g i c (subst (λ z. i < z) (count-stays g c) l);
-    same-level = λ g i c l. vs g i c (omega (arith, l, size-stays g c, count-stays g c)) ∙ ap (λ z. word m′ g (2 + z + i)) (sym (count-stays g c));
+    same-level = λ g i c l. vs g i c (omega (arith, l, head g 0 c (omega arith), count-stays g c)) ∙ ap (λ z. word m′ g (2 + z + i)) (sym (count-stays g c));
   }
 
 -- ---- steps that change nothing that the plain store has

@@ -6,8 +6,8 @@ use Prim.Native.Nat.{ℕ, suc, _+_, _*_, _≤_, _<_}
 use native.Mathlib.Omega.{arith}
 use lib.ListN.{length, take, drop, length-replicate}
 use Rattle.model.specs.Base.{nth, put, zeros}
-use Rattle.model.specs.Image.{Image, marked, withCards, withPlayers, withGeneral, setScanned, fields-open}
-use Rattle.model.specs.Collect.{scanPlayer, beginCycle}
+use Rattle.model.specs.Image.{Image, marked, withCards, withGeneral, setScanned, fields-open}
+use Rattle.model.specs.Collect.{reachAll, scanPlayer, beginCycle}
 use Rattle.model.proofs.Laws.{false≢, nth-put-same, nth-put-other, length-put, nth-replicate}
 use Rattle.model.proofs.Entries.{nth-drop}
 use Rattle.model.proofs.Bits.{no-bit}
@@ -20,17 +20,18 @@ use Rattle.theory.proofs.lines.Sections.{scanned-set}
 
 -- ---- scan
 
-scanned-cover : (m : Image) (p : ℕ) → Cover m → Cover (setScanned m p)
-unfolding fields-open
-scanned-cover m p cov g i hg k l =
-    covered-on m (setScanned m p) g i refl (λ a q. q) (λ d. is-coming (same-coming m (setScanned m p) refl refl refl g i d))
-    (λ q r hq hr ow e. is-owed (owes-by q r hq hr (nth-put-other (m .players) (2 * p + 1) (2 * q) 1 (omega arith) ∙ ow) e)) (cov g i hg k l)
-
 pub scan-does : (m : Image) → Lines m → Cover m → (t p : ℕ) → t < 8 → p < 16 → StepStays m (scanPlayer m t p)
-unfolding scanPlayer setScanned withPlayers
+unfolding scanPlayer fields-open
 scan-does m o cov t p ht hp =
-    let r = reachAll-does m o cov t ht (take 16 (drop (16 * p) (m .regs))) (each-take (NilOr (Start m)) (inl refl) 16 (drop (16 * p) (m .regs)) (λ i. rw (nth-drop (16 * p) (m .regs) i) (o .regs-ok .values (16 * p + i)))) in
-    record { lines = put-players (r .lines) _ (scanned-set (r .lines .players-ok) p hp); cover = scanned-cover _ p (r .cover); frame-same = r .frame-same }
+    let n : Image = reachAll m t (take 16 (drop (16 * p) (m .regs))) in
+    let r : StepStays m n = reachAll-does m o cov t ht (take 16 (drop (16 * p) (m .regs)))
+    (each-take (NilOr (Start m)) (inl refl) 16 (drop (16 * p) (m .regs)) (λ i. rw (nth-drop (16 * p) (m .regs) i) (o .regs-ok .values (16 * p + i)))) in
+    record {
+      lines = put-players (r .lines) _ (scanned-set (r .lines .players-ok) p hp);
+      cover = λ g i hg k l. covered-on n (setScanned n p) g i refl (λ a q. q) (λ d. is-coming (same-coming n (setScanned n p) refl refl refl g i d))
+          (λ q r hq hr ow e. is-owed (owes-by q r hq hr (nth-put-other (n .players) (2 * p + 1) (2 * q) 1 (omega arith) ∙ ow) e)) (r .cover g i hg k l);
+      frame-same = r .frame-same;
+    }
 
 -- ---- begin: nothing runs, so nothing is marked, held or entered
 

@@ -1,19 +1,19 @@
 -- Numbers 9 and 11 over steps: each is given exactly where document 01's condition holds, and else the step is accepted.
 use mathlib.Core.Path.{_≡_, refl, sym, ap, _∙_}
 use mathlib.Core.Logic.{inl, inr}
-use mathlib.Core.Bool.{Bool, true, false, not}
+use mathlib.Core.Bool.{Bool, true, false, not, and-true, and-false}
 use Prim.Native.Nat.{ℕ, suc, _*_, _-_, _≤_, _<_}
 use native.Mathlib.Decide.{ℕ-discrete}
 use native.Mathlib.Omega.{arith}
 use lib.Dec.{eqb}
-use borrow.Author.Tests.{eqb-true, eqb-false, eq-eqb, ne-eqb, ltb-true, lt-ltb, le-ltb, not-true, not-false}
-use Rattle.model.specs.Base.{first, lowest}
+use borrow.Author.Tests.{eqb-true, eqb-false, eq-eqb, ne-eqb, ltb-true, ltb-false, le-ltb, not-true, not-false}
+use Rattle.model.specs.Base.{every, first, lowest}
 use Rattle.model.specs.Image.{Image, state, count, owed, scanned}
 use Rattle.model.specs.Records.{Step, new, barrier, scan, trace, clean, kindOf}
 use Rattle.model.specs.Mutate.{roomFor}
 use Rattle.model.specs.Collect.{held, fullest, hasEntries, traceLine, lowestDirty, cleanLine}
 use Rattle.model.specs.Steps.{noRoom, refusal, accept, act, step, numbers-open}
-use Rattle.model.proofs.Laws.{false≢, some-use, some-nil, some-make, every-use, every-cons, every-nil, any-use, any-make, best-ok, best-none, first-none, not-make}
+use Rattle.model.proofs.Laws.{false≢, some-use, some-nil, some-make, every-use, any-use, any-make, best-ok, best-none, first-none, not-make}
 use Rattle.theory.specs.Lines.{Undamaged}
 use Rattle.theory.specs.Pieces.{Stretch}
 use Rattle.theory.specs.Numbers.{RefusedWhere, GoodNew, GoodBarrier, GoodScan, GoodTracer, NoEntries, InPool, NoTraceLine, NoCleanLine}
@@ -86,23 +86,12 @@ module _ (m : Image) (s : Step) where
 module _ (m : Image) where
   -- a test that fails: the packet is absent or empty
   entries-none : (x : ℕ) → hasEntries m x ≡ false → NoEntries m x
-  unfolding hasEntries
-  entries-none x e =
-      elim (ℕ-discrete x 0) [
-        | yes z ↦ inl z
-        | no z ↦ inr (elim (ℕ-discrete (count m (x - 1)) 0) [
-          | yes c ↦ c
-          | no c ↦ false≢ (sym e ∙ every-cons _ _ (ap not (ne-eqb x 0 z)) (every-cons _ _ (lt-ltb 0 (count m (x - 1)) (omega arith)) every-nil))
-        ])
-      ]
+  unfolding hasEntries every
+  entries-none x e = elim (ℕ-discrete x 0) [ yes z ↦ inl z | no z ↦ inr (omega (arith, ltb-false 0 (count m (x - 1)) (rw (ne-eqb x 0 z, and-true) at e))) ]
 
   none-entries : (x : ℕ) → NoEntries m x → hasEntries m x ≡ false
-  unfolding hasEntries
-  none-entries x n =
-      not-true (hasEntries m x) (not-make (hasEntries m x) (λ e. elim n [
-        | inl z ↦ eqb-false x 0 (not-true _ (every-use _ e 0)) z
-        | inr c ↦ omega (arith, ltb-true 0 (count m (x - 1)) (every-use _ e 1))
-      ]))
+  unfolding hasEntries every
+  none-entries x n = elim n [ inl z ↦ rw z | inr c ↦ rw (c, and-false) ]
 
   -- the pool: packets that no tracer holds
   held-none : (p : ℕ) → held m p ≡ false → InPool m p
@@ -118,12 +107,8 @@ module _ (m : Image) where
       elim (some-use _ _ (r .2)) [ inl q ↦ n .0 (eqb-true _ _ q) | inr q ↦ elim (some-use _ _ q) [ inl x ↦ n .1 (eqb-true _ _ x) | inr x ↦ some-nil x ] ]))
 
   pool-none : fullest m ≡ 0 → (p : ℕ) → p < 32 → InPool m p → count m p ≡ 0
-  unfolding fullest
-  pool-none e p h f =
-      elim (ℕ-discrete (count m p) 0) [
-        | yes c ↦ c
-        | no c ↦ false≢ (sym (best-none _ _ 32 e p h) ∙ every-cons _ _ (ap not (none-held p f)) (every-cons _ _ (lt-ltb 0 (count m p) (omega arith)) every-nil))
-      ]
+  unfolding fullest every
+  pool-none e p h f = omega (arith, ltb-false 0 (count m p) (rw (none-held p f, and-true) at (best-none _ _ 32 e p h)))
 
   none-pool : ((p : ℕ) → p < 32 → InPool m p → count m p ≡ 0) → fullest m ≡ 0
   unfolding fullest

@@ -15,7 +15,7 @@ use Rattle.model.specs.Collect.{held, emptiest, append, noOutput, takeOutput, e
 use Rattle.model.proofs.Laws.{false≢, bool-cases, any-make, every-use, some-use, some-nil, some-make, nth-put-same, nth-put-other, best-ok, some-false}
 use Rattle.model.proofs.Bits.{setBit-same, setBit-other, setBit-keeps}
 use Rattle.theory.specs.Cover.{Coming, Covered, Cover, on-dirty, on-entry, on-hand, on-card, owes-by, to-nil, to-marked, is-coming, is-owed}
-use Rattle.theory.specs.Lines.{Enters, PacketsOk, NilOr, Start, Marked, Lines}
+use Rattle.theory.specs.Lines.{PacketsOk, NilOr, Start, Lines}
 use Rattle.theory.proofs.lines.Covering.{dirty-same, dirty-keeps, hold-coming, same-coming}
 use Rattle.theory.proofs.lines.Lines.{put-packets, put-tracers, put-marks, put-cards}
 use Rattle.theory.proofs.lines.Packets.{append-new, append-on, append-ok}
@@ -37,10 +37,6 @@ append-coming m o p a hp hc g i (on-dirty q) = on-dirty q
 append-coming m o p a hp hc g i (on-entry q e hq he r) = let n = append-on o p a hp hc q e g (record { is-packet = hq; below = he; is-entry = r }) in on-entry q e (n .is-packet) (n .below) (n .is-entry)
 append-coming m o p a hp hc g i (on-hand t ht q r) = on-hand t ht q r
 append-coming m o p a hp hc g i (on-card t ht q r) = on-card t ht q r
-
-append-comes : {Mk : ℕ → Type 0} (m : Image) → PacketsOk Mk (m .packets) → (p a : ℕ) → p < 32 → count m p < 30 → (i : ℕ) → Coming (append m p a) a i
-unfolding append withPackets count entry
-append-comes m o p a hp hc i = let n = append-new o p a hp hc in on-entry p (count m p) (n .is-packet) (n .below) (n .is-entry)
 
 -- the two cases of entering
 pub enter-cases : (P : Image → Type 0) (m : Image) (t a : ℕ) → P (dirtyCard m (a / 64)) → ((p : ℕ) → output m t ≡ suc p → P (append m p a)) → P (enter m t a)
@@ -99,10 +95,6 @@ pub dirty-lines : {m : Image} → Lines m → (c : ℕ) → c < m .k → Lines (
 unfolding dirtyCard setState state
 dirty-lines o c h = put-cards o _ (dirtied-ok (o .cards-ok) c h) (λ d. dirtied-on (o .cards-ok) c d h)
 
-append-lines : {m : Image} → Lines m → (p a : ℕ) → p < 32 → count m p < 30 → Marked m a → ((q e : ℕ) → Enters (m .packets) q e a → ⊥) → Lines (append m p a)
-unfolding append count
-append-lines o p a hp hc ma un = put-packets o _ (append-ok (o .packets-ok) p a hp hc ma un)
-
 -- ---- reach
 
 -- what no step of the collector but begin and finish writes
@@ -160,7 +152,7 @@ module _ (m : Image) (o : Lines m) (t a : ℕ) (ht : t < 8) where
   ready-coming g i c = hold-coming (setMark m a) t 1 _ (omega arith) g i (same-coming m (setMark m a) refl refl refl g i c)
 
   reach-new : marked m a ≡ false → Start m a → ReachedOnce m a (enter ready t a)
-  unfolding takeOutput setTracer withTracers setMark withMarks dirtyCard setState withCards append withPackets marked count
+  unfolding takeOutput setTracer withTracers setMark withMarks dirtyCard setState withCards append withPackets marked count entry
   reach-new un sa =
       let room = o .marks-ok .sized a (sa .0) in
       let here = setBit-same (m .width) (m .marks) a room in
@@ -179,15 +171,17 @@ module _ (m : Image) (o : Lines m) (t a : ℕ) (ht : t < 8) where
         new-comes = λ g i u k. rw (marks-new m a g u k) (on-dirty (dirty-same ready (a / 64) hc′));
         now-marked = inr here;
       })
-      (λ p e. let r = took o₁ t p ht e in
+      (λ p e.
+      let r = took o₁ t p ht e in
+      let n = append-new (o .packets-ok) p a (r .0) (r .1) in
       record {
-        lines = append-lines o₂ p a (r .0) (r .1) here (λ q f i. false≢ (sym un ∙ o .packets-ok .full q f a i));
+        lines = put-packets o₂ _ (append-ok (o₂ .packets-ok) p a (r .0) (r .1) here (λ q f i. false≢ (sym un ∙ o .packets-ok .full q f a i)));
         regs-same = refl;
         rest-same = refl;
         tracer-same = λ u i h h′. nth-put-other (m .tracers) (8 * t + 1) (8 * u + i) _ (omega arith);
         coming-kept = λ g i c. append-coming ready (o .packets-ok) p a (r .0) (r .1) g i (ready-coming g i c);
         marks-up = λ g k. setBit-keeps (m .width) (m .marks) a g room k;
-        new-comes = λ g i u k. rw (marks-new m a g u k) (append-comes ready (o .packets-ok) p a (r .0) (r .1) i);
+        new-comes = λ g i u k. rw (marks-new m a g u k) (on-entry p (count m p) (n .is-packet) (n .below) (n .is-entry));
         now-marked = inr here;
       })
 

@@ -103,17 +103,13 @@ fullest-ok m q e = let u = best-ok _ _ 32 q e in (u .0, not-true _ (every-use _ 
 
 -- ---- the input
 
-pop-lines : {m : Image} → Lines m → (p c : ℕ) → p < 32 → count m p ≡ suc c → Lines (pop m p)
-unfolding pop count
-pop-lines o p c hp hc = put-packets o _ (pop-ok (o .packets-ok) p c hp hc)
-
 -- the last entry is popped; it goes in hand unless its card is dirty or it has no links
 popped-does : (m : Image) → Lines m → Cover m → (t p c : ℕ) → t < 8 → hand m t ≡ 0 → p < 32 → count m p ≡ suc c
     → StepStays m (cond (dirty m (entry m p c / 64)) (pop m p) (takeObject (pop m p) t (entry m p c)))
 unfolding pop withPackets dirty state marked hand count entry
 popped-does m o cov t p c ht e hp hc =
     let g : ℕ = entry m p c in
-    let o′ = pop-lines o p c hp hc in
+    let o′ : Lines (pop m p) = put-packets o _ (pop-ok (o .packets-ok) p c hp hc) in
     let but : CoverOn (But g) (pop m p) = pop-cover m (o .packets-ok) p c hp hc cov in
     elim (bool-cases (dirty m (g / 64))) [
       | inl q ↦ rw q (record { lines = o′; cover = but-cover (pop m p) g but (λ i l. is-coming (on-dirty q)); frame-same = refl })
