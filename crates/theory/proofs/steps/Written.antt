@@ -1,5 +1,5 @@
 -- A word of an object past its first two is written: objects and runs fill the heap as before, and no other word of an object changes.
-use mathlib.Core.Path.{_≡_, refl, ap, _∙_, sym, subst}
+use mathlib.Core.Path.{_≡_, ap, _∙_, sym, subst}
 use mathlib.Core.Logic.{inl, inr}
 use mathlib.Core.Bool.{Bool, true}
 use mathlib.Core.List.{List, [], _∷_, _++_}
@@ -20,30 +20,24 @@ use Rattle.theory.proofs.heap.Lists.{nth-head, length-run, head-behind}
 use Rattle.theory.proofs.lines.Packets.{Wrote, nth-put}
 use Rattle.theory.proofs.heap.Walk.{fill-make, same-place}
 
-put-left : (l r : List ℕ) (i v : ℕ) → i < length l → put (l ++ r) i v ≡ put l i v ++ r
-unfolding put
-put-left l r i v h = set-append-left l r i v h
-
 put-right : (l r : List ℕ) (i v n : ℕ) → length l ≡ n → put (l ++ r) (n + i) v ≡ l ++ put r i v
 unfolding put
 put-right [] r i v n e = let z : n + i ≡ i = omega arith in ap (λ j. set r j v) z
 put-right (x ∷ l) r i v zero e = absurd (omega arith)
 put-right (x ∷ l) r i v (suc n) e = let z : suc n + i ≡ suc (n + i) = omega arith in ap (λ j. set (x ∷ l ++ r) j v) z ∙ ap (λ q. x ∷ q) (put-right l r i v n (omega arith))
 
-put-tail : (s : ℕ) (ws : List ℕ) (i j v : ℕ) → i ≡ suc j → put (s ∷ ws) i v ≡ s ∷ put ws j v
-unfolding put
-put-tail s ws i j v e = rw e refl
-
 -- ---- the heap stays filled
 
 -- word x of the object at h is written, in the words from granule g on
 filled-put : {st : ℕ → Bool} {g : ℕ} {ws : List ℕ} {next : ℕ} {b : Bool} → Filled st g ws next b → (h x v : ℕ) → g ≤ h → st h ≡ true → 2 ≤ x → x < 4 * nth ws (4 * (h - g)) → Filled st g (put ws (4 * (h - g) + x) v) next b
+unfolding put
 filled-put {g = g} f-end h x v p t a l = absurd (omega (arith, nth-out [] (4 * (h - g)) (omega arith)))
 filled-put {g = g} (f-object s ws rest q o ba f) h x v p t a l =
     elim (ℕ-discrete h g) [
       | yes e ↦ let z : 4 * (h - g) ≡ 0 = omega arith in
           let w : x < 4 * s = rw (z, nth-head s (ws ++ rest)) at l in
-          rw (put-left (s ∷ ws) rest (4 * (h - g) + x) v (omega (arith, o .long)), put-tail s ws (4 * (h - g) + x) (x - 1) v (omega arith))
+          let j : 4 * (h - g) + x ≡ suc (x - 1) = omega arith in
+          rw (j, set-append-left ws rest (x - 1) v (omega (arith, o .long)))
           (f-object s (put ws (x - 1) v) rest q
           (record { long = simp length-put (o .long); few = o .few; links-fit = rw (nth-put-other ws (x - 1) 0 v (omega arith)) (o .links-fit) }) ba f)
       | no e ↦ elim (decLt h (g + s)) [
