@@ -6,7 +6,7 @@ use Prim.Native.Nat.{ℕ, zero, suc, _^_, _<_}
 use native.Mathlib.Omega.{arith}
 use lib.Dec.{leb, ltb, eqb}
 use lib.Pow.{pow-pos}
-use borrow.Author.Tests.{eqb-true, eq-eqb, ne-eqb, leb-false, lt-leb, not-false}
+use borrow.Author.Tests.{eqb-true, eq-eqb, ne-eqb, leb-false, lt-ltb, lt-leb, not-false}
 use Rattle.model.specs.Base.{some}
 use Rattle.model.specs.Image.{Image, owed}
 use Rattle.model.specs.Records.{Step, Kind, unknown}
@@ -57,14 +57,6 @@ module _ (w k : ℕ) where
   reaches-by register x h = refl
   reaches-by number x h = sym (ap (λ b. ltb 0 (2 ^ w) && b) (lt-leb (2 ^ w) x h) ∙ and-false (ltb 0 (2 ^ w)))
 
-  within : (r : Role) (x : ℕ) → x < 2 ^ w → reaches (limit k r) x ≡ false → 0 < bound w k r → x < bound w k r
-  unfolding reaches limit bound
-  within unused x h e l = absurd (omega arith)
-  within player x h e l = leb-false 16 x e
-  within tracer x h e l = leb-false 8 x e
-  within register x h e l = leb-false 16 x e
-  within number x h e l = h
-
   module _ (s : Step) (n : Kind) where
     -- 3, as one test of the kind and four fields
     pub unnamed-by : unnamed s n ≡ some (is n unknown ∷ fields s (λ r x. eqb (bound w k r) 0 && not (eqb x 0)) (rowOf n))
@@ -91,7 +83,9 @@ module _ (w k : ℕ) where
 
     pub field-below : offDesk s k n ≡ false → (i : ℕ) → i < 4 → fieldAt s i < 2 ^ w → 0 < boundAt w k n i → fieldAt s i < boundAt w k n i
     unfolding offDesk boundAt
-    field-below e i h f = within (roleAt n i) (fieldAt s i) f (no-test s n (over k) e i h)
+    field-below e i h f l =
+        let t = sym (reaches-by (roleAt n i) (fieldAt s i) f) ∙ no-test s n (over k) e i h in
+        leb-false _ _ (rw (lt-ltb 0 (bound w k (roleAt n i)) l) at t)
 
 -- ---- number 5
 
