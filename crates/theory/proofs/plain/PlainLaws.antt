@@ -24,25 +24,17 @@ pub upd-other : {A : Type 0} (f : ℕ → A) (i : ℕ) (v : A) (j : ℕ) → (j 
 unfolding upd
 upd-other f i v j ne = rw (ne-eqb j i ne)
 
-same-refl : (o : Object) → sameObject o o ≡ true
+pub same-refl : (o : Object) → sameObject o o ≡ true
 unfolding sameObject
 same-refl (old g) = eq-eqb g g refl
 same-refl (made i) = eq-eqb i i refl
 
-same-ne : (o p : Object) → (o ≡ p → ⊥) → sameObject o p ≡ false
+pub same-ne : (o p : Object) → (o ≡ p → ⊥) → sameObject o p ≡ false
 unfolding sameObject
 same-ne (old g) (old h) ne = ne-eqb g h (λ e. ne (ap old e))
 same-ne (old g) (made j) ne = refl
 same-ne (made i) (old h) ne = refl
 same-ne (made i) (made j) ne = ne-eqb i j (λ e. ne (ap made e))
-
-pub updObject-same : {A : Type 0} (f : Object → A) (o : Object) (v : A) → updObject f o v o ≡ v
-unfolding updObject
-updObject-same f o v = rw (same-refl o)
-
-pub updObject-other : {A : Type 0} (f : Object → A) (o : Object) (v : A) (p : Object) → (p ≡ o → ⊥) → updObject f o v p ≡ f p
-unfolding updObject
-updObject-other f o v p ne = rw (same-ne p o ne)
 
 -- x is v at the place that is replaced, and elsewhere what stood there
 abbrev pub Renewed : {A : Type 0} → Type 0 → A → A → A → Type 0

@@ -13,16 +13,13 @@ use Rattle.theory.specs.Same.{Names, Agrees, SameStore, WordsStay}
 use Rattle.theory.specs.New.{NewMade}
 use Rattle.theory.specs.Cycle.{Facts}
 use Rattle.theory.proofs.finish.Safe.{chain-least, chain-start}
-use Rattle.theory.proofs.plain.PlainLaws.{upd-same, upd-other, updObject-same, updObject-other, name-fresh, names-new, moved-along, level-inside, agrees-narrow, agrees-either, agrees-renew, head-stays, link-stays, level-stays, links-in-reach}
+use Rattle.theory.proofs.plain.PlainLaws.{upd-same, upd-other, same-refl, same-ne, name-fresh, names-new, moved-along, level-inside, agrees-narrow, agrees-either, agrees-renew, head-stays, link-stays, level-stays, links-in-reach}
 use Rattle.theory.proofs.plain.PlainWrites.{held-after, regs-agree}
 use Rattle.theory.proofs.new.NewMade.{new-not-nil, new-was-free, new-reg, new-owed}
 
 module _ (m m′ : Image) (f : Facts m) (p r b c g : ℕ) (hp : p < 16) (hr : r < 16) (hc : c + 2 ≤ 4 * b) (o : NewMade m m′ p r b c g) where
   kept : WordsStay m m′
   kept h i k l = o .words-old h i (chain-start m (f .proper) k) l
-
-  not-reached : Chain m g → ⊥
-  not-reached k = false≢ (sym (new-was-free o (f .laid) (omega arith)) ∙ chain-start m (f .proper) k)
 
   new-links : (i : ℕ) → i < links m′ g → link m′ g i ≡ 0
   unfolding link
@@ -51,13 +48,17 @@ module _ (m m′ : Image) (f : Facts m) (p r b c g : ℕ) (hp : p < 16) (hr : r 
 
     -- what a register or a link in reach holds has the name that it had
     name-stays : (h : ℕ) → ((h ≡ 0 → ⊥) → Chain m h) → renamed h ≡ name h
-    name-stays h k = upd-other name g (made j) h (λ e. not-reached (subst (Chain m) e (k (λ z. new-not-nil o (sym e ∙ z)))))
+    name-stays h k =
+        upd-other name g (made j) h (λ e.
+        false≢ (sym (new-was-free o (f .laid) (omega arith)) ∙ chain-start m (f .proper) (subst (Chain m) e (k (λ z. new-not-nil o (sym e ∙ z))))))
 
     at-old : {A : Type 0} (t : Object → A) (v : A) (h : ℕ) → Chain m h → updObject t (made j) v (renamed h) ≡ t (name h)
-    at-old t v h k = ap (updObject t (made j) v) (name-stays h (λ z. k)) ∙ updObject-other t (made j) v (name h) (name-fresh ns h)
+    unfolding updObject
+    at-old t v h k = rw (name-stays h (λ z. k), same-ne (name h) (made j) (name-fresh ns h))
 
     at-new : {A : Type 0} (t : Object → A) (v : A) → updObject t (made j) v (renamed g) ≡ v
-    at-new t v = ap (updObject t (made j) v) (upd-same name g (made j)) ∙ updObject-same t (made j) v
+    unfolding updObject
+    at-new t v = rw (upd-same name g (made j), same-refl (made j))
 
     abbrev q′ : PlainStore
     q′ = putReg (putObject q (made j) b c) p r (made j)

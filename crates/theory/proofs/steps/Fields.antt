@@ -25,12 +25,9 @@ four P a b c d (suc (suc zero)) h = c
 four P a b c d (suc (suc (suc zero))) h = d
 four P a b c d (suc (suc (suc (suc i)))) h = absurd (omega arith)
 
--- an unused field that is not 0; a field that reaches its limit
+-- an unused field that is not 0
 abbrev stray : Role → ℕ → Bool
 stray r x = isUnused r && not (eqb x 0)
-
-abbrev over : ℕ → Role → ℕ → Bool
-over k r x = reaches (limit k r) x
 
 module _ (s : Step) (n : Kind) (f : Role → ℕ → Bool) where
   no-test : some (fields s f (rowOf n)) ≡ false → (i : ℕ) → i < 4 → f (roleAt n i) (fieldAt s i) ≡ false
@@ -84,7 +81,7 @@ module _ (w k : ℕ) where
     pub field-below : offDesk s k n ≡ false → (i : ℕ) → i < 4 → fieldAt s i < 2 ^ w → 0 < boundAt w k n i → fieldAt s i < boundAt w k n i
     unfolding offDesk boundAt
     field-below e i h f l =
-        let t = sym (reaches-by (roleAt n i) (fieldAt s i) f) ∙ no-test s n (over k) e i h in
+        let t = sym (reaches-by (roleAt n i) (fieldAt s i) f) ∙ no-test s n (λ r x. reaches (limit k r) x) e i h in
         leb-false _ _ (rw (lt-ltb 0 (bound w k (roleAt n i)) l) at t)
 
 -- ---- number 5

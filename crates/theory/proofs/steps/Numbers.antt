@@ -8,7 +8,7 @@ use native.Mathlib.Omega.{arith}
 use lib.Dec.{eqb}
 use borrow.Author.Tests.{eqb-true, eqb-false, eq-eqb, ne-eqb, ltb-true, ltb-false, le-ltb, not-true, not-false}
 use Rattle.model.specs.Base.{every, first, lowest}
-use Rattle.model.specs.Image.{Image, state, count, owed, scanned}
+use Rattle.model.specs.Image.{Image, count, owed, scanned}
 use Rattle.model.specs.Records.{Step, new, barrier, scan, trace, clean, kindOf}
 use Rattle.model.specs.Mutate.{roomFor}
 use Rattle.model.specs.Collect.{held, fullest, hasEntries, traceLine, lowestDirty, cleanLine}
@@ -32,10 +32,13 @@ refused-where m s n false e f g = record { refused-if = λ p. false≢ (g p); on
 -- ---- 9: "no b neighbouring granules free"
 
 module _ (m : Image) (s : Step) (u : Undamaged m) (k : kindOf (s .kind) ≡ new) where
-  new-number : GoodNew m s → (step m s) .number ≡ elim (eqb ((roomFor m (s .b)) .run) 0) [ true ↦ 9 | false ↦ 0 ]
+  -- number 9 exactly where no stretch of b unused granules starts anywhere
+  pub no-room-number : GoodNew m s → RefusedWhere m s 9 ((v : ℕ) → Stretch m (s .b) v → ⊥)
   unfolding numbers-open first
-  new-number f =
-      step-number m s k
+  no-room-number f =
+      let r = no-room m (s .b) (heap-filled-of (u .sound .lines)) (heap-sized-of (u .sound .lines)) (f .some-granules) in
+      refused-where m s 8 (eqb ((roomFor m (s .b)) .run) 0)
+      (step-number m s k
       ∙ (rw (
         le-ltb 15 (s .who) (omega arith),
         le-ltb 15 (s .a) (omega arith),
@@ -43,13 +46,8 @@ module _ (m : Image) (s : Step) (u : Undamaged m) (k : kindOf (s .kind) ≡ new)
         ne-eqb (s .b) 0 (λ z. omega arith),
         le-ltb 1024 (s .b) (omega arith),
         le-ltb (4 * s .b - 2) (s .c) (omega arith),
-      ))
-
-  -- number 9 exactly where no stretch of b unused granules starts anywhere
-  pub no-room-number : GoodNew m s → RefusedWhere m s 9 ((v : ℕ) → Stretch m (s .b) v → ⊥)
-  no-room-number f =
-      let r = no-room m (s .b) (heap-filled-of (u .sound .lines)) (heap-sized-of (u .sound .lines)) (f .some-granules) in
-      refused-where m s 8 (eqb ((roomFor m (s .b)) .run) 0) (new-number f) (λ e. r .0 (eqb-true _ _ e)) (λ p. eq-eqb _ _ (r .1 p))
+      )))
+      (λ e. r .0 (eqb-true _ _ e)) (λ p. eq-eqb _ _ (r .1 p))
 
   -- the value of an accepted new is the lowest stretch
   pub room-value : (step m s) .number ≡ 0 → Stretch m (s .b) ((step m s) .value) × ((v : ℕ) → Stretch m (s .b) v → (step m s) .value ≤ v)
@@ -106,10 +104,6 @@ module _ (m : Image) where
       let n = f (r .0) (r .1) in
       elim (some-use _ _ (r .2)) [ inl q ↦ n .0 (eqb-true _ _ q) | inr q ↦ elim (some-use _ _ q) [ inl x ↦ n .1 (eqb-true _ _ x) | inr x ↦ some-nil x ] ]))
 
-  pool-none : fullest m ≡ 0 → (p : ℕ) → p < 32 → InPool m p → count m p ≡ 0
-  unfolding fullest every
-  pool-none e p h f = omega (arith, ltb-false 0 (count m p) (rw (none-held p f, and-true) at (best-none _ _ 32 e p h)))
-
   none-pool : ((p : ℕ) → p < 32 → InPool m p → count m p ≡ 0) → fullest m ≡ 0
   unfolding fullest
   none-pool f =
@@ -124,11 +118,11 @@ module _ (m : Image) where
   none-held-word x e = eqb-true x 0 (not-false _ e)
 
   trace-none : (t : ℕ) → traceLine m t ≡ 0 → NoTraceLine m t
-  unfolding traceLine
+  unfolding traceLine fullest every
   trace-none t e = record {
     hand-empty = none-held-word _ (first-none 0 _ e 0);
     no-input = entries-none _ (first-none 0 _ e 1);
-    no-pool = pool-none (none-held-word _ (first-none 0 _ e 2));
+    no-pool = λ p h f. omega (arith, ltb-false 0 (count m p) (rw (none-held p f, and-true) at (best-none _ _ 32 (none-held-word _ (first-none 0 _ e 2)) p h)));
     no-output = entries-none _ (first-none 0 _ e 3);
   }
 
@@ -144,13 +138,13 @@ module _ (m : Image) where
     none-dirty = λ c h q. false≢ (sym (best-none _ _ (m .k) (none-held-word _ (first-none 0 _ e 2)) c h) ∙ eq-eqb _ _ q);
   }
 
-  none-dirty-card : ((c : ℕ) → c < m .k → state m c ≡ 1 → ⊥) → lowestDirty m ≡ 0
-  unfolding lowestDirty lowest
-  none-dirty-card f = elim (zero-or-suc (lowestDirty m)) [ inl e ↦ e | inr (c, e) ↦ let r = best-ok _ _ (m .k) c e in absurd (f c (r .0) (eqb-true _ _ (r .1))) ]
-
   none-clean : (t : ℕ) → NoCleanLine m t → cleanLine m t ≡ 0
-  unfolding cleanLine first
-  none-clean t n = rw (n .hand-empty, n .no-card, none-dirty-card (n .none-dirty)) refl
+  unfolding cleanLine first lowestDirty lowest
+  none-clean t n =
+      elim (zero-or-suc (lowestDirty m)) [
+        | inl e ↦ rw (n .hand-empty, n .no-card, e)
+        | inr (c, e) ↦ let r = best-ok _ _ (m .k) c e in absurd (n .none-dirty c (r .0) (eqb-true _ _ (r .1)))
+      ]
 
 module _ (m : Image) (s : Step) (f : GoodTracer m s) where
   pub trace-nothing : kindOf (s .kind) ≡ trace → RefusedWhere m s 11 (NoTraceLine m (s .who))

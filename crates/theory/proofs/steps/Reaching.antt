@@ -62,6 +62,7 @@ emptiest-ok : (m : Image) (q : ℕ) → emptiest m ≡ suc q → (q < 32) × (he
 unfolding emptiest
 emptiest-ok m q e = let u = best-ok _ _ 32 q e in (u .0, not-true _ (every-use _ (u .1) 0), ltb-true _ _ (every-use _ (u .1) 1))
 
+-- a packet + 1, or 0
 pub few-packets : (x : ℕ) → ((q : ℕ) → x ≡ suc q → q < 32) → x ≤ 32
 few-packets x f = elim (zero-or-suc x) [ inl e ↦ omega arith | inr (q, e) ↦ omega (arith, f q e) ]
 

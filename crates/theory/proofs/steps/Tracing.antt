@@ -93,10 +93,6 @@ pub takeObject-frame : (m : Image) (t g : ℕ) → frame (takeObject m t g) ≡ 
 unfolding takeObject putHand setTracer withTracers
 takeObject-frame m t g = elim (bool-cases (eqb (links m g) 0)) [ inl e ↦ rw e | inr e ↦ rw e ]
 
-input-small : (m : Image) → Lines m → (t : ℕ) → t < 8 → input m t ≤ 32
-unfolding input
-input-small m o t ht = let e : 8 * t ≡ 8 * t + 0 = omega arith in rw e (o .tracers-ok .places .held t 0 ht (omega arith))
-
 fullest-ok : (m : Image) (q : ℕ) → fullest m ≡ suc q → (q < 32) × (held m q ≡ false)
 unfolding fullest
 fullest-ok m q e = let u = best-ok _ _ 32 q e in (u .0, not-true _ (every-use _ (u .1) 0))
@@ -121,10 +117,12 @@ popped-does m o cov t p c ht e hp hc =
     ]
 
 pub traceInput-does : (m : Image) → Lines m → Cover m → (t : ℕ) → t < 8 → hand m t ≡ 0 → hasEntries m (input m t) ≡ true → StepStays m (traceInput m t)
-unfolding traceInput hasEntries
+unfolding traceInput hasEntries input
 traceInput-does m o cov t ht e h =
     let p : ℕ = input m t - 1 in
-    popped-does m o cov t p (count m p - 1) ht e (omega (arith, input-small m o t ht)) (omega (arith, ltb-true 0 (count m p) (every-use _ h 1)))
+    let i : 8 * t ≡ 8 * t + 0 = omega arith in
+    let few : input m t ≤ 32 = rw i (o .tracers-ok .places .held t 0 ht (omega arith)) in
+    popped-does m o cov t p (count m p - 1) ht e (omega arith) (omega (arith, ltb-true 0 (count m p) (every-use _ h 1)))
 
 -- ---- a packet of the pool, and the own output
 
