@@ -71,23 +71,20 @@ name-fresh {name} {i} n h e = let x : i < i = n .name-past h i e in omega arith
 
 -- an accepted new at g
 pub names-new : {name : ℕ → Object} {i : ℕ} → Names name i → (g : ℕ) → (g ≡ 0 → ⊥) → Names (upd name g (made i)) (suc i)
-names-new {name} {i} n g nz = record {
-  name-nil = off 0 (λ e. nz (sym e)) ∙ n .name-nil;
-  name-one = λ h k e. elim (ℕ-discrete h g) [
-    | yes x ↦ elim (ℕ-discrete k g) [ yes y ↦ x ∙ sym y | no y ↦ absurd (name-fresh n k (sym (off k y) ∙ (sym e ∙ here h x))) ]
-    | no x ↦ elim (ℕ-discrete k g) [ yes y ↦ absurd (name-fresh n h (sym (off h x) ∙ (e ∙ here k y))) | no y ↦ n .name-one h k (sym (off h x) ∙ (e ∙ off k y)) ]
-  ];
-  name-past = λ h j e. elim (ℕ-discrete h g) [
-    | yes x ↦ let z : made i ≡ made j = sym (here h x) ∙ e in let y : i ≡ j = cc in omega arith
-    | no x ↦ omega (arith, n .name-past h j (sym (off h x) ∙ e))
-  ];
-}
-  where
-    here : (h : ℕ) → h ≡ g → upd name g (made i) h ≡ made i
-    here h e = rw e (upd-same name g (made i))
-
-    off : (h : ℕ) → (h ≡ g → ⊥) → upd name g (made i) h ≡ name h
-    off h ne = upd-other name g (made i) h ne
+names-new {name} {i} n g nz =
+    let here : (h : ℕ) → h ≡ g → upd name g (made i) h ≡ made i = λ h e. rw e (upd-same name g (made i)) in
+    let off : (h : ℕ) → (h ≡ g → ⊥) → upd name g (made i) h ≡ name h = upd-other name g (made i) in
+    record {
+      name-nil = off 0 (λ e. nz (sym e)) ∙ n .name-nil;
+      name-one = λ h k e. elim (ℕ-discrete h g) [
+        | yes x ↦ elim (ℕ-discrete k g) [ yes y ↦ x ∙ sym y | no y ↦ absurd (name-fresh n k (sym (off k y) ∙ (sym e ∙ here h x))) ]
+        | no x ↦ elim (ℕ-discrete k g) [ yes y ↦ absurd (name-fresh n h (sym (off h x) ∙ (e ∙ here k y))) | no y ↦ n .name-one h k (sym (off h x) ∙ (e ∙ off k y)) ]
+      ];
+      name-past = λ h j e. elim (ℕ-discrete h g) [
+        | yes x ↦ let z : made i ≡ made j = sym (here h x) ∙ e in let y : i ≡ j = cc in omega arith
+        | no x ↦ omega (arith, n .name-past h j (sym (off h x) ∙ e))
+      ];
+    }
 
 pub nil-name : {name : ℕ → Object} {i : ℕ} → Names name i → (g : ℕ) → isNil (name g) ≡ eqb g 0
 unfolding isNil

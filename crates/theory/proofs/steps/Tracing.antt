@@ -54,33 +54,25 @@ traced : (m r : Image) (t : ℕ) → t < 8 → Cover r → (hand m t ≡ 0 → �
     → StepStays m (cond (ltb (suc (nextLink m t)) (links m (hand m t))) (putHand r t (hand m t) (suc (nextLink m t))) (putHand r t 0 0))
 unfolding putHand setTracer withTracers links link word hand nextLink granules marked
 traced m r t ht cov nz k d =
+    let hs : r .heap ≡ m .heap = ap (λ x. x .1) (d .rest-same) in
+    let same2 : hand r t ≡ hand m t = d .tracer-same t 2 (omega arith) (omega arith) in
+    let same3 : nextLink r t ≡ nextLink m t = d .tracer-same t 3 (omega arith) (omega arith) in
+    -- the link that was reached
+    let seen : (g j : ℕ) → hand r t ≡ g → j ≡ nextLink m t → Seen r g j = λ g j q f. rw (hs, f, ← q, same2) (d .now-marked) in
     elim (bool-cases (ltb (suc (nextLink m t)) (links m (hand m t)))) [
       | inl e ↦ rw e (record {
         lines = hand-lines (d .lines) t (hand m t) (suc (nextLink m t)) ht (one nz (d .marks-up (hand m t) k, rw hs (ltb-true _ _ e)));
         cover = off _ (hand-cover Any r t (hand m t) (suc (nextLink m t)) (d .lines .tracers-ok .sized) ht (on Any r cov)
-            (λ g j q k l h. elim (ℕ-discrete j (nextLink m t)) [ yes f ↦ inl (seen g j q f) | no n ↦ inr (sym same2 ∙ q, omega (arith, same3)) ]));
+            (λ g j q k l h. elim (ℕ-discrete j (nextLink m t)) [ yes f ↦ inl (seen g j q f) | no n ↦ inr (sym same2 ∙ q, omega arith) ]));
         frame-same = ap (λ x. x .0) (d .rest-same);
       })
       | inr e ↦ rw e (record {
         lines = hand-lines (d .lines) t 0 0 ht (none refl refl);
         cover = off _ (hand-cover Any r t 0 0 (d .lines .tracers-ok .sized) ht (on Any r cov)
-            (λ g j q k l h. inl (seen g j q (omega (arith, same3, rw (hs, ← q, same2) at l, ltb-false (suc (nextLink m t)) (links m (hand m t)) e)))));
+            (λ g j q k l h. inl (seen g j q (omega (arith, rw (hs, ← q, same2) at l, ltb-false (suc (nextLink m t)) (links m (hand m t)) e)))));
         frame-same = ap (λ x. x .0) (d .rest-same);
       })
     ]
-  where
-    hs : r .heap ≡ m .heap
-    hs = ap (λ x. x .1) (d .rest-same)
-
-    same2 : hand r t ≡ hand m t
-    same2 = d .tracer-same t 2 (omega arith) (omega arith)
-
-    same3 : nextLink r t ≡ nextLink m t
-    same3 = d .tracer-same t 3 (omega arith) (omega arith)
-
-    -- the link that was reached
-    seen : (g j : ℕ) → hand r t ≡ g → j ≡ nextLink m t → Seen r g j
-    seen g j q f = rw (hs, f, ← q, same2) (d .now-marked)
 
 pub traceHand-does : (m : Image) → Lines m → Cover m → (t : ℕ) → t < 8 → (hand m t ≡ 0 → ⊥) → StepStays m (traceHand m t)
 unfolding traceHand
