@@ -13,10 +13,10 @@ use borrow.Author.Tests.{eqb-true, eqb-false, not-true, not-false}
 use Rattle.model.specs.Base.{nth, put, lowest, first}
 use Rattle.model.specs.Image.{Image, marked, hand, handCard, nextGranule, withCards, withTracers, setState, setTracer}
 use Rattle.model.specs.Collect.{traceHand, putCard, nextMarked, cleanTo, cleanCard, lowestDirty, takeCard, cleanLine, cleanStep}
-use Rattle.model.proofs.Laws.{false≢, bool-cases, nth-put-same, best-ok}
+use Rattle.model.proofs.Laws.{false≢, bool-cases, nth-put-same, nth-put-other, best-ok}
 use Rattle.theory.specs.Cover.{Cover}
 use Rattle.theory.specs.Lines.{Pair, CardInHand, Lines, none, one}
-use Rattle.theory.proofs.lines.Covering.{Any, But, on, off, two-off, takeObject-cover, card-cover, takeCard-cover}
+use Rattle.theory.proofs.lines.Covering.{Any, But, on, off, takeObject-cover, card-cover, takeCard-cover}
 use Rattle.theory.proofs.lines.Lines.{put-tracers, put-cards}
 use Rattle.theory.proofs.steps.Reaching.{StepStays}
 use Rattle.theory.proofs.steps.Steps.{zero-or-suc}
@@ -82,7 +82,8 @@ cleanCard-does m o cov t ht e nz =
           record {
             lines = takeObject-lines o′ t g ht (r .is-marked);
             cover = takeObject-cover (putCard m t (handCard m t) (suc g)) t g (o′ .tracers-ok .sized) ht
-                (two-off (m .tracers) t 4 (handCard m t) (suc g) t 2 (omega arith) ∙ e) (zero-unmarked o′)
+                (nth-put-other (put (m .tracers) (8 * t + 4) (handCard m t)) (8 * t + 5) (8 * t + 2) (suc g) (omega arith)
+                ∙ (nth-put-other (m .tracers) (8 * t + 4) (8 * t + 2) (handCard m t) (omega arith) ∙ e)) (zero-unmarked o′)
                 (card-cover (But g) m t (handCard m t) (suc g) hl ht (on (But g) m cov)
                 (λ h x k a b. (a, elim (decLt h g) [ yes l ↦ false≢ (sym (r .none-between h b l) ∙ k) | no l ↦ omega arith ])));
             frame-same = takeObject-frame _ t g;
