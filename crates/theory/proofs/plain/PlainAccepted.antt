@@ -1,26 +1,26 @@
 -- A player's step on an image and on a plain store that agree: they answer alike and agree again.
-use mathlib.Core.Path.{_≡_, refl, sym, ap, subst, _∙_}
-use mathlib.Core.Bool.{Bool, true, false, not, _&&_, _||_}
+use mathlib.Core.Path.{_≡_, refl, sym, ap, _∙_}
+use mathlib.Core.Logic.{inl, inr}
+use mathlib.Core.Bool.{true, false, not, _&&_, _||_, and-false}
 use Prim.Native.Nat.{ℕ, zero, suc, _+_, _-_, _/_, _<_}
 use native.Mathlib.Omega.{arith}
 use lib.Dec.{eqb}
-use lib.ListN.{length}
 use borrow.Author.Tests.{eqb-false, ne-eqb, leb-false}
 use Rattle.model.specs.Image.{Image, word, links, link, reg, owed, withHeap, withCards, setWord, setState, dirtyCard}
 use Rattle.model.specs.Records.{Step, Kind, new, load, store, barrier, handOver, dropReg, read, write, begin, scan, trace, clean, finish, isDue, unknown, kindOf}
 use Rattle.model.specs.Rows.{is}
 use Rattle.model.specs.Steps.{offDesk, object, noObject, pastEnd, refusal, accept, act, outcome}
-use Rattle.model.specs.Plain.{Object, made, PlainStore, putLink, Value, as-is, PlainDone, holding, plainRefusal, plainAccept, plainAct, plainOutcome, feeds, objectAt, upd, named, reading}
+use Rattle.model.specs.Plain.{Object, made, PlainStore, Value, as-is, PlainDone, holding, plainRefusal, plainAccept, plainAct, plainOutcome, feeds, objectAt, upd, named, reading}
 use Rattle.model.specs.Claim.{Chain, chain-link}
 use Rattle.model.proofs.Laws.{false≢, some-false}
-use Rattle.theory.specs.Same.{Names, SameStore, Related, KeptWords, event, Admitted}
+use Rattle.theory.specs.Same.{Names, SameStore, Related, event}
 use Rattle.theory.specs.Cycle.{Facts}
 use Rattle.theory.proofs.plain.PlainLaws.{upd-same, names-more, names-new, same-kept}
 use Rattle.theory.proofs.plain.PlainWrites.{same-setReg, same-stored, same-written, same-setOwed}
 use Rattle.theory.proofs.plain.PlainNew.{same-new}
 use Rattle.theory.proofs.plain.PlainAlike.{admitted, in-register, held-chain, same-number}
-use Rattle.theory.proofs.steps.Steps.{not-above, good-size}
-use Rattle.theory.specs.New.{NewMade, NewLeaves}
+use Rattle.theory.proofs.steps.Steps.{zero-or-suc, not-above, good-size}
+use Rattle.theory.specs.New.{NewLeaves}
 use Rattle.theory.proofs.new.NewMade.{new-not-nil}
 
 abbrev replied : PlainStore → ℕ → Value → PlainDone
@@ -41,9 +41,6 @@ object-at name i zero ns = sym (ns .name-nil)
 object-at name i (suc g) ns = refl
 
 module _ (m : Image) (f : Facts m) (s : Step) (q : PlainStore) (name : ℕ → Object) (i : ℕ) (ns : Names name i) (S : SameStore name m q) where
-  abbrev Alike : Kind → Type 0
-  Alike n = kindOf (s .kind) ≡ n → Admitted m s n → Related name i (event m s (act m s n)) (plainAct q s i n)
-
   reach-of : (r : ℕ) → s .who < 16 → r < 16 → (object m s r ≡ 0 → ⊥) → Chain m (object m s r)
   reach-of = held-chain m s q name i ns S
 
@@ -53,145 +50,85 @@ module _ (m : Image) (f : Facts m) (s : Step) (q : PlainStore) (name : ℕ → O
   -- an accepted step of a kind whose value is a number
   number-reply : (n : Kind) → kindOf (s .kind) ≡ n → is n new ≡ false → is n load ≡ false
       → (m′ : Image) (v : ℕ) (q′ : PlainStore) (w : ℕ) → v ≡ w → SameStore name m′ q′ → Related name i (event m s (record { image = m′; number = 0; value = v })) (replied q′ 0 (as-is w))
-  number-reply n k no-new no-object m′ v q′ w e a = as-number name i ns m m′ s 0 v q′ w e (ap (λ x. is x new && true) k ∙ ap (λ b. b && true) no-new) (ap (λ x. (is x new || is x load) && true) k ∙ (ap (λ b. (b || is n load) && true) no-new ∙ ap (λ b. b && true) no-object)) a
+  number-reply n k no-new no-object m′ v q′ w e a = as-number name i ns m m′ s 0 v q′ w e (rw (k, no-new)) (rw (k, no-new, no-object)) a
 
   refused-alike : (r : ℕ) → Related name i (event m s (record { image = m; number = suc r; value = 0 })) (replied q (suc r) (as-is 0))
-  refused-alike r = as-number name i ns m m s (suc r) 0 q 0 refl (none (is (kindOf (s .kind)) new)) (none (is (kindOf (s .kind)) new || is (kindOf (s .kind)) load)) S
-    where
-      none : (b : Bool) → (b && eqb (suc r) 0) ≡ false
-      none true = ne-eqb (suc r) 0 (λ e. omega arith)
-      none false = refl
+  refused-alike r =
+      let no = ne-eqb (suc r) 0 (λ e. omega arith) in
+      as-number name i ns m m s (suc r) 0 q 0 refl (rw (no, and-false)) (rw (no, and-false)) S
 
-  new-alike : NewLeaves m s → refusal m s new ≡ 0 → Alike new
-  unfolding act accept plainAct plainAccept named reading offDesk
-  new-alike made-by z k a = record {
-    names-after = rw k (names-new ns g (new-not-nil o));
-    same-after = rw k (same-new m _ f (s .who) (s .a) (s .b) (s .c) g (not-above 15 (s .who) (some-false _ (a .on-desk) 0)) (not-above 15 (s .a) (some-false _ (a .on-desk) 1)) (good-size s (a .good-size) .2) o name i ns q S);
-    same-reply = rw (k, object-at (upd name g (made i)) (suc i) g (names-new ns g (new-not-nil o)), upd-same name g (made i));
-  }
-    where
-      g : ℕ
-      g = (act m s new) .value
-
-      o : NewMade m ((act m s new) .image) (s .who) (s .a) (s .b) (s .c) g
-      o = made-by z
-
-  load-alike : Alike load
-  unfolding act accept plainAct plainAccept named reading offDesk noObject pastEnd
-  load-alike k a = record {
-    names-after = rw k (names-more ns);
-    same-after = rw (k, e) (same-setReg m f (s .who) (s .a) l hp (not-above 15 (s .a) (some-false _ (a .on-desk) 1)) name q S (λ nz. chain-link g (s .c) cg lc refl nz));
-    same-reply = rw (k, object-at name i l ns, e);
-  }
-    where
-      g : ℕ
-      g = object m s (s .b)
-
-      l : ℕ
-      l = link m g (s .c)
-
-      hp : s .who < 16
-      hp = not-above 15 (s .who) (some-false _ (a .on-desk) 0)
-
-      hb : s .b < 16
-      hb = not-above 15 (s .b) (some-false _ (a .on-desk) 2)
-
-      cg : Chain m g
-      cg = reach-of (s .b) hp hb (eqb-false _ _ (a .has-object))
-
-      lc : s .c < links m g
-      lc = leb-false _ _ (a .not-past)
-
-      e : q .linkOf (holding q s (s .b)) (s .c) ≡ name l
-      e = ap (λ o. q .linkOf o (s .c)) (in-reg (s .b) hp hb) ∙ S .same-link g (s .c) cg lc
-
-  store-alike : Alike store
-  unfolding act accept plainAct plainAccept offDesk noObject pastEnd
-  store-alike k a = number-reply store k refl refl _ 0 _ 0 refl (rw (in-reg (s .a) hp ha, in-reg (s .c) hp hc, ← nz) (same-setOwed m₁ len (s .who) (suc (g / 64)) hp name _ s₁))
-    where
-      hp : s .who < 16
-      hp = not-above 15 (s .who) (some-false _ (a .on-desk) 0)
-
-      ha : s .a < 16
-      ha = not-above 15 (s .a) (some-false _ (a .on-desk) 1)
-
-      hc : s .c < 16
-      hc = not-above 15 (s .c) (some-false _ (a .on-desk) 3)
-
-      g : ℕ
-      g = object m s (s .a)
-
-      v : ℕ
-      v = object m s (s .c)
-
-      m₁ : Image
-      m₁ = setWord m g (2 + s .b) v
-
-      s₁ : SameStore name m₁ (putLink q (name g) (s .b) (name v))
-      s₁ = same-stored m f g (s .b) v (reach-of (s .a) hp ha (eqb-false _ _ (a .has-object))) (leb-false _ _ (a .not-past)) (reach-of (s .c) hp hc) name (ns .name-one) q S
-
-      len : length (m₁ .players) ≡ 32
-      len = unfold setWord withHeap in f .players-length
-
-      nz : not (eqb (suc (g / 64)) 0) ≡ true
-      nz = ap not (ne-eqb (suc (g / 64)) 0 (λ e. omega arith))
-
-  barrier-alike : Alike barrier
-  unfolding act accept plainAct plainAccept offDesk
-  barrier-alike k a = number-reply barrier k refl refl _ 0 _ 0 refl (same-setOwed m₁ len (s .who) 0 (not-above 15 (s .who) (some-false _ (a .on-desk) 0)) name q (same-kept m f m₁ kept name q S))
-    where
-      m₁ : Image
-      m₁ = dirtyCard m (owed m (s .who) - 1)
-
-      len : length (m₁ .players) ≡ 32
-      len = unfold dirtyCard setState withCards in f .players-length
-
-      kept : KeptWords m m₁
-      kept = unfold dirtyCard setState withCards reg owed word in record { kept-reg = λ p r. refl; kept-owed = λ p. refl; kept-word = λ g j c l. refl }
-
-  hand-alike : Alike handOver
-  unfolding act accept plainAct plainAccept offDesk
-  hand-alike k a =
-      let hp : s .who < 16 = not-above 15 (s .who) (some-false _ (a .on-desk) 0) in
-      let ha : s .a < 16 = not-above 15 (s .a) (some-false _ (a .on-desk) 1) in
+  accepted-alike : NewLeaves m s → (n : Kind) → feeds n 0 ≡ true → refusal m s n ≡ 0 → kindOf (s .kind) ≡ n → Related name i (event m s (act m s n)) (plainAct q s i n)
+  unfolding feeds act accept plainAct plainAccept named reading offDesk noObject pastEnd setWord withHeap dirtyCard setState withCards reg owed word
+  accepted-alike o new e z k =
+      let a = admitted m s new z in
+      let d = some-false _ (a .on-desk) in
+      let g : ℕ = (act m s new) .value in
+      let ns′ = names-new ns g (new-not-nil (o z)) in
+      record {
+        names-after = rw k ns′;
+        same-after = rw k (same-new m _ f (s .who) (s .a) (s .b) (s .c) g (not-above 15 (s .who) (d 0)) (not-above 15 (s .a) (d 1)) (good-size s (a .good-size) .2) (o z) name i ns q S);
+        same-reply = rw (k, object-at (upd name g (made i)) (suc i) g ns′, upd-same name g (made i));
+      }
+  accepted-alike o load e z k =
+      let a = admitted m s load z in
+      let d = some-false _ (a .on-desk) in
+      let g : ℕ = object m s (s .b) in
+      let l : ℕ = link m g (s .c) in
+      let hp : s .who < 16 = not-above 15 (s .who) (d 0) in
+      let hb : s .b < 16 = not-above 15 (s .b) (d 2) in
+      let cg : Chain m g = reach-of (s .b) hp hb (eqb-false _ _ (a .has-object)) in
+      let lc : s .c < links m g = leb-false _ _ (a .not-past) in
+      let x : q .linkOf (holding q s (s .b)) (s .c) ≡ name l = ap (λ o. q .linkOf o (s .c)) (in-reg (s .b) hp hb) ∙ S .same-link g (s .c) cg lc in
+      record {
+        names-after = rw k (names-more ns);
+        same-after = rw (k, x) (same-setReg m f (s .who) (s .a) l hp (not-above 15 (s .a) (d 1)) name q S (λ nz. chain-link g (s .c) cg lc refl nz));
+        same-reply = rw (k, object-at name i l ns, x);
+      }
+  accepted-alike o store e z k =
+      let a = admitted m s store z in
+      let d = some-false _ (a .on-desk) in
+      let g : ℕ = object m s (s .a) in
+      let v : ℕ = object m s (s .c) in
+      let hp : s .who < 16 = not-above 15 (s .who) (d 0) in
+      let ha : s .a < 16 = not-above 15 (s .a) (d 1) in
+      let hc : s .c < 16 = not-above 15 (s .c) (d 3) in
+      let nz : not (eqb (suc (g / 64)) 0) ≡ true = ap not (ne-eqb (suc (g / 64)) 0 (λ e. omega arith)) in
+      number-reply store k refl refl _ 0 _ 0 refl
+      (rw (in-reg (s .a) hp ha, in-reg (s .c) hp hc, ← nz) (same-setOwed (setWord m g (2 + s .b) v) (f .players-length) (s .who) (suc (g / 64)) hp name _
+      (same-stored m f g (s .b) v (reach-of (s .a) hp ha (eqb-false _ _ (a .has-object))) (leb-false _ _ (a .not-past)) (reach-of (s .c) hp hc) name (ns .name-one) q S)))
+  accepted-alike o barrier e z k =
+      let d = some-false _ (admitted m s barrier z .on-desk) in
+      let m₁ : Image = dirtyCard m (owed m (s .who) - 1) in
+      number-reply barrier k refl refl _ 0 _ 0 refl
+      (same-setOwed m₁ (f .players-length) (s .who) 0 (not-above 15 (s .who) (d 0)) name q
+      (same-kept m f m₁ (record { kept-reg = λ p r. refl; kept-owed = λ p. refl; kept-word = λ g j c l. refl }) name q S))
+  accepted-alike o handOver e z k =
+      let d = some-false _ (admitted m s handOver z .on-desk) in
+      let hp : s .who < 16 = not-above 15 (s .who) (d 0) in
+      let ha : s .a < 16 = not-above 15 (s .a) (d 1) in
       number-reply handOver k refl refl _ 0 _ 0 refl
-      (rw (in-reg (s .a) hp ha) (same-setReg m f (s .b) (s .c) (object m s (s .a)) (not-above 15 (s .b) (some-false _ (a .on-desk) 2)) (not-above 15 (s .c) (some-false _ (a .on-desk) 3)) name q S (reach-of (s .a) hp ha)))
-
-  drop-alike : Alike dropReg
-  unfolding act accept plainAct plainAccept offDesk
-  drop-alike k a =
+      (rw (in-reg (s .a) hp ha) (same-setReg m f (s .b) (s .c) (object m s (s .a)) (not-above 15 (s .b) (d 2)) (not-above 15 (s .c) (d 3)) name q S (reach-of (s .a) hp ha)))
+  accepted-alike o dropReg e z k =
+      let d = some-false _ (admitted m s dropReg z .on-desk) in
       number-reply dropReg k refl refl _ 0 _ 0 refl
-      (rw (← ns .name-nil) (same-setReg m f (s .who) (s .a) 0 (not-above 15 (s .who) (some-false _ (a .on-desk) 0)) (not-above 15 (s .a) (some-false _ (a .on-desk) 1)) name q S (λ nz. absurd (nz refl))))
-
-  read-alike : Alike read
-  unfolding act accept plainAct plainAccept offDesk noObject pastEnd
-  read-alike k a =
-      let hp : s .who < 16 = not-above 15 (s .who) (some-false _ (a .on-desk) 0) in
-      let ha : s .a < 16 = not-above 15 (s .a) (some-false _ (a .on-desk) 1) in
+      (rw (← ns .name-nil) (same-setReg m f (s .who) (s .a) 0 (not-above 15 (s .who) (d 0)) (not-above 15 (s .a) (d 1)) name q S (λ nz. absurd (nz refl))))
+  accepted-alike o read e z k =
+      let a = admitted m s read z in
+      let d = some-false _ (a .on-desk) in
+      let hp : s .who < 16 = not-above 15 (s .who) (d 0) in
+      let ha : s .a < 16 = not-above 15 (s .a) (d 1) in
       let g : ℕ = object m s (s .a) in
       number-reply read k refl refl m _ q _
       (sym (ap (λ o. q .levelOf o (s .b)) (in-reg (s .a) hp ha) ∙ S .same-level g (s .b) (reach-of (s .a) hp ha (eqb-false _ _ (a .has-object))) (leb-false _ _ (a .not-past))))
       S
-
-  write-alike : Alike write
-  unfolding act accept plainAct plainAccept offDesk noObject pastEnd
-  write-alike k a =
-      let hp : s .who < 16 = not-above 15 (s .who) (some-false _ (a .on-desk) 0) in
-      let ha : s .a < 16 = not-above 15 (s .a) (some-false _ (a .on-desk) 1) in
+  accepted-alike o write e z k =
+      let a = admitted m s write z in
+      let d = some-false _ (a .on-desk) in
+      let hp : s .who < 16 = not-above 15 (s .who) (d 0) in
+      let ha : s .a < 16 = not-above 15 (s .a) (d 1) in
       let g : ℕ = object m s (s .a) in
       number-reply write k refl refl _ 0 _ 0 refl
       (rw (in-reg (s .a) hp ha) (same-written m f g (s .b) (s .c) (reach-of (s .a) hp ha (eqb-false _ _ (a .has-object))) (leb-false _ _ (a .not-past)) name (ns .name-one) q S))
-
-  accepted-alike : NewLeaves m s → (n : Kind) → feeds n 0 ≡ true → refusal m s n ≡ 0 → kindOf (s .kind) ≡ n → Related name i (event m s (act m s n)) (plainAct q s i n)
-  unfolding feeds
-  accepted-alike o new e z k = new-alike o z k (admitted m s new z)
-  accepted-alike o load e z k = load-alike k (admitted m s load z)
-  accepted-alike o store e z k = store-alike k (admitted m s store z)
-  accepted-alike o barrier e z k = barrier-alike k (admitted m s barrier z)
-  accepted-alike o handOver e z k = hand-alike k (admitted m s handOver z)
-  accepted-alike o dropReg e z k = drop-alike k (admitted m s dropReg z)
-  accepted-alike o read e z k = read-alike k (admitted m s read z)
-  accepted-alike o write e z k = write-alike k (admitted m s write z)
   accepted-alike o begin e z k = false≢ e
   accepted-alike o scan e z k = false≢ e
   accepted-alike o trace e z k = false≢ e
@@ -202,8 +139,7 @@ module _ (m : Image) (f : Facts m) (s : Step) (q : PlainStore) (name : ℕ → O
 
   -- a player's step, but for a new answered 9
   pub fed-alike : NewLeaves m s → (n : Kind) → feeds n 0 ≡ true → (refusal m s n ≡ 9 → ⊥) → kindOf (s .kind) ≡ n → Related name i (event m s (outcome m s n (refusal m s n))) (plainOutcome q s i n (plainRefusal q s n))
-  fed-alike o n e ne k = subst (λ t. Related name i (event m s (outcome m s n (refusal m s n))) (plainOutcome q s i n t)) (same-number m s q name i ns S n e ne) (go (refusal m s n) refl)
-    where
-      go : (r : ℕ) → refusal m s n ≡ r → Related name i (event m s (outcome m s n r)) (plainOutcome q s i n r)
-      go zero z = unfold outcome plainOutcome in accepted-alike o n e z k
-      go (suc r) z = unfold outcome plainOutcome in refused-alike r
+  unfolding outcome plainOutcome
+  fed-alike o n e ne k =
+      rw (← same-number m s q name i ns S n e ne)
+      (elim (zero-or-suc (refusal m s n)) [ inl z ↦ rw z (accepted-alike o n e z k) | inr (r, z) ↦ rw z (refused-alike r) ])

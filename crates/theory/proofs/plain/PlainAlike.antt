@@ -1,13 +1,13 @@
 -- An image and a plain store that agree give a player's step the same number, but for 9.
 use mathlib.Core.Path.{_≡_, refl, sym, ap, _∙_}
-use mathlib.Core.Bool.{Bool, true, false, not, _&&_}
+use mathlib.Core.Bool.{Bool, true, false, not, _&&_, Bool·not-not}
 use mathlib.Core.List.{[], _∷_}
 use Prim.Native.Nat.{ℕ, _<_}
 use lib.Dec.{eqb, leb}
 use lib.ListN.{getD}
 use borrow.Author.Tests.{eqb-false, leb-false}
 use Rattle.model.specs.Base.{some, first}
-use Rattle.model.specs.Image.{Image, links, levels, owed}
+use Rattle.model.specs.Image.{Image, links, levels}
 use Rattle.model.specs.Records.{Step, Kind, new, load, store, barrier, handOver, dropReg, read, write, begin, scan, trace, clean, finish, isDue, unknown}
 use Rattle.model.specs.Mutate.{roomFor}
 use Rattle.model.specs.Rows.{Role, unused, player, tracer, register, number, rowOf, is, isPlayer, limit, reaches, fields}
@@ -82,11 +82,6 @@ module _ (m : Image) (s : Step) (q : PlainStore) (name : ℕ → Object) (i : �
       same register x h = refl
       same number x h = refl
 
-  abbrev LinesOf : Kind → Type 0
-  LinesOf n =
-      SameLines (wrongPhase m s n) (offDesk s (m .k) n) (owing m s n) (noObject m s n) (pastEnd m s n) (nothingToDo m s n)
-      (offDesk s 0 n) (plainOwing q s n) (plainNoObject q s n) (plainPastEnd q s n) (plainNothing q s n)
-
   -- kinds without an object register, and kinds with one
   bare-lines : (off w w′ : Bool) → (off ≡ false → w ≡ w′) → SameLines false off w false false false off w′ false false false
   bare-lines off w w′ h = record { in-phase = refl; desk-line = refl; owing-line = h; object-line = λ d. refl; end-line = λ d o. refl; nothing-line = λ d. refl }
@@ -103,27 +98,21 @@ module _ (m : Image) (s : Step) (q : PlainStore) (name : ℕ → Object) (i : �
     nothing-line = λ d. refl;
   }
 
-  barrier-lines : LinesOf barrier
-  unfolding wrongPhase offDesk owing noObject pastEnd nothingToDo owes plainOwing plainNoObject plainPastEnd plainNothing
-  barrier-lines = record {
+  lines-of : (n : Kind) → feeds n 0 ≡ true
+      → SameLines (wrongPhase m s n) (offDesk s (m .k) n) (owing m s n) (noObject m s n) (pastEnd m s n) (nothingToDo m s n)
+      (offDesk s 0 n) (plainOwing q s n) (plainNoObject q s n) (plainPastEnd q s n) (plainNothing q s n)
+  unfolding wrongPhase offDesk owing noObject pastEnd nothingToDo owes plainOwing plainNoObject plainPastEnd plainNothing feeds
+  lines-of new e = bare-lines _ _ _ (owing-alike new)
+  lines-of load e = object-lines _ _ _ (s .b) (s .c) (links m) (q .linkCount) (owing-alike load) (λ d. (not-above 15 (s .who) (some-false _ d 0), not-above 15 (s .b) (some-false _ d 2))) (links-alike (s .b))
+  lines-of store e = object-lines _ _ _ (s .a) (s .b) (links m) (q .linkCount) (owing-alike store) (λ d. (not-above 15 (s .who) (some-false _ d 0), not-above 15 (s .a) (some-false _ d 1))) (links-alike (s .a))
+  lines-of barrier e = record {
     in-phase = refl;
     desk-line = refl;
     owing-line = λ d. refl;
     object-line = λ d. refl;
     end-line = λ d o. refl;
-    nothing-line = λ d. twice (eqb (owed m (s .who)) 0) ∙ ap not (owes-alike (s .who) (not-above 15 (s .who) (some-false _ d 0)));
+    nothing-line = λ d. sym (Bool·not-not _) ∙ ap not (owes-alike (s .who) (not-above 15 (s .who) (some-false _ d 0)));
   }
-    where
-      twice : (a : Bool) → a ≡ not (not a)
-      twice true = refl
-      twice false = refl
-
-  lines-of : (n : Kind) → feeds n 0 ≡ true → LinesOf n
-  unfolding wrongPhase offDesk noObject pastEnd nothingToDo plainNoObject plainPastEnd plainNothing feeds
-  lines-of new e = bare-lines _ _ _ (owing-alike new)
-  lines-of load e = object-lines _ _ _ (s .b) (s .c) (links m) (q .linkCount) (owing-alike load) (λ d. (not-above 15 (s .who) (some-false _ d 0), not-above 15 (s .b) (some-false _ d 2))) (links-alike (s .b))
-  lines-of store e = object-lines _ _ _ (s .a) (s .b) (links m) (q .linkCount) (owing-alike store) (λ d. (not-above 15 (s .who) (some-false _ d 0), not-above 15 (s .a) (some-false _ d 1))) (links-alike (s .a))
-  lines-of barrier e = barrier-lines
   lines-of handOver e = bare-lines _ _ _ (owing-alike handOver)
   lines-of dropReg e = bare-lines _ _ _ (owing-alike dropReg)
   lines-of read e = object-lines _ _ _ (s .a) (s .b) (levels m) (plainLevels q s) (owing-alike read) (λ d. (not-above 15 (s .who) (some-false _ d 0), not-above 15 (s .a) (some-false _ d 1))) (levels-alike (s .a))

@@ -1,7 +1,7 @@
 -- Which steps the plain store is fed; the others leave registers, owed cards and the words of what a chain reaches.
 use mathlib.Core.Path.{_≡_, refl, sym, ap, _∙_}
-use mathlib.Core.Logic.{_⊎_, inl, inr}
-use mathlib.Core.Bool.{true, false, not, cond, _&&_}
+use mathlib.Core.Logic.{inl, inr}
+use mathlib.Core.Bool.{true, false, not, and-false}
 use Prim.Native.Nat.{ℕ}
 use native.Mathlib.Omega.{arith}
 use lib.Dec.{eqb}
@@ -9,9 +9,9 @@ use borrow.Author.Tests.{eqb-true, eqb-false, ne-eqb, not-true, not-false}
 use Rattle.model.specs.Image.{Image, reg, owed}
 use Rattle.model.specs.Records.{Step, Kind, new, load, store, barrier, handOver, dropReg, read, write, begin, scan, trace, clean, finish, isDue, unknown, kindOf}
 use Rattle.model.specs.Finish.{finishWith, finishStep}
-use Rattle.model.specs.Rows.{rowOf, is, isPlayer}
+use Rattle.model.specs.Rows.{is}
 use Rattle.model.specs.Steps.{Event, refusal, accept, finishDone, act, step}
-use Rattle.model.specs.Plain.{Object, made, upd, feeds, feedsEvent, named}
+use Rattle.model.specs.Plain.{Object, feeds, feedsEvent, named}
 use Rattle.model.proofs.Laws.{false≢, bool-cases}
 use Rattle.model.proofs.Rows.{is-same}
 use Rattle.theory.specs.Cycle.{Quiet}
@@ -28,58 +28,33 @@ fed-new : (n : Kind) (r : ℕ) → is n new ≡ true → feeds n r ≡ not (eqb 
 unfolding feeds
 fed-new n r e = ap (λ x. feeds x r) (is-same n new e)
 
-fed-other : (n : Kind) (r t : ℕ) → is n new ≡ false → feeds n r ≡ feeds n t
-unfolding feeds
-fed-other n r t e = answered r ∙ sym (answered t)
-  where
-    answered : (r : ℕ) → (isPlayer ((rowOf n) .who) && not (is n new && eqb r 9)) ≡ (isPlayer ((rowOf n) .who) && true)
-    answered r = ap (λ b. isPlayer ((rowOf n) .who) && not (b && eqb r 9)) e
-
 pub fed-not-nine : (m : Image) (s : Step) (n : Kind) → feeds n (refusal m s n) ≡ true → refusal m s n ≡ 9 → ⊥
-fed-not-nine m s n e = go (bool-cases (is n new))
-  where
-    go : (is n new ≡ true) ⊎ (is n new ≡ false) → refusal m s n ≡ 9 → ⊥
-    go (inl x) = eqb-false (refusal m s n) 9 (not-true _ (sym (fed-new n (refusal m s n) x) ∙ e))
-    go (inr x) = not-nine m s n x
+fed-not-nine m s n e =
+    elim (bool-cases (is n new)) [ inl x ↦ eqb-false (refusal m s n) 9 (not-true _ (sym (fed-new n (refusal m s n) x) ∙ e)) | inr x ↦ not-nine m s n x ]
 
 pub fed-zero : (n : Kind) (r : ℕ) → feeds n r ≡ true → feeds n 0 ≡ true
-fed-zero n r e = go (bool-cases (is n new))
-  where
-    go : (is n new ≡ true) ⊎ (is n new ≡ false) → feeds n 0 ≡ true
-    go (inl x) = fed-new n 0 x
-    go (inr x) = fed-other n 0 r x ∙ e
+unfolding feeds
+fed-zero n r e = elim (bool-cases (is n new)) [ inl x ↦ fed-new n 0 x | inr x ↦ rw x (rw x at e) ]
 
 -- a step that is not fed names nothing
 pub unfed-named : (name : ℕ → Object) (i : ℕ) (e : Event) → feedsEvent e ≡ false → named name i e ≡ name
 unfolding named feedsEvent
-unfed-named name i e u = ap (λ b. cond b (upd name (e .done .value) (made i)) name) (go (bool-cases (is (kindOf (e .request .kind)) new)))
-  where
-    n : Kind
-    n = kindOf (e .request .kind)
-
-    r : ℕ
-    r = e .done .number
-
-    go : (is n new ≡ true) ⊎ (is n new ≡ false) → (is n new && eqb r 0) ≡ false
-    go (inl x) = let k : r ≡ 9 = eqb-true r 9 (not-false _ (sym (fed-new n r x) ∙ u)) in ap (λ b. b && eqb r 0) x ∙ ne-eqb r 0 (λ z. omega arith)
-    go (inr x) = ap (λ b. b && eqb r 0) x
+unfed-named name i e u =
+    let n : Kind = kindOf (e .request .kind) in
+    let r : ℕ = e .done .number in
+    elim (bool-cases (is n new)) [
+      | inl x ↦ let k : r ≡ 9 = eqb-true r 9 (not-false _ (sym (fed-new n r x) ∙ u)) in rw (ne-eqb r 0 (λ z. omega arith), and-false)
+      | inr x ↦ rw x
+    ]
 
 -- ---- what a step that is not fed leaves
 
--- whatever is newly marked
-abbrev Still : Image → Image → Type 0
-Still m n = Quiet (λ g. Unit {0}) m n
-
-quiet-kept : (m n : Image) → Still m n → KeptWords m n
+quiet-kept : (m n : Image) → Quiet (λ g. Unit {0}) m n → KeptWords m n
 quiet-kept m n q = record { kept-reg = q .same-reg; kept-owed = q .same-owed; kept-word = λ g i c l. q .same-word g i }
-
-finish-kept : (m : Image) (s : Step) → WordsStay m ((act m s finish) .image) → KeptWords m ((act m s finish) .image)
-unfolding act accept finishDone finishStep finishWith reg owed
-finish-kept m s k = record { kept-reg = λ p r. refl; kept-owed = λ p. off-owed (m .players) p; kept-word = k }
 
 module _ (m : Image) (s : Step) (stays : refusal m s finish ≡ 0 → WordsStay m ((act m s finish) .image)) where
   unfed-act : (n : Kind) → feeds n 0 ≡ false → refusal m s n ≡ 0 → KeptWords m ((act m s n) .image)
-  unfolding feeds act accept
+  unfolding feeds act accept finishDone finishStep finishWith reg owed
   unfed-act new e z = false≢ (sym e)
   unfed-act load e z = false≢ (sym e)
   unfed-act store e z = false≢ (sym e)
@@ -92,7 +67,7 @@ module _ (m : Image) (s : Step) (stays : refusal m s finish ≡ 0 → WordsStay 
   unfed-act scan e z = quiet-kept m _ (quiet-scan m (s .who) (s .a) (λ g k nz. tt))
   unfed-act trace e z = quiet-kept m _ (quiet-trace m (s .who) (λ h nz. tt))
   unfed-act clean e z = quiet-kept m _ (quiet-clean m (s .who) (λ h nz. tt))
-  unfed-act finish e z = finish-kept m s (stays z)
+  unfed-act finish e z = record { kept-reg = λ p r. refl; kept-owed = λ p. off-owed (m .players) p; kept-word = stays z }
   unfed-act isDue e z = quiet-kept m _ (quiet-refl m)
   unfed-act unknown e z = quiet-kept m _ (quiet-refl m)
 

@@ -24,79 +24,43 @@ pub upd-other : {A : Type 0} (f : ℕ → A) (i : ℕ) (v : A) (j : ℕ) → (j 
 unfolding upd
 upd-other f i v j ne = rw (ne-eqb j i ne)
 
-same-refl : (o : Object) → sameObject o o ≡ true
+pub same-refl : (o : Object) → sameObject o o ≡ true
 unfolding sameObject
 same-refl (old g) = eq-eqb g g refl
 same-refl (made i) = eq-eqb i i refl
 
-same-ne : (o p : Object) → (o ≡ p → ⊥) → sameObject o p ≡ false
+pub same-ne : (o p : Object) → (o ≡ p → ⊥) → sameObject o p ≡ false
 unfolding sameObject
 same-ne (old g) (old h) ne = ne-eqb g h (λ e. ne (ap old e))
 same-ne (old g) (made j) ne = refl
 same-ne (made i) (old h) ne = refl
 same-ne (made i) (made j) ne = ne-eqb i j (λ e. ne (ap made e))
 
-pub updObject-same : {A : Type 0} (f : Object → A) (o : Object) (v : A) → updObject f o v o ≡ v
-unfolding updObject
-updObject-same f o v = rw (same-refl o)
-
-pub updObject-other : {A : Type 0} (f : Object → A) (o : Object) (v : A) (p : Object) → (p ≡ o → ⊥) → updObject f o v p ≡ f p
-unfolding updObject
-updObject-other f o v p ne = rw (same-ne p o ne)
-
--- two places are one, or not
-pub both : (g h i j : ℕ) → ((g ≡ h) × (i ≡ j)) ⊎ ((g ≡ h) × (i ≡ j) → ⊥)
-both g h i j = go (ℕ-discrete g h) (ℕ-discrete i j)
-  where
-    go : Dec (g ≡ h) → Dec (i ≡ j) → ((g ≡ h) × (i ≡ j)) ⊎ ((g ≡ h) × (i ≡ j) → ⊥)
-    go (yes x) (yes y) = inl (x, y)
-    go (yes x) (no y) = inr (λ k. y (k .1))
-    go (no x) d = inr (λ k. x (k .0))
-
--- one value b of row g is replaced by v: there it is v, elsewhere it is as before
-upd-row : {A : Type 0} (row : ℕ → A) (g b h i : ℕ) (v before after x : A) → (h ≡ g → after ≡ upd row b v i) → ((h ≡ g → ⊥) → after ≡ before) → (h ≡ g → row i ≡ before)
-    → ((h ≡ g) × (i ≡ b) → v ≡ x) → (((h ≡ g) × (i ≡ b) → ⊥) → before ≡ x) → after ≡ x
-upd-row row g b h i v before after x same other is here there = go (ℕ-discrete h g) (ℕ-discrete i b)
-  where
-    go : Dec (h ≡ g) → Dec (i ≡ b) → after ≡ x
-    go (yes e) (yes d) = same e ∙ (ap (upd row b v) d ∙ (upd-same row b v ∙ here (e, d)))
-    go (yes e) (no d) = same e ∙ (upd-other row b v i d ∙ (is e ∙ there (λ k. d (k .1))))
-    go (no e) d = other e ∙ there (λ k. e (k .0))
+-- x is v at the place that is replaced, and elsewhere what stood there
+abbrev pub Renewed : {A : Type 0} → Type 0 → A → A → A → Type 0
+Renewed C v before x = (C × (v ≡ x)) ⊎ ((C → ⊥) × (before ≡ x))
 
 -- register r of player p
-pub upd-at : {A : Type 0} (f : ℕ → ℕ → A) (p r : ℕ) (v : A) (u t : ℕ) (x : A) → ((u ≡ p) × (t ≡ r) → v ≡ x) → (((u ≡ p) × (t ≡ r) → ⊥) → f u t ≡ x)
-    → upd f p (upd (f p) r v) u t ≡ x
-upd-at f p r v u t x here there =
-    upd-row (f p) p r u t v (f u t) _ x
-    (λ e. ap (λ z. upd f p (upd (f p) r v) z t) e ∙ ap (λ z. z t) (upd-same f p (upd (f p) r v)))
-    (λ ne. ap (λ z. z t) (upd-other f p (upd (f p) r v) u ne))
-    (λ e. ap (λ z. f z t) (sym e))
-    here there
+pub upd-at : {A : Type 0} (f : ℕ → ℕ → A) (p r : ℕ) (v : A) (u t : ℕ) (x : A) → Renewed ((u ≡ p) × (t ≡ r)) v (f u t) x → upd f p (upd (f p) r v) u t ≡ x
+unfolding upd
+upd-at f p r v u t x (inl ((e, d), w)) = rw (eq-eqb u p e, eq-eqb t r d) w
+upd-at f p r v u t x (inr (n, w)) = elim (ℕ-discrete u p) [ yes e ↦ rw (eq-eqb u p e, ne-eqb t r (λ d. n (e, d))) (rw e at w) | no e ↦ rw (ne-eqb u p e) w ]
 
 -- link or level word b of the object that g names
 pub updObject-at : {A : Type 0} (name : ℕ → Object) → ((g h : ℕ) → name g ≡ name h → g ≡ h) → (f : Object → ℕ → A) (g b : ℕ) (v : A) (h i : ℕ) (x : A)
-    → ((h ≡ g) × (i ≡ b) → v ≡ x) → (((h ≡ g) × (i ≡ b) → ⊥) → f (name h) i ≡ x)
-    → updObject f (name g) (upd (f (name g)) b v) (name h) i ≡ x
-updObject-at name one f g b v h i x here there =
-    upd-row (f (name g)) g b h i v (f (name h) i) _ x
-    (λ e. ap (λ z. updObject f (name g) (upd (f (name g)) b v) (name z) i) e ∙ ap (λ z. z i) (updObject-same f (name g) (upd (f (name g)) b v)))
-    (λ ne. ap (λ z. z i) (updObject-other f (name g) (upd (f (name g)) b v) (name h) (λ e. ne (one h g e))))
-    (λ e. ap (λ z. f (name z) i) (sym e))
-    here there
+    → Renewed ((h ≡ g) × (i ≡ b)) v (f (name h) i) x → updObject f (name g) (upd (f (name g)) b v) (name h) i ≡ x
+unfolding upd updObject
+updObject-at name one f g b v h i x (inl ((e, d), w)) = rw (e, same-refl (name g), eq-eqb i b d) w
+updObject-at name one f g b v h i x (inr (n, w)) =
+    elim (ℕ-discrete h g) [
+      | yes e ↦ rw (e, same-refl (name g), ne-eqb i b (λ d. n (e, d))) (rw e at w)
+      | no e ↦ rw (same-ne (name h) (name g) (λ q. e (one h g q))) w
+    ]
 
 -- ---- names
 
-old-one : (g h : ℕ) → old g ≡ old h → g ≡ h
-old-one g h e = cc
-
-made-one : (i j : ℕ) → made i ≡ made j → i ≡ j
-made-one i j e = cc
-
-old≢made : (g j : ℕ) → old g ≡ made j → ⊥
-old≢made g j e = let x : _≡_ {A = ℕ} 0 1 = cc in omega arith
-
 pub names-old : Names old 0
-names-old = record { name-nil = refl; name-one = old-one; name-past = λ g j e. absurd (old≢made g j e) }
+names-old = record { name-nil = refl; name-one = λ g h e. cc; name-past = λ g j e. absurd (let x : _≡_ {A = ℕ} 0 1 = cc in omega arith) }
 
 pub names-more : {name : ℕ → Object} {i : ℕ} → Names name i → Names name (suc i)
 names-more n = record { name-nil = n .name-nil; name-one = n .name-one; name-past = λ g j e. omega (arith, n .name-past g j e) }
@@ -107,38 +71,28 @@ name-fresh {name} {i} n h e = let x : i < i = n .name-past h i e in omega arith
 
 -- an accepted new at g
 pub names-new : {name : ℕ → Object} {i : ℕ} → Names name i → (g : ℕ) → (g ≡ 0 → ⊥) → Names (upd name g (made i)) (suc i)
-names-new {name} {i} n g nz = record {
-  name-nil = off 0 (λ e. nz (sym e)) ∙ n .name-nil;
-  name-one = λ h k e. one h k (ℕ-discrete h g) (ℕ-discrete k g) e;
-  name-past = λ h j e. past h j (ℕ-discrete h g) e;
-}
-  where
-    f : ℕ → Object
-    f = upd name g (made i)
-
-    here : (h : ℕ) → h ≡ g → f h ≡ made i
-    here h e = ap f e ∙ upd-same name g (made i)
-
-    off : (h : ℕ) → (h ≡ g → ⊥) → f h ≡ name h
-    off h ne = upd-other name g (made i) h ne
-
-    one : (h k : ℕ) → Dec (h ≡ g) → Dec (k ≡ g) → f h ≡ f k → h ≡ k
-    one h k (yes x) (yes y) e = x ∙ sym y
-    one h k (yes x) (no y) e = absurd (name-fresh n k (sym (off k y) ∙ (sym e ∙ here h x)))
-    one h k (no x) (yes y) e = absurd (name-fresh n h (sym (off h x) ∙ (e ∙ here k y)))
-    one h k (no x) (no y) e = n .name-one h k (sym (off h x) ∙ (e ∙ off k y))
-
-    past : (h j : ℕ) → Dec (h ≡ g) → f h ≡ made j → j < suc i
-    past h j (yes x) e = let y : i ≡ j = made-one i j (sym (here h x) ∙ e) in omega arith
-    past h j (no x) e = let y : j < i = n .name-past h j (sym (off h x) ∙ e) in omega arith
+names-new {name} {i} n g nz =
+    let here : (h : ℕ) → h ≡ g → upd name g (made i) h ≡ made i = λ h e. rw e (upd-same name g (made i)) in
+    let off : (h : ℕ) → (h ≡ g → ⊥) → upd name g (made i) h ≡ name h = upd-other name g (made i) in
+    record {
+      name-nil = off 0 (λ e. nz (sym e)) ∙ n .name-nil;
+      name-one = λ h k e. elim (ℕ-discrete h g) [
+        | yes x ↦ elim (ℕ-discrete k g) [ yes y ↦ x ∙ sym y | no y ↦ absurd (name-fresh n k (sym (off k y) ∙ (sym e ∙ here h x))) ]
+        | no x ↦ elim (ℕ-discrete k g) [ yes y ↦ absurd (name-fresh n h (sym (off h x) ∙ (e ∙ here k y))) | no y ↦ n .name-one h k (sym (off h x) ∙ (e ∙ off k y)) ]
+      ];
+      name-past = λ h j e. elim (ℕ-discrete h g) [
+        | yes x ↦ let z : made i ≡ made j = sym (here h x) ∙ e in let y : i ≡ j = cc in omega arith
+        | no x ↦ omega (arith, n .name-past h j (sym (off h x) ∙ e))
+      ];
+    }
 
 pub nil-name : {name : ℕ → Object} {i : ℕ} → Names name i → (g : ℕ) → isNil (name g) ≡ eqb g 0
 unfolding isNil
-nil-name {name} n g = go (ℕ-discrete g 0)
-  where
-    go : Dec (g ≡ 0) → sameObject (name g) (old 0) ≡ eqb g 0
-    go (yes x) = ap (λ z. sameObject z (old 0)) (ap name x ∙ n .name-nil) ∙ (same-refl (old 0) ∙ sym (eq-eqb g 0 x))
-    go (no x) = same-ne (name g) (old 0) (λ e. x (n .name-one g 0 (e ∙ sym (n .name-nil)))) ∙ sym (ne-eqb g 0 x)
+nil-name {name} n g =
+    elim (ℕ-discrete g 0) [
+      | yes x ↦ rw (x, n .name-nil, same-refl (old 0), eq-eqb 0 0 refl)
+      | no x ↦ same-ne (name g) (old 0) (λ e. x (n .name-one g 0 (e ∙ sym (n .name-nil)))) ∙ sym (ne-eqb g 0 x)
+    ]
 
 -- ---- chains
 
@@ -172,25 +126,17 @@ agrees-narrow sub s = record {
 }
 
 pub agrees-either : {P Q : ℕ → Type 0} {name : ℕ → Object} {m : Image} {q : PlainStore} → Agrees P name m q → Agrees Q name m q → Agrees (λ a. P a ⊎ Q a) name m q
-agrees-either {P} {Q} {name} {m} {q} s t = record {
+agrees-either s t = record {
   same-reg = s .same-reg;
   same-owing = s .same-owing;
-  same-size = λ g c. one g (λ g. q .sizeOf (name g) ≡ size m g) (s .same-size g) (t .same-size g) c;
-  same-count = λ g c. one g (λ g. q .linkCount (name g) ≡ links m g) (s .same-count g) (t .same-count g) c;
-  same-link = λ g i c. one g (λ g. i < links m g → q .linkOf (name g) i ≡ name (link m g i)) (s .same-link g i) (t .same-link g i) c;
-  same-level = λ g i c. one g (λ g. i < levels m g → q .levelOf (name g) i ≡ level m g i) (s .same-level g i) (t .same-level g i) c;
+  same-size = λ g c. elim c [ inl x ↦ s .same-size g x | inr x ↦ t .same-size g x ];
+  same-count = λ g c. elim c [ inl x ↦ s .same-count g x | inr x ↦ t .same-count g x ];
+  same-link = λ g i c l. elim c [ inl x ↦ s .same-link g i x l | inr x ↦ t .same-link g i x l ];
+  same-level = λ g i c l. elim c [ inl x ↦ s .same-level g i x l | inr x ↦ t .same-level g i x l ];
 }
-  where
-    one : (g : ℕ) (F : ℕ → Type 0) → (P g → F g) → (Q g → F g) → P g ⊎ Q g → F g
-    one g F a b (inl x) = a x
-    one g F a b (inr x) = b x
 
 -- Where size and number of links of what a chain reaches in m stay, agreement on that is asked in the words of m.
 module _ (m m′ : Image) (head : (g i : ℕ) → Chain m g → i < 2 → word m′ g i ≡ word m g i) where
-  pub size-stays : (g : ℕ) → Chain m g → size m′ g ≡ size m g
-  unfolding size
-  size-stays g c = head g 0 c (omega arith)
-
   pub count-stays : (g : ℕ) → Chain m g → links m′ g ≡ links m g
   unfolding links
   count-stays g c = head g 1 c (omega arith)
@@ -201,14 +147,14 @@ module _ (m m′ : Image) (head : (g i : ℕ) → Chain m g → i < 2 → word m
       → ((g : ℕ) → Chain m g → q .linkCount (name g) ≡ links m g)
       → ((g i : ℕ) → Chain m g → i < links m g → q .linkOf (name g) i ≡ name (link m′ g i))
       → ((g i : ℕ) → Chain m g → i < levels m g → q .levelOf (name g) i ≡ word m′ g (2 + links m g + i)) → Agrees (Chain m) name m′ q
-  unfolding level levels
+  unfolding size level levels
   agrees-renew name q regs owes sizes counts ls vs = record {
     same-reg = regs;
     same-owing = owes;
-    same-size = λ g c. sizes g c ∙ sym (size-stays g c);
+    same-size = λ g c. sizes g c ∙ sym (head g 0 c (omega arith));
     same-count = λ g c. counts g c ∙ sym (count-stays g c);
     same-link = λ g i c l. ls g i c (subst (λ z. i < z) (count-stays g c) l);
-    same-level = λ g i c l. vs g i c (omega (arith, l, size-stays g c, count-stays g c)) ∙ ap (λ z. word m′ g (2 + z + i)) (sym (count-stays g c));
+    same-level = λ g i c l. vs g i c (omega (arith, l, head g 0 c (omega arith), count-stays g c)) ∙ ap (λ z. word m′ g (2 + z + i)) (sym (count-stays g c));
   }
 
 -- ---- steps that change nothing that the plain store has

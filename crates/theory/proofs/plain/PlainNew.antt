@@ -5,7 +5,7 @@ use mathlib.Core.Bool.{not}
 use Prim.Native.Nat.{ℕ, _+_, _*_, _≤_, _<_}
 use native.Mathlib.Omega.{arith}
 use lib.Dec.{eqb}
-use Rattle.model.specs.Image.{Image, word, size, links, link, levels, level, reg, owed, setReg}
+use Rattle.model.specs.Image.{Image, word, links, link, levels, level, reg, owed}
 use Rattle.model.specs.Plain.{Object, old, made, PlainStore, upd, updObject, putReg, putObject}
 use Rattle.model.specs.Claim.{Chain, chain-reg, chain-link}
 use Rattle.model.proofs.Laws.{false≢}
@@ -13,16 +13,13 @@ use Rattle.theory.specs.Same.{Names, Agrees, SameStore, WordsStay}
 use Rattle.theory.specs.New.{NewMade}
 use Rattle.theory.specs.Cycle.{Facts}
 use Rattle.theory.proofs.finish.Safe.{chain-least, chain-start}
-use Rattle.theory.proofs.plain.PlainLaws.{upd-same, upd-other, updObject-same, updObject-other, name-fresh, level-inside, agrees-narrow, agrees-either, agrees-renew, head-stays, link-stays, level-stays, links-in-reach}
+use Rattle.theory.proofs.plain.PlainLaws.{upd-same, upd-other, same-refl, same-ne, name-fresh, names-new, moved-along, level-inside, agrees-narrow, agrees-either, agrees-renew, head-stays, link-stays, level-stays, links-in-reach}
 use Rattle.theory.proofs.plain.PlainWrites.{held-after, regs-agree}
 use Rattle.theory.proofs.new.NewMade.{new-not-nil, new-was-free, new-reg, new-owed}
 
 module _ (m m′ : Image) (f : Facts m) (p r b c g : ℕ) (hp : p < 16) (hr : r < 16) (hc : c + 2 ≤ 4 * b) (o : NewMade m m′ p r b c g) where
   kept : WordsStay m m′
   kept h i k l = o .words-old h i (chain-start m (f .proper) k) l
-
-  not-reached : Chain m g → ⊥
-  not-reached k = false≢ (sym (new-was-free o (f .laid) (omega arith)) ∙ chain-start m (f .proper) k)
 
   new-links : (i : ℕ) → i < links m′ g → link m′ g i ≡ 0
   unfolding link
@@ -39,16 +36,11 @@ module _ (m m′ : Image) (f : Facts m) (p r b c g : ℕ) (hp : p < 16) (hr : r 
   Reached a = (a ≡ g) ⊎ Chain m a
 
   chain-new : {a : ℕ} → Chain m′ a → Reached a
-  chain-new k = chain-least m′ Reached held linked k
-    where
-      held : (u t : ℕ) → u < 16 → t < 16 → (reg m′ u t ≡ 0 → ⊥) → Reached (reg m′ u t)
-      held u t hu ht nz =
-          let e : reg m′ u t ≡ reg (setReg m p r g) u t = new-reg o u t in
-          subst Reached (sym e) (held-after m f p r g hp hr Reached (λ z. inl refl) u t ht (λ z. inr (chain-reg u t hu ht refl z)) (λ z. nz (e ∙ z)))
-
-      linked : (h i : ℕ) → Reached h → i < links m′ h → (link m′ h i ≡ 0 → ⊥) → Reached (link m′ h i)
-      linked h i (inl e) l nz = absurd (nz (ap (λ z. link m′ z i) e ∙ new-links i (subst (λ z. i < links m′ z) e l)))
-      linked h i (inr k) l nz = inr (links-in-reach m f m′ kept h i k l nz)
+  chain-new k =
+      chain-least m′ Reached
+      (λ u t hu ht. moved-along Reached (new-reg o u t) (held-after m f p r g hp hr Reached (λ z. inl refl) u t ht (λ z. inr (chain-reg u t hu ht refl z))))
+      (λ h i c l nz. elim c [ inl e ↦ absurd (nz (rw e (new-links i (rw e at l)))) | inr k ↦ inr (links-in-reach m f m′ kept h i k l nz) ])
+      k
 
   module _ (name : ℕ → Object) (j : ℕ) (ns : Names name j) (q : PlainStore) (s : SameStore name m q) where
     abbrev renamed : ℕ → Object
@@ -56,13 +48,17 @@ module _ (m m′ : Image) (f : Facts m) (p r b c g : ℕ) (hp : p < 16) (hr : r 
 
     -- what a register or a link in reach holds has the name that it had
     name-stays : (h : ℕ) → ((h ≡ 0 → ⊥) → Chain m h) → renamed h ≡ name h
-    name-stays h k = upd-other name g (made j) h (λ e. not-reached (subst (Chain m) e (k (λ z. new-not-nil o (sym e ∙ z)))))
+    name-stays h k =
+        upd-other name g (made j) h (λ e.
+        false≢ (sym (new-was-free o (f .laid) (omega arith)) ∙ chain-start m (f .proper) (subst (Chain m) e (k (λ z. new-not-nil o (sym e ∙ z))))))
 
     at-old : {A : Type 0} (t : Object → A) (v : A) (h : ℕ) → Chain m h → updObject t (made j) v (renamed h) ≡ t (name h)
-    at-old t v h k = ap (updObject t (made j) v) (name-stays h (λ z. k)) ∙ updObject-other t (made j) v (name h) (name-fresh ns h)
+    unfolding updObject
+    at-old t v h k = rw (name-stays h (λ z. k), same-ne (name h) (made j) (name-fresh ns h))
 
     at-new : {A : Type 0} (t : Object → A) (v : A) → updObject t (made j) v (renamed g) ≡ v
-    at-new t v = ap (updObject t (made j) v) (upd-same name g (made j)) ∙ updObject-same t (made j) v
+    unfolding updObject
+    at-new t v = rw (upd-same name g (made j), same-refl (made j))
 
     abbrev q′ : PlainStore
     q′ = putReg (putObject q (made j) b c) p r (made j)
@@ -71,10 +67,9 @@ module _ (m m′ : Image) (f : Facts m) (p r b c g : ℕ) (hp : p < 16) (hr : r 
     unfolding putReg putObject
     regs-after u t hu ht =
         ap (λ z. upd (q .register) p (upd (q .register p) r z) u t) (sym (upd-same name g (made j)))
-        ∙ (regs-agree m f p r g hp hr renamed (q .register) before u t hu ht ∙ ap renamed (sym (new-reg o u t)))
-      where
-        before : (u t : ℕ) → u < 16 → t < 16 → q .register u t ≡ renamed (reg m u t)
-        before u t hu ht = s .same-reg u t hu ht ∙ sym (name-stays (reg m u t) (λ nz. chain-reg u t hu ht refl nz))
+        ∙ (regs-agree m f p r g hp hr renamed (q .register)
+        (λ u t hu ht. s .same-reg u t hu ht ∙ sym (name-stays (reg m u t) (λ nz. chain-reg u t hu ht refl nz))) u t hu ht
+        ∙ ap renamed (sym (new-reg o u t)))
 
     owing-after : (u : ℕ) → u < 16 → q′ .owing u ≡ not (eqb (owed m′ u) 0)
     unfolding putReg putObject
@@ -98,14 +93,11 @@ module _ (m m′ : Image) (f : Facts m) (p r b c g : ℕ) (hp : p < 16) (hr : r 
     agrees-new = record {
       same-reg = regs-after;
       same-owing = owing-after;
-      same-size = λ h e. subst (λ z. q′ .sizeOf (renamed z) ≡ size m′ z) (sym e) (at-new (q .sizeOf) b ∙ sym (o .size-new));
-      same-count = λ h e. subst (λ z. q′ .linkCount (renamed z) ≡ links m′ z) (sym e) (at-new (q .linkCount) c ∙ sym (o .links-new));
-      same-link = λ h i e. subst (λ z. i < links m′ z → q′ .linkOf (renamed z) i ≡ renamed (link m′ z i)) (sym e) (λ l. ap (λ z. z i) (at-new (q .linkOf) (λ x. old 0)) ∙ (sym nil ∙ ap renamed (sym (new-links i l))));
-      same-level = λ h i e. subst (λ z. i < levels m′ z → q′ .levelOf (renamed z) i ≡ level m′ z i) (sym e) (λ l. ap (λ z. z i) (at-new (q .levelOf) (λ x. 0)) ∙ sym (new-levels i l));
+      same-size = λ h e. rw e (at-new (q .sizeOf) b ∙ sym (o .size-new));
+      same-count = λ h e. rw e (at-new (q .linkCount) c ∙ sym (o .links-new));
+      same-link = λ h i e l. rw e (ap (λ z. z i) (at-new (q .linkOf) (λ x. old 0)) ∙ (sym (names-new ns g (new-not-nil o) .name-nil) ∙ ap renamed (sym (new-links i (rw e at l)))));
+      same-level = λ h i e l. rw e (ap (λ z. z i) (at-new (q .levelOf) (λ x. 0)) ∙ sym (new-levels i (rw e at l)));
     }
-      where
-        nil : renamed 0 ≡ old 0
-        nil = upd-other name g (made j) 0 (λ e. new-not-nil o (sym e)) ∙ ns .name-nil
 
     pub same-new : SameStore renamed m′ q′
     same-new = agrees-narrow (λ a k. chain-new k) (agrees-either agrees-new agrees-old)

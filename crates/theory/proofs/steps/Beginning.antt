@@ -6,43 +6,32 @@ use Prim.Native.Nat.{ℕ, suc, _+_, _*_, _≤_, _<_}
 use native.Mathlib.Omega.{arith}
 use lib.ListN.{length, take, drop, length-replicate}
 use Rattle.model.specs.Base.{nth, put, zeros}
-use Rattle.model.specs.Image.{Image, marked, withCards, withPlayers, withGeneral, setScanned, fields-open}
-use Rattle.model.specs.Collect.{scanPlayer, beginCycle}
+use Rattle.model.specs.Image.{Image, marked, withCards, withGeneral, setScanned, fields-open}
+use Rattle.model.specs.Collect.{reachAll, scanPlayer, beginCycle}
 use Rattle.model.proofs.Laws.{false≢, nth-put-same, nth-put-other, length-put, nth-replicate}
 use Rattle.model.proofs.Entries.{nth-drop}
 use Rattle.model.proofs.Bits.{no-bit}
-use Rattle.theory.specs.Cover.{Covered, Cover, owes-by, to-nil, to-marked, is-coming, is-owed}
-use Rattle.theory.specs.Lines.{NilOr, GeneralOk, Start, Lines, Idle, none}
+use Rattle.theory.specs.Cover.{Cover, owes-by, is-coming, is-owed}
+use Rattle.theory.specs.Lines.{NilOr, GeneralOk, Start, Lines, Idle, Undamaged, none}
 use Rattle.theory.proofs.lines.Covering.{same-coming}
 use Rattle.theory.proofs.lines.Lines.{put-players, put-general}
-use Rattle.theory.proofs.steps.Reaching.{each-take, StepStays, reachAll-does, frame}
+use Rattle.theory.proofs.steps.Reaching.{each-take, StepStays, reachAll-does, covered-on}
 use Rattle.theory.proofs.lines.Sections.{scanned-set}
 
 -- ---- scan
 
-scanned-cover : (m : Image) (p : ℕ) → Cover m → Cover (setScanned m p)
-unfolding fields-open
-scanned-cover m p cov g i hg k l = go (cov g i hg k l)
-  where
-    go : Covered m g i → Covered (setScanned m p) g i
-    go (to-nil q) = to-nil q
-    go (to-marked q) = to-marked q
-    go (is-coming d) = is-coming (same-coming m (setScanned m p) refl refl refl g i d)
-    go (is-owed (owes-by q r hq hr ow e)) = is-owed (owes-by q r hq hr (nth-put-other (m .players) (2 * p + 1) (2 * q) 1 (omega arith) ∙ ow) e)
-
-scanned-lines : (m : Image) → Lines m → (p : ℕ) → p < 16 → Lines (setScanned m p)
-unfolding setScanned
-scanned-lines m o p hp = put-players o _ (scanned-set (o .players-ok) p hp)
-
-scanned-frame : (m : Image) (p : ℕ) → frame (setScanned m p) ≡ frame m
-unfolding setScanned withPlayers
-scanned-frame m p = refl
-
 pub scan-does : (m : Image) → Lines m → Cover m → (t p : ℕ) → t < 8 → p < 16 → StepStays m (scanPlayer m t p)
-unfolding scanPlayer
+unfolding scanPlayer fields-open
 scan-does m o cov t p ht hp =
-    let r = reachAll-does m o cov t ht (take 16 (drop (16 * p) (m .regs))) (each-take (NilOr (Start m)) (inl refl) 16 (drop (16 * p) (m .regs)) (λ i. rw (nth-drop (16 * p) (m .regs) i) (o .regs-ok .values (16 * p + i)))) in
-    record { lines = scanned-lines _ (r .lines) p hp; cover = scanned-cover _ p (r .cover); frame-same = scanned-frame _ p ∙ r .frame-same }
+    let n : Image = reachAll m t (take 16 (drop (16 * p) (m .regs))) in
+    let r : StepStays m n = reachAll-does m o cov t ht (take 16 (drop (16 * p) (m .regs)))
+    (each-take (NilOr (Start m)) (inl refl) 16 (drop (16 * p) (m .regs)) (λ i. rw (nth-drop (16 * p) (m .regs) i) (o .regs-ok .values (16 * p + i)))) in
+    record {
+      lines = put-players (r .lines) _ (scanned-set (r .lines .players-ok) p hp);
+      cover = λ g i hg k l. covered-on n (setScanned n p) g i refl (λ a q. q) (λ d. is-coming (same-coming n (setScanned n p) refl refl refl g i d))
+          (λ q r hq hr ow e. is-owed (owes-by q r hq hr (nth-put-other (n .players) (2 * p + 1) (2 * q) 1 (omega arith) ∙ ow) e)) (r .cover g i hg k l);
+      frame-same = r .frame-same;
+    }
 
 -- ---- begin: nothing runs, so nothing is marked, held or entered
 
@@ -75,15 +64,12 @@ running-ok {gs} o v h = record {
   rest = λ i. nth-put-other gs 0 (suc (suc i)) v (omega arith) ∙ o .rest i;
 }
 
-pub record Begun (m′ : Image) : Type 0 where
-  pub lines : Lines m′
-  pub cover : Cover m′
-  pub runs : nth (m′ .general) 0 ≡ 1
-
-pub begin-does : (m : Image) → Lines m → Idle (m .marks) (m .packets) (m .tracers) (m .players) → Begun (beginCycle m)
+pub begin-does : (m : Image) → Lines m → Idle (m .marks) (m .packets) (m .tracers) (m .players) → Undamaged (beginCycle m)
 unfolding beginCycle withCards withGeneral marked
 begin-does m o z = record {
-  lines = put-general (begin-cards o z) _ (running-ok (o .general-ok) 1 (omega arith)) (nth-put-other (m .general) 0 1 1 (omega arith));
+  sound = record {
+    lines = put-general (begin-cards o z) _ (running-ok (o .general-ok) 1 (omega arith)) (nth-put-other (m .general) 0 1 1 (omega arith));
+    idle = λ e. absurd (omega (arith, e, nth-put-same (m .general) 0 1 (omega (arith, o .general-ok .sized))));
+  };
   cover = λ g i hg k l. false≢ (sym (no-bit (m .width) (m .marks) (z .no-marks) g) ∙ k);
-  runs = nth-put-same (m .general) 0 1 (omega (arith, o .general-ok .sized));
 }

@@ -1,13 +1,12 @@
 -- Numbers 3 and 4 as tests of the fields against their limits, for every kind at once; and what a field is where 3, 4 and 5 do not apply.
 use mathlib.Core.Path.{_≡_, refl, sym, ap, _∙_}
-use mathlib.Core.Bool.{Bool, true, false, not, _&&_, _||_}
+use mathlib.Core.Bool.{Bool, true, false, not, _&&_, _||_, and-false}
 use mathlib.Core.List.{[], _∷_}
 use Prim.Native.Nat.{ℕ, zero, suc, _^_, _<_}
 use native.Mathlib.Omega.{arith}
 use lib.Dec.{leb, ltb, eqb}
-use lib.ListN.{getD}
 use lib.Pow.{pow-pos}
-use borrow.Author.Tests.{eqb-true, eq-eqb, ne-eqb, leb-false, lt-leb, not-false}
+use borrow.Author.Tests.{eqb-true, eq-eqb, ne-eqb, leb-false, lt-ltb, lt-leb, not-false}
 use Rattle.model.specs.Base.{some}
 use Rattle.model.specs.Image.{Image, owed}
 use Rattle.model.specs.Records.{Step, Kind, unknown}
@@ -26,24 +25,14 @@ four P a b c d (suc (suc zero)) h = c
 four P a b c d (suc (suc (suc zero))) h = d
 four P a b c d (suc (suc (suc (suc i)))) h = absurd (omega arith)
 
-and-false : (a : Bool) → (a && false) ≡ false
-and-false true = refl
-and-false false = refl
-
--- an unused field that is not 0; a field that reaches its limit
+-- an unused field that is not 0
 abbrev stray : Role → ℕ → Bool
 stray r x = isUnused r && not (eqb x 0)
 
-abbrev over : ℕ → Role → ℕ → Bool
-over k r x = reaches (limit k r) x
-
 module _ (s : Step) (n : Kind) (f : Role → ℕ → Bool) where
-  test-at : (i : ℕ) → i < 4 → getD (fields s f (rowOf n)) i false ≡ f (roleAt n i) (fieldAt s i)
-  unfolding fields roleAt fieldAt
-  test-at = four (λ i. getD (fields s f (rowOf n)) i false ≡ f (roleAt n i) (fieldAt s i)) refl refl refl refl
-
   no-test : some (fields s f (rowOf n)) ≡ false → (i : ℕ) → i < 4 → f (roleAt n i) (fieldAt s i) ≡ false
-  no-test e i h = sym (test-at i h) ∙ some-false (fields s f (rowOf n)) e i
+  unfolding fields roleAt fieldAt
+  no-test e = let d = some-false _ e in four (λ i. f (roleAt n i) (fieldAt s i) ≡ false) (d 0) (d 1) (d 2) (d 3)
 
 -- ---- numbers 3 and 4, with words of w bits and k cards
 
@@ -64,14 +53,6 @@ module _ (w k : ℕ) where
   reaches-by tracer x h = refl
   reaches-by register x h = refl
   reaches-by number x h = sym (ap (λ b. ltb 0 (2 ^ w) && b) (lt-leb (2 ^ w) x h) ∙ and-false (ltb 0 (2 ^ w)))
-
-  within : (r : Role) (x : ℕ) → x < 2 ^ w → reaches (limit k r) x ≡ false → 0 < bound w k r → x < bound w k r
-  unfolding reaches limit bound
-  within unused x h e l = absurd (omega arith)
-  within player x h e l = leb-false 16 x e
-  within tracer x h e l = leb-false 8 x e
-  within register x h e l = leb-false 16 x e
-  within number x h e l = h
 
   module _ (s : Step) (n : Kind) where
     -- 3, as one test of the kind and four fields
@@ -99,7 +80,9 @@ module _ (w k : ℕ) where
 
     pub field-below : offDesk s k n ≡ false → (i : ℕ) → i < 4 → fieldAt s i < 2 ^ w → 0 < boundAt w k n i → fieldAt s i < boundAt w k n i
     unfolding offDesk boundAt
-    field-below e i h f = within (roleAt n i) (fieldAt s i) f (no-test s n (over k) e i h)
+    field-below e i h f l =
+        let t = sym (reaches-by (roleAt n i) (fieldAt s i) f) ∙ no-test s n (λ r x. reaches (limit k r) x) e i h in
+        leb-false _ _ (rw (lt-ltb 0 (bound w k (roleAt n i)) l) at t)
 
 -- ---- number 5
 

@@ -1,5 +1,5 @@
 -- Load, hand, drop, barrier, store and write keep "undamaged".
-use mathlib.Core.Path.{_≡_, sym, subst, _∙_, refl}
+use mathlib.Core.Path.{_≡_, sym, _∙_, refl}
 use mathlib.Core.Logic.{inl, inr}
 use mathlib.Core.Bool.{true}
 use mathlib.Core.List.{List}
@@ -7,16 +7,15 @@ use Prim.Native.Nat.{ℕ, suc, _+_, _*_, _/_, _≤_, _<_}
 use native.Mathlib.Decide.{ℕ-discrete}
 use native.Mathlib.Omega.{arith}
 use lib.ListN.{length}
-use Rattle.model.specs.Base.{nth, put}
-use Rattle.model.specs.Image.{Image, granules, word, isStart, marked, size, links, link, reg, owed, withHeap, withCards, withRegs, withPlayers, setWord, setState, dirtyCard, setReg, setOwed, fields-open}
+use Rattle.model.specs.Base.{put}
+use Rattle.model.specs.Image.{Image, granules, word, isStart, marked, size, links, link, reg, owed, withRegs, setWord, dirtyCard, setReg, setOwed, fields-open}
 use Rattle.model.proofs.Laws.{nth-put-same, nth-put-other}
-use Rattle.theory.specs.Cover.{Covered, Cover, on-dirty, owes-by, to-nil, to-marked, is-coming, is-owed}
-use Rattle.theory.specs.Lines.{NilOr, Start, Lines, Idle, Sound, Undamaged}
+use Rattle.theory.specs.Cover.{on-dirty, owes-by, is-coming, is-owed}
+use Rattle.theory.specs.Lines.{NilOr, Start, Lines, Idle, Undamaged}
 use Rattle.theory.proofs.lines.Covering.{dirty-same, same-coming}
 use Rattle.theory.proofs.heap.Facts.{laid-of, reg-value}
 use Rattle.theory.proofs.lines.Lines.{put-regs, put-players}
-use Rattle.theory.proofs.lines.Packets.{Wrote}
-use Rattle.theory.proofs.steps.Reaching.{dirty-coming, dirty-lines}
+use Rattle.theory.proofs.steps.Reaching.{dirty-coming, dirty-lines, covered-on}
 use Rattle.theory.proofs.lines.Sections.{owed-set, reg-ok}
 use Rattle.theory.proofs.steps.Written.{links-written, link-written, word-lines}
 
@@ -26,16 +25,12 @@ pub reg-keeps : (m : Image) → Undamaged m → (p r v : ℕ) → p < 16 → r <
 unfolding setReg withRegs granules marked links link word owed reg
 reg-keeps m u p r v hp hr ow ok = record {
   sound = record { lines = put-regs (u .sound .lines) _ (reg-ok (u .sound .lines .regs-ok) (16 * p + r) v (omega arith) ok); idle = u .sound .idle };
-  cover = λ g i hg k l. go g i (u .cover g i hg k l);
+  cover = λ g i hg k l. covered-on m (setReg m p r v) g i refl (λ a q. q) (λ c. is-coming (same-coming m (setReg m p r v) refl refl refl g i c))
+      (λ q s hq hs o e.
+      let ne : q ≡ p → ⊥ = λ x. omega (arith, rw x at o, ow) in
+      is-owed (owes-by q s hq hs o (nth-put-other (m .regs) (16 * p + r) (16 * q + s) v (omega arith) ∙ e)))
+      (u .cover g i hg k l);
 }
-  where
-    go : (g i : ℕ) → Covered m g i → Covered (setReg m p r v) g i
-    go g i (to-nil q) = to-nil q
-    go g i (to-marked q) = to-marked q
-    go g i (is-coming c) = is-coming (same-coming m (setReg m p r v) refl refl refl g i c)
-    go g i (is-owed (owes-by q s hq hs o e)) =
-        let ne : q ≡ p → ⊥ = λ x. omega (arith, rw x at o, ow) in
-        is-owed (owes-by q s hq hs o (nth-put-other (m .regs) (16 * p + r) (16 * q + s) v (omega arith) ∙ e))
 
 -- ---- the barrier
 
@@ -47,109 +42,70 @@ unfolding setOwed
 owed-lines o p v hp hv = put-players o _ (owed-set (o .players-ok) p v hp hv)
 
 -- the owed card is dirtied, and nothing is owed
-abbrev barred : Image → ℕ → ℕ → Image
-barred m p c = setOwed (dirtyCard m c) p 0
-
-barrier-cover : (m : Image) (p c : ℕ) → owed m p ≡ suc c → c < length (m .cards) → Cover m → Cover (barred m p c)
-unfolding fields-open
-barrier-cover m p c o h cov g i hg k l = go (cov g i hg k l)
-  where
-    by : (q r : ℕ) → q < 16 → r < 16 → owed m q ≡ suc (g / 64) → reg m q r ≡ link m g i → Dec (q ≡ p) → Covered (barred m p c) g i
-    by q r hq hr ow e (yes s) = let eq : g / 64 ≡ c = omega (arith, rw s at ow, o) in is-coming (on-dirty (rw eq (dirty-same m c h)))
-    by q r hq hr ow e (no s) = is-owed (owes-by q r hq hr (rw (nth-put-other (m .players) (2 * p) (2 * q) 0 (omega arith)) ow) e)
-
-    go : Covered m g i → Covered (barred m p c) g i
-    go (to-nil q) = to-nil q
-    go (to-marked q) = to-marked q
-    go (is-coming d) = is-coming (same-coming (dirtyCard m c) (barred m p c) refl refl refl g i (dirty-coming m c g i h d))
-    go (is-owed (owes-by q r hq hr ow e)) = by q r hq hr ow e (ℕ-discrete q p)
-
 pub barrier-keeps : (m : Image) → Undamaged m → (p c : ℕ) → p < 16 → owed m p ≡ suc c → Undamaged (setOwed (dirtyCard m c) p 0)
-unfolding setOwed withPlayers dirtyCard setState withCards owed
-barrier-keeps m u p c hp e = record {
-  sound = record { lines = owed-lines (dirty-lines (u .sound .lines) c hc) p 0 hp (omega arith); idle = λ z. still-idle (u .sound .idle z) p 0 };
-  cover = barrier-cover m p c e (rw (u .sound .lines .cards-ok .sized) hc) (u .cover);
-}
-  where
-    hc : c < m .k
-    hc = omega (arith, e, u .sound .lines .players-ok .owed-ok p)
+unfolding fields-open
+barrier-keeps m u p c hp e =
+    let m₁ : Image = dirtyCard m c in
+    let m₂ : Image = setOwed m₁ p 0 in
+    let hc : c < m .k = omega (arith, e, u .sound .lines .players-ok .owed-ok p) in
+    let hl : c < length (m .cards) = rw (u .sound .lines .cards-ok .sized) hc in
+    record {
+      sound = record { lines = owed-lines (dirty-lines (u .sound .lines) c hc) p 0 hp (omega arith); idle = λ z. still-idle (u .sound .idle z) p 0 };
+      cover = λ g i hg k l. covered-on m m₂ g i refl (λ a q. q) (λ d. is-coming (same-coming m₁ m₂ refl refl refl g i (dirty-coming m c g i hl d)))
+          (λ q r hq hr ow x. elim (ℕ-discrete q p) [
+            | yes s ↦ let eq : g / 64 ≡ c = omega (arith, rw s at ow, e) in is-coming (on-dirty (rw eq (dirty-same m c hl)))
+            | no s ↦ is-owed (owes-by q r hq hr (rw (nth-put-other (m .players) (2 * p) (2 * q) 0 (omega arith)) ow) x)
+          ])
+          (u .cover g i hg k l);
+    }
 
 -- ---- store: link b of g gets register c of player p, who owes nothing
-
-abbrev stored : Image → ℕ → ℕ → ℕ → ℕ → Image
-stored m p g b c = setOwed (setWord m g (2 + b) (reg m p c)) p (suc (g / 64))
-
-store-cover : (m : Image) → Lines m → (p g b c : ℕ) → p < 16 → c < 16 → owed m p ≡ 0 → isStart m g ≡ true → b < links m g → 2 + b < 4 * size m g → Cover m → Cover (stored m p g b c)
-unfolding fields-open
-store-cover m o p g b c hp hc ow sg hb hx cov h i hh k l = go (link-written o g (2 + b) (reg m p c) sg (omega arith) hx h i sh li) (cov h i hh k li)
-  where
-    sh : isStart m h ≡ true
-    sh = o .marks-ok .on-starts h k .1
-
-    li : i < links m h
-    li = rw (links-written o g (2 + b) (reg m p c) sg (omega arith) hx h sh) at l
-
-    go : Wrote ((h ≡ g) × (2 + i ≡ 2 + b)) (link (setWord m g (2 + b) (reg m p c)) h i) (reg m p c) (link m h i) → Covered m h i → Covered (stored m p g b c) h i
-    go (inl ((e, e′), w)) q = is-owed (owes-by p c hp hc (rw e (nth-put-same (m .players) (2 * p) (suc (g / 64)) (omega (arith, o .players-ok .sized)))) (sym w))
-    go (inr (n, w)) (to-nil q) = to-nil (w ∙ q)
-    go (inr (n, w)) (to-marked q) = to-marked (subst (λ x. marked m x ≡ true) (sym w) q)
-    go (inr (n, w)) (is-coming d) = is-coming (same-coming m (stored m p g b c) refl refl refl h i d)
-    go (inr (n, w)) (is-owed (owes-by q r hq hr x e)) =
-        let ne : q ≡ p → ⊥ = λ s. omega (arith, rw s at x, ow) in
-        is-owed (owes-by q r hq hr (nth-put-other (m .players) (2 * p) (2 * q) (suc (g / 64)) (omega arith) ∙ x) (e ∙ sym w))
-
-card-in : (m : Image) (g x v : ℕ) → g < 64 * m .k → suc (g / 64) ≤ (setWord m g x v) .k
-unfolding setWord withHeap
-card-in m g x v h = omega arith
-
-store-idle : (m : Image) → Sound m → (p g b c : ℕ) → let m′ = stored m p g b c in nth (m′ .general) 0 ≡ 0 → Idle (m′ .marks) (m′ .packets) (m′ .tracers) (m′ .players)
-unfolding setOwed withPlayers setWord withHeap
-store-idle m s p g b c z = still-idle (s .idle z) p (suc (g / 64))
 
 pub is-start : (m : Image) (g : ℕ) → Start m g → isStart m g ≡ true
 unfolding isStart
 is-start m g s = s .1
 
 pub store-keeps : (m : Image) → Undamaged m → (p g b c : ℕ) → p < 16 → c < 16 → owed m p ≡ 0 → Start m g → b < links m g → Undamaged (setOwed (setWord m g (2 + b) (reg m p c)) p (suc (g / 64)))
-store-keeps m u p g b c hp hc ow sg hb = record {
-  sound = record { lines = owed-lines (word-lines o g (2 + b) (reg m p c) s (omega arith) hx (λ _. reg-value o p c)) p (suc (g / 64)) hp (card-in m g (2 + b) (reg m p c) (sg .0)); idle = store-idle m (u .sound) p g b c };
-  cover = store-cover m o p g b c hp hc ow s hb hx (u .cover);
-}
-  where
-    o : Lines m
-    o = u .sound .lines
-
-    s : isStart m g ≡ true
-    s = is-start m g sg
-
-    hx : 2 + b < 4 * size m g
-    hx = omega (arith, laid-of o .inside g s)
+unfolding fields-open
+store-keeps m u p g b c hp hc ow sg hb =
+    let o = u .sound .lines in
+    let m₁ : Image = setOwed (setWord m g (2 + b) (reg m p c)) p (suc (g / 64)) in
+    let hx : 2 + b < 4 * size m g = omega (arith, laid-of o .inside g (sg .1)) in
+    let card : suc (g / 64) ≤ m .k = omega (arith, sg .0) in
+    record {
+      sound = record {
+        lines = owed-lines (word-lines o g (2 + b) (reg m p c) (sg .1) (omega arith) hx (λ _. reg-value o p c)) p (suc (g / 64)) hp card;
+        idle = λ z. still-idle (u .sound .idle z) p (suc (g / 64));
+      };
+      cover = λ h i hh k l.
+          let sh = o .marks-ok .on-starts h k .1 in
+          let li : i < links m h = rw (links-written o g (2 + b) (reg m p c) (sg .1) (omega arith) hx h sh) at l in
+          elim (link-written o g (2 + b) (reg m p c) (sg .1) (omega arith) hx h i sh li) [
+            | inl ((e, e′), w) ↦ is-owed (owes-by p c hp hc (rw e (nth-put-same (m .players) (2 * p) (suc (g / 64)) (omega (arith, o .players-ok .sized)))) (sym w))
+            | inr (n, w) ↦ covered-on m m₁ h i w (λ a q. q) (λ d. is-coming (same-coming m m₁ refl refl refl h i d))
+                (λ q r hq hr x e.
+                let ne : q ≡ p → ⊥ = λ s. omega (arith, rw s at x, ow) in
+                is-owed (owes-by q r hq hr (nth-put-other (m .players) (2 * p) (2 * q) (suc (g / 64)) (omega arith) ∙ x) (e ∙ sym w)))
+                (u .cover h i hh k li)
+          ];
+    }
 
 -- ---- write: a level word of g
 
-write-cover : (m : Image) → Lines m → (g x v : ℕ) → isStart m g ≡ true → 2 + links m g ≤ x → x < 4 * size m g → Cover m → Cover (setWord m g x v)
-unfolding fields-open
-write-cover m o g x v sg hx hx′ cov h i hh k l = go (link-written o g x v sg (omega arith) hx′ h i sh li) (cov h i hh k li)
-  where
-    sh : isStart m h ≡ true
-    sh = o .marks-ok .on-starts h k .1
-
-    li : i < links m h
-    li = rw (links-written o g x v sg (omega arith) hx′ h sh) at l
-
-    go : Wrote ((h ≡ g) × (2 + i ≡ x)) (link (setWord m g x v) h i) v (link m h i) → Covered m h i → Covered (setWord m g x v) h i
-    go (inl ((e, e′), w)) q = absurd (omega (arith, subst (λ z. i < links m z) e li))
-    go (inr (n, w)) (to-nil q) = to-nil (w ∙ q)
-    go (inr (n, w)) (to-marked q) = to-marked (subst (λ y. marked m y ≡ true) (sym w) q)
-    go (inr (n, w)) (is-coming d) = is-coming (same-coming m (setWord m g x v) refl refl refl h i d)
-    go (inr (n, w)) (is-owed (owes-by q r hq hr y e)) = is-owed (owes-by q r hq hr y (e ∙ sym w))
-
-write-idle : (m : Image) → Sound m → (g x v : ℕ) → let m′ = setWord m g x v in nth (m′ .general) 0 ≡ 0 → Idle (m′ .marks) (m′ .packets) (m′ .tracers) (m′ .players)
-unfolding setWord withHeap
-write-idle m s g x v z = s .idle z
-
 pub write-keeps : (m : Image) → Undamaged m → (g b v : ℕ) → Start m g → 2 + links m g + b < 4 * size m g → Undamaged (setWord m g (2 + links m g + b) v)
-write-keeps m u g b v sg hb = record {
-  sound = record { lines = word-lines (u .sound .lines) g (2 + links m g + b) v (is-start m g sg) (omega arith) hb (λ h. absurd (omega arith)); idle = write-idle m (u .sound) g (2 + links m g + b) v };
-  cover = write-cover m (u .sound .lines) g (2 + links m g + b) v (is-start m g sg) (omega arith) hb (u .cover);
-}
+unfolding fields-open
+write-keeps m u g b v sg hb =
+    let o = u .sound .lines in
+    let x : ℕ = 2 + links m g + b in
+    let m₁ : Image = setWord m g x v in
+    record {
+      sound = record { lines = word-lines o g x v (sg .1) (omega arith) hb (λ h. absurd (omega arith)); idle = u .sound .idle };
+      cover = λ h i hh k l.
+          let sh = o .marks-ok .on-starts h k .1 in
+          let li : i < links m h = rw (links-written o g x v (sg .1) (omega arith) hb h sh) at l in
+          elim (link-written o g x v (sg .1) (omega arith) hb h i sh li) [
+            | inl ((e, e′), w) ↦ absurd (omega (arith, rw e at li))
+            | inr (n, w) ↦ covered-on m m₁ h i w (λ a q. q) (λ d. is-coming (same-coming m m₁ refl refl refl h i d))
+                (λ q r hq hr y e. is-owed (owes-by q r hq hr y (e ∙ sym w))) (u .cover h i hh k li)
+          ];
+    }

@@ -1,116 +1,82 @@
 -- Numbers 9 and 11 over steps: each is given exactly where document 01's condition holds, and else the step is accepted.
 use mathlib.Core.Path.{_≡_, refl, sym, ap, _∙_}
-use mathlib.Core.Logic.{_⊎_, inl, inr}
-use mathlib.Core.Bool.{Bool, true, false, not, cond, _||_}
-use mathlib.Core.List.{[], _∷_}
-use Prim.Native.Nat.{ℕ, zero, suc, _*_, _-_, _≤_, _<_}
+use mathlib.Core.Logic.{inl, inr}
+use mathlib.Core.Bool.{Bool, true, false, not, and-true, and-false}
+use Prim.Native.Nat.{ℕ, suc, _*_, _-_, _≤_, _<_}
 use native.Mathlib.Decide.{ℕ-discrete}
 use native.Mathlib.Omega.{arith}
-use lib.Dec.{eqb, ltb}
-use borrow.Author.Tests.{eqb-true, eqb-false, eq-eqb, ne-eqb, ltb-true, lt-ltb, not-true, not-false}
-use Rattle.model.specs.Base.{some, first, lowest}
-use Rattle.model.specs.Image.{Image, state, count, input, output, owed, scanned, running}
+use lib.Dec.{eqb}
+use borrow.Author.Tests.{eqb-true, eqb-false, eq-eqb, ne-eqb, ltb-true, ltb-false, le-ltb, not-true, not-false}
+use Rattle.model.specs.Base.{every, first, lowest}
+use Rattle.model.specs.Image.{Image, count, owed, scanned}
 use Rattle.model.specs.Records.{Step, new, barrier, scan, trace, clean, kindOf}
 use Rattle.model.specs.Mutate.{roomFor}
 use Rattle.model.specs.Collect.{held, fullest, hasEntries, traceLine, lowestDirty, cleanLine}
-use Rattle.model.specs.Steps.{someSet, noRoom, refusal, accept, act, step, numbers-open}
-use Rattle.model.proofs.Laws.{false≢, some-use, some-nil, some-make, every-use, every-cons, every-nil, any-use, any-make, best-ok, best-none, first-none, not-make}
-use Rattle.theory.specs.Heap.{HeapFilled, HeapSized}
+use Rattle.model.specs.Steps.{noRoom, refusal, accept, act, step, numbers-open}
+use Rattle.model.proofs.Laws.{false≢, some-use, some-nil, some-make, every-use, any-use, any-make, best-ok, best-none, first-none, not-make}
 use Rattle.theory.specs.Lines.{Undamaged}
 use Rattle.theory.specs.Pieces.{Stretch}
 use Rattle.theory.specs.Numbers.{RefusedWhere, GoodNew, GoodBarrier, GoodScan, GoodTracer, NoEntries, InPool, NoTraceLine, NoCleanLine}
 use Rattle.theory.proofs.heap.Facts.{heap-filled-of, heap-sized-of}
 use Rattle.theory.proofs.new.Room.{room-stretch, room-lowest, no-room}
-use Rattle.theory.proofs.steps.Steps.{step-number, line, accepted, good-size}
+use Rattle.theory.proofs.steps.Steps.{zero-or-suc, step-number, line, accepted, good-size}
 
 -- ---- from the test of one line to the number
 
 -- n is given where b passes, and else 0; b passes exactly where P holds
-refused-where : (m : Image) (s : Step) (n : ℕ) {P : Type 0} (b : Bool) → (step m s) .number ≡ cond b (suc n) 0 → (b ≡ true → P) → (P → b ≡ true) → RefusedWhere m s (suc n) P
-refused-where m s n {P} b e f g = record { refused-if = λ p. e ∙ ap (λ x. cond x (suc n) 0) (g p); only-if = λ q. f (is b (sym e ∙ q)); else-accepted = λ np. e ∙ no b (λ t. np (f t)) }
-  where
-    is : (b : Bool) → cond b (suc n) 0 ≡ suc n → b ≡ true
-    is true q = refl
-    is false q = absurd (omega arith)
-
-    no : (b : Bool) → (b ≡ true → ⊥) → cond b (suc n) 0 ≡ 0
-    no true h = absurd (h refl)
-    no false h = refl
-
--- of all lines, only 11 can apply; or only 9
-last-line : (b : Bool) → first 3 (false ∷ false ∷ false ∷ false ∷ false ∷ false ∷ false ∷ false ∷ b ∷ []) ≡ cond b 11 0
-unfolding first
-last-line true = refl
-last-line false = refl
-
-room-line : (b : Bool) → first 3 (false ∷ false ∷ false ∷ false ∷ false ∷ false ∷ b ∷ false ∷ false ∷ []) ≡ cond b 9 0
-unfolding first
-room-line true = refl
-room-line false = refl
-
--- a field that is at most b
-at-most : (b x : ℕ) → x < suc b → ltb b x ≡ false
-at-most b x h = not-true _ (not-make (ltb b x) (λ e. omega (arith, ltb-true b x e)))
+refused-where : (m : Image) (s : Step) (n : ℕ) {P : Type 0} (b : Bool) → (step m s) .number ≡ elim b [ true ↦ suc n | false ↦ 0 ]
+    → (b ≡ true → P) → (P → b ≡ true) → RefusedWhere m s (suc n) P
+refused-where m s n true e f g = record { refused-if = λ p. e; only-if = λ q. f refl; else-accepted = λ np. absurd (np (f refl)) }
+refused-where m s n false e f g = record { refused-if = λ p. false≢ (g p); only-if = λ q. absurd (omega arith); else-accepted = λ np. e }
 
 -- ---- 9: "no b neighbouring granules free"
 
 module _ (m : Image) (s : Step) (u : Undamaged m) (k : kindOf (s .kind) ≡ new) where
-  new-number : GoodNew m s → (step m s) .number ≡ cond (eqb ((roomFor m (s .b)) .run) 0) 9 0
-  unfolding numbers-open
-  new-number f =
-      step-number m s k
-      ∙ (rw (
-        at-most 15 (s .who) (f .player),
-        at-most 15 (s .a) (f .register),
-        eq-eqb (owed m (s .who)) 0 (f .owes-none),
-        ne-eqb (s .b) 0 (λ z. omega (arith, f .some-granules)),
-        at-most 1024 (s .b) (omega (arith, f .few-granules)),
-        at-most (4 * s .b - 2) (s .c) (omega (arith, f .few-links)),
-      )
-      (room-line (eqb ((roomFor m (s .b)) .run) 0)))
-
   -- number 9 exactly where no stretch of b unused granules starts anywhere
   pub no-room-number : GoodNew m s → RefusedWhere m s 9 ((v : ℕ) → Stretch m (s .b) v → ⊥)
+  unfolding numbers-open first
   no-room-number f =
       let r = no-room m (s .b) (heap-filled-of (u .sound .lines)) (heap-sized-of (u .sound .lines)) (f .some-granules) in
-      refused-where m s 8 (eqb ((roomFor m (s .b)) .run) 0) (new-number f) (λ e. r .0 (eqb-true _ _ e)) (λ p. eq-eqb _ _ (r .1 p))
+      refused-where m s 8 (eqb ((roomFor m (s .b)) .run) 0)
+      (step-number m s k
+      ∙ (rw (
+        le-ltb 15 (s .who) (omega arith),
+        le-ltb 15 (s .a) (omega arith),
+        eq-eqb (owed m (s .who)) 0 (f .owes-none),
+        ne-eqb (s .b) 0 (λ z. omega arith),
+        le-ltb 1024 (s .b) (omega arith),
+        le-ltb (4 * s .b - 2) (s .c) (omega arith),
+      )))
+      (λ e. r .0 (eqb-true _ _ e)) (λ p. eq-eqb _ _ (r .1 p))
 
   -- the value of an accepted new is the lowest stretch
   pub room-value : (step m s) .number ≡ 0 → Stretch m (s .b) ((step m s) .value) × ((v : ℕ) → Stretch m (s .b) v → (step m s) .value ≤ v)
-  unfolding noRoom
-  room-value e = go ((roomFor m (s .b)) .run) refl (eqb-false _ _ (line m s new r 6))
-    where
-      r : refusal m s new ≡ 0
-      r = sym (step-number m s k) ∙ e
-
-      o : HeapFilled m
-      o = heap-filled-of (u .sound .lines)
-
-      z : HeapSized m
-      z = heap-sized-of (u .sound .lines)
-
-      value-is : (step m s) .value ≡ (roomFor m (s .b)) .run
-      value-is = ap (λ d. d .value) (accepted m s k r) ∙ (unfold act accept in refl)
-
-      go : (g : ℕ) → (roomFor m (s .b)) .run ≡ g → ((roomFor m (s .b)) .run ≡ 0 → ⊥) → Stretch m (s .b) ((step m s) .value) × ((v : ℕ) → Stretch m (s .b) v → (step m s) .value ≤ v)
-      go zero q nz = absurd (nz q)
-      go (suc g) q nz = rw (value-is, q) (room-stretch m (s .b) o z g q, room-lowest m (s .b) o z (good-size s (line m s new r 5) .0) g q)
+  unfolding noRoom act accept
+  room-value e =
+      let r : refusal m s new ≡ 0 = sym (step-number m s k) ∙ e in
+      let o = heap-filled-of (u .sound .lines) in
+      let z = heap-sized-of (u .sound .lines) in
+      let value-is : (step m s) .value ≡ (roomFor m (s .b)) .run = ap (λ d. d .value) (accepted m s k r) in
+      elim (zero-or-suc ((roomFor m (s .b)) .run)) [
+        | inl q ↦ absurd (eqb-false _ _ (line m s new r 6) q)
+        | inr (g, q) ↦ rw (value-is, q) (room-stretch m (s .b) o z g q, room-lowest m (s .b) o z (good-size s (line m s new r 5) .0) g q)
+      ]
 
 -- ---- 11: "barrier with none owed; player scanned already"
 
 module _ (m : Image) (s : Step) where
   pub barrier-nothing : kindOf (s .kind) ≡ barrier → GoodBarrier s → RefusedWhere m s 11 (owed m (s .who) ≡ 0)
-  unfolding numbers-open
+  unfolding numbers-open first
   barrier-nothing k f =
       refused-where m s 10 (eqb (owed m (s .who)) 0)
-      (step-number m s k ∙ (rw (f .no-fields .0, f .no-fields .1, f .no-fields .2, at-most 15 (s .who) (f .player)) (last-line (eqb (owed m (s .who)) 0))))
+      (step-number m s k ∙ (rw (f .no-fields .0, f .no-fields .1, f .no-fields .2, le-ltb 15 (s .who) (omega arith))))
       (λ e. eqb-true _ _ e) (λ p. eq-eqb _ _ p)
 
   pub scan-nothing : kindOf (s .kind) ≡ scan → GoodScan m s → RefusedWhere m s 11 (scanned m (s .a) ≡ 1)
-  unfolding numbers-open
+  unfolding numbers-open first
   scan-nothing k f =
       refused-where m s 10 (eqb (scanned m (s .a)) 1)
-      (step-number m s k ∙ (rw (f .no-fields .0, f .no-fields .1, at-most 7 (s .who) (f .tracer), at-most 15 (s .a) (f .player), f .in-cycle) (last-line (eqb (scanned m (s .a)) 1))))
+      (step-number m s k ∙ (rw (f .no-fields .0, f .no-fields .1, le-ltb 7 (s .who) (omega arith), le-ltb 15 (s .a) (omega arith), f .in-cycle)))
       (λ e. eqb-true _ _ e) (λ p. eq-eqb _ _ p)
 
 -- ---- 11: "trace or clean where no line applies"
@@ -118,21 +84,12 @@ module _ (m : Image) (s : Step) where
 module _ (m : Image) where
   -- a test that fails: the packet is absent or empty
   entries-none : (x : ℕ) → hasEntries m x ≡ false → NoEntries m x
-  unfolding hasEntries
-  entries-none x e = go (ℕ-discrete x 0) (ℕ-discrete (count m (x - 1)) 0)
-    where
-      go : Dec (x ≡ 0) → Dec (count m (x - 1) ≡ 0) → NoEntries m x
-      go (yes z) d = inl z
-      go (no z) (yes c) = inr c
-      go (no z) (no c) = false≢ (sym e ∙ every-cons _ _ (ap not (ne-eqb x 0 z)) (every-cons _ _ (lt-ltb 0 (count m (x - 1)) (omega arith)) every-nil))
+  unfolding hasEntries every
+  entries-none x e = elim (ℕ-discrete x 0) [ yes z ↦ inl z | no z ↦ inr (omega (arith, ltb-false 0 (count m (x - 1)) (rw (ne-eqb x 0 z, and-true) at e))) ]
 
   none-entries : (x : ℕ) → NoEntries m x → hasEntries m x ≡ false
-  unfolding hasEntries
-  none-entries x n = not-true (hasEntries m x) (not-make (hasEntries m x) (λ e. go n (eqb-false x 0 (not-true _ (every-use _ e 0))) (ltb-true 0 (count m (x - 1)) (every-use _ e 1))))
-    where
-      go : NoEntries m x → (x ≡ 0 → ⊥) → 0 < count m (x - 1) → ⊥
-      go (inl z) nz l = nz z
-      go (inr c) nz l = omega arith
+  unfolding hasEntries every
+  none-entries x n = elim n [ inl z ↦ rw z | inr c ↦ rw (c, and-false) ]
 
   -- the pool: packets that no tracer holds
   held-none : (p : ℕ) → held m p ≡ false → InPool m p
@@ -141,42 +98,31 @@ module _ (m : Image) where
 
   none-held : (p : ℕ) → InPool m p → held m p ≡ false
   unfolding held
-  none-held p f = not-true (held m p) (not-make (held m p) (λ e. let r = any-use 8 _ e in go (r .0) (f (r .0) (r .1)) (some-use _ _ (r .2))))
-    where
-      go : (t : ℕ) → (input m t ≡ suc p → ⊥) × (output m t ≡ suc p → ⊥) → (eqb (input m t) (suc p) ≡ true) ⊎ (some (eqb (output m t) (suc p) ∷ []) ≡ true) → ⊥
-      go t n (inl q) = n .0 (eqb-true _ _ q)
-      go t n (inr q) = two (some-use _ _ q)
-        where
-          two : (eqb (output m t) (suc p) ≡ true) ⊎ (some [] ≡ true) → ⊥
-          two (inl r) = n .1 (eqb-true _ _ r)
-          two (inr r) = some-nil r
-
-  pool-none : fullest m ≡ 0 → (p : ℕ) → p < 32 → InPool m p → count m p ≡ 0
-  unfolding fullest
-  pool-none e p h f = go (ℕ-discrete (count m p) 0)
-    where
-      go : Dec (count m p ≡ 0) → count m p ≡ 0
-      go (yes c) = c
-      go (no c) = false≢ (sym (best-none _ _ 32 e p h) ∙ every-cons _ _ (ap not (none-held p f)) (every-cons _ _ (lt-ltb 0 (count m p) (omega arith)) every-nil))
+  none-held p f =
+      not-true (held m p) (not-make (held m p) (λ e.
+      let r = any-use 8 _ e in
+      let n = f (r .0) (r .1) in
+      elim (some-use _ _ (r .2)) [ inl q ↦ n .0 (eqb-true _ _ q) | inr q ↦ elim (some-use _ _ q) [ inl x ↦ n .1 (eqb-true _ _ x) | inr x ↦ some-nil x ] ]))
 
   none-pool : ((p : ℕ) → p < 32 → InPool m p → count m p ≡ 0) → fullest m ≡ 0
   unfolding fullest
-  none-pool f = go (fullest m) refl
-    where
-      go : (x : ℕ) → fullest m ≡ x → x ≡ 0
-      go zero e = refl
-      go (suc p) e = let r = best-ok _ _ 32 p e in absurd (omega (arith, f p (r .0) (held-none p (not-true _ (every-use _ (r .1) 0))), ltb-true 0 (count m p) (every-use _ (r .1) 1)))
+  none-pool f =
+      elim (zero-or-suc (fullest m)) [
+        | inl e ↦ e
+        | inr (p, e) ↦ let r = best-ok _ _ 32 p e in
+            absurd (omega (arith, f p (r .0) (held-none p (not-true _ (every-use _ (r .1) 0))), ltb-true 0 (count m p) (every-use _ (r .1) 1)))
+      ]
 
   -- a word that is held or not
   none-held-word : (x : ℕ) → not (eqb x 0) ≡ false → x ≡ 0
   none-held-word x e = eqb-true x 0 (not-false _ e)
 
   trace-none : (t : ℕ) → traceLine m t ≡ 0 → NoTraceLine m t
-  unfolding traceLine
+  unfolding traceLine fullest every
   trace-none t e = record {
     hand-empty = none-held-word _ (first-none 0 _ e 0);
     no-input = entries-none _ (first-none 0 _ e 1);
-    no-pool = pool-none (none-held-word _ (first-none 0 _ e 2));
+    no-pool = λ p h f. omega (arith, ltb-false 0 (count m p) (rw (none-held p f, and-true) at (best-none _ _ 32 (none-held-word _ (first-none 0 _ e 2)) p h)));
     no-output = entries-none _ (first-none 0 _ e 3);
   }
 
@@ -192,28 +138,25 @@ module _ (m : Image) where
     none-dirty = λ c h q. false≢ (sym (best-none _ _ (m .k) (none-held-word _ (first-none 0 _ e 2)) c h) ∙ eq-eqb _ _ q);
   }
 
-  none-dirty-card : ((c : ℕ) → c < m .k → state m c ≡ 1 → ⊥) → lowestDirty m ≡ 0
-  unfolding lowestDirty lowest
-  none-dirty-card f = go (lowestDirty m) refl
-    where
-      go : (x : ℕ) → lowestDirty m ≡ x → x ≡ 0
-      go zero e = refl
-      go (suc c) e = let r = best-ok _ _ (m .k) c e in absurd (f c (r .0) (eqb-true _ _ (r .1)))
-
   none-clean : (t : ℕ) → NoCleanLine m t → cleanLine m t ≡ 0
-  unfolding cleanLine first
-  none-clean t n = rw (n .hand-empty, n .no-card, none-dirty-card (n .none-dirty)) refl
+  unfolding cleanLine first lowestDirty lowest
+  none-clean t n =
+      elim (zero-or-suc (lowestDirty m)) [
+        | inl e ↦ rw (n .hand-empty, n .no-card, e)
+        | inr (c, e) ↦ let r = best-ok _ _ (m .k) c e in absurd (n .none-dirty c (r .0) (eqb-true _ _ (r .1)))
+      ]
 
 module _ (m : Image) (s : Step) (f : GoodTracer m s) where
-  -- of the lines of trace and clean, only the last can apply
-  tracer-lines : (b : Bool) → first 3 (someSet (s .a ∷ s .b ∷ s .c ∷ []) ∷ (ltb 7 (s .who) || false) ∷ false ∷ false ∷ false ∷ false ∷ false ∷ eqb (running m) 0 ∷ b ∷ []) ≡ cond b 11 0
-  unfolding someSet
-  tracer-lines b = rw (f .no-fields .0, f .no-fields .1, f .no-fields .2, at-most 7 (s .who) (f .tracer), f .in-cycle) (last-line b)
-
   pub trace-nothing : kindOf (s .kind) ≡ trace → RefusedWhere m s 11 (NoTraceLine m (s .who))
-  unfolding numbers-open
-  trace-nothing k = refused-where m s 10 _ (step-number m s k ∙ tracer-lines (eqb (traceLine m (s .who)) 0)) (λ e. trace-none m (s .who) (eqb-true _ _ e)) (λ p. eq-eqb _ _ (none-trace m (s .who) p))
+  unfolding numbers-open first
+  trace-nothing k =
+      refused-where m s 10 (eqb (traceLine m (s .who)) 0)
+      (step-number m s k ∙ (rw (f .no-fields .0, f .no-fields .1, f .no-fields .2, le-ltb 7 (s .who) (omega arith), f .in-cycle)))
+      (λ e. trace-none m (s .who) (eqb-true _ _ e)) (λ p. eq-eqb _ _ (none-trace m (s .who) p))
 
   pub clean-nothing : kindOf (s .kind) ≡ clean → RefusedWhere m s 11 (NoCleanLine m (s .who))
-  unfolding numbers-open
-  clean-nothing k = refused-where m s 10 _ (step-number m s k ∙ tracer-lines (eqb (cleanLine m (s .who)) 0)) (λ e. clean-none m (s .who) (eqb-true _ _ e)) (λ p. eq-eqb _ _ (none-clean m (s .who) p))
+  unfolding numbers-open first
+  clean-nothing k =
+      refused-where m s 10 (eqb (cleanLine m (s .who)) 0)
+      (step-number m s k ∙ (rw (f .no-fields .0, f .no-fields .1, f .no-fields .2, le-ltb 7 (s .who) (omega arith), f .in-cycle)))
+      (λ e. clean-none m (s .who) (eqb-true _ _ e)) (λ p. eq-eqb _ _ (none-clean m (s .who) p))

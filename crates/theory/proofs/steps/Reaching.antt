@@ -1,7 +1,7 @@
 -- Reach, and a scan's sixteen reaches, keep the lines and Cover.
-use mathlib.Core.Path.{_≡_, refl, sym, ap, subst, _∙_}
-use mathlib.Core.Logic.{_⊎_, inl, inr}
-use mathlib.Core.Bool.{Bool, true, false, cond}
+use mathlib.Core.Path.{_≡_, refl, sym, ap, _∙_}
+use mathlib.Core.Logic.{inl, inr}
+use mathlib.Core.Bool.{true, false, cond}
 use mathlib.Core.List.{List, [], _∷_}
 use Prim.Native.Nat.{ℕ, zero, suc, _+_, _*_, _-_, _/_, _≤_, _<_}
 use native.Mathlib.Decide.{ℕ-discrete}
@@ -9,27 +9,20 @@ use native.Mathlib.Omega.{arith}
 use lib.Dec.{eqb}
 use lib.ListN.{length, take}
 use borrow.Author.Tests.{ltb-true, leb-false, eqb-true, eqb-false, not-true, eq-eqb}
-use Rattle.model.specs.Base.{nth, put, some, bit, setBit}
+use Rattle.model.specs.Base.{nth, some}
 use Rattle.model.specs.Image.{Image, granules, word, marked, links, link, state, dirty, reg, count, entry, input, output, hand, nextLink, handCard, nextGranule, owed, withMarks, withCards, withPackets, withTracers, setMark, setState, dirtyCard, setTracer}
 use Rattle.model.specs.Collect.{held, emptiest, append, noOutput, takeOutput, enter, reach, reachAll}
 use Rattle.model.proofs.Laws.{false≢, bool-cases, any-make, every-use, some-use, some-nil, some-make, nth-put-same, nth-put-other, best-ok, some-false}
 use Rattle.model.proofs.Bits.{setBit-same, setBit-other, setBit-keeps}
 use Rattle.theory.specs.Cover.{Coming, Covered, Cover, on-dirty, on-entry, on-hand, on-card, owes-by, to-nil, to-marked, is-coming, is-owed}
-use Rattle.theory.specs.Lines.{Enters, PacketsOk, TracersOk, NilOr, Start, Marked, InHand, CardInHand, Lines}
+use Rattle.theory.specs.Lines.{PacketsOk, NilOr, Start, Lines}
 use Rattle.theory.proofs.lines.Covering.{dirty-same, dirty-keeps, hold-coming, same-coming}
 use Rattle.theory.proofs.lines.Lines.{put-packets, put-tracers, put-marks, put-cards}
 use Rattle.theory.proofs.lines.Packets.{append-new, append-on, append-ok}
 use Rattle.theory.proofs.lines.Sections.{hold-ok, dirtied-ok, dirtied-on, mark-ok}
+use Rattle.theory.proofs.steps.Steps.{zero-or-suc}
 
 -- ---- what is marked, and where it is entered
-
-mark-coming : (m : Image) (a g i : ℕ) → Coming m g i → Coming (setMark m a) g i
-unfolding setMark withMarks
-mark-coming m a g i c = same-coming m (setMark m a) refl refl refl g i c
-
-take-coming : (m : Image) (t g i : ℕ) → Coming m g i → Coming (takeOutput m t) g i
-unfolding takeOutput
-take-coming m t g i c = hold-coming m t 1 _ (omega arith) g i c
 
 pub dirty-coming : (m : Image) (c g i : ℕ) → c < length (m .cards) → Coming m g i → Coming (dirtyCard m c) g i
 unfolding dirtyCard setState withCards dirty state count entry hand nextLink handCard nextGranule
@@ -45,18 +38,10 @@ append-coming m o p a hp hc g i (on-entry q e hq he r) = let n = append-on o p a
 append-coming m o p a hp hc g i (on-hand t ht q r) = on-hand t ht q r
 append-coming m o p a hp hc g i (on-card t ht q r) = on-card t ht q r
 
-append-comes : {Mk : ℕ → Type 0} (m : Image) → PacketsOk Mk (m .packets) → (p a : ℕ) → p < 32 → count m p < 30 → (i : ℕ) → Coming (append m p a) a i
-unfolding append withPackets count entry
-append-comes m o p a hp hc i = let n = append-new o p a hp hc in on-entry p (count m p) (n .is-packet) (n .below) (n .is-entry)
-
 -- the two cases of entering
 pub enter-cases : (P : Image → Type 0) (m : Image) (t a : ℕ) → P (dirtyCard m (a / 64)) → ((p : ℕ) → output m t ≡ suc p → P (append m p a)) → P (enter m t a)
 unfolding enter
-enter-cases P m t a z s = go (output m t) refl
-  where
-    go : (x : ℕ) → output m t ≡ x → P (elim x [ zero ↦ dirtyCard m (a / 64) | suc p ↦ append m p a ])
-    go zero e = z
-    go (suc p) e = s p e
+enter-cases P m t a z s = elim (zero-or-suc (output m t)) [ inl e ↦ rw (e, enter) z | inr (p, e) ↦ rw (e, enter) (s p e) ]
 
 -- ---- the lines
 
@@ -77,59 +62,55 @@ emptiest-ok : (m : Image) (q : ℕ) → emptiest m ≡ suc q → (q < 32) × (he
 unfolding emptiest
 emptiest-ok m q e = let u = best-ok _ _ 32 q e in (u .0, not-true _ (every-use _ (u .1) 0), ltb-true _ _ (every-use _ (u .1) 1))
 
+-- a packet + 1, or 0
+pub few-packets : (x : ℕ) → ((q : ℕ) → x ≡ suc q → q < 32) → x ≤ 32
+few-packets x f = elim (zero-or-suc x) [ inl e ↦ omega arith | inr (q, e) ↦ omega (arith, f q e) ]
+
 pub take-lines : {m : Image} → Lines m → (t : ℕ) → t < 8 → Lines (takeOutput m t)
 unfolding takeOutput setTracer withTracers output
-take-lines {m} o t ht = put-tracers o _ (go (noOutput m t))
-  where
-    m₀ : Image
-    m₀ = setTracer m t 1 0
-
-    pool : (x : ℕ) → emptiest (setTracer m t 1 0) ≡ x → TracersOk (InHand m) (CardInHand m) (put (m .tracers) (8 * t + 1) x)
-    pool zero e = hold-ok (o .tracers-ok) t ht 1 0 (omega arith) (omega arith) (λ u j p hu hj x y. absurd (omega arith))
-    pool (suc q) e = hold-ok (o .tracers-ok) t ht 1 (suc q) (omega arith) (emptiest-ok m₀ q e .0) (λ u j p hu hj x y. free u j hu hj (y ∙ sym x) (ℕ-discrete (8 * u + j) (8 * t + 1)))
-      where
-        free : (u j : ℕ) → u < 8 → j < 2 → nth (m .tracers) (8 * u + j) ≡ suc q → Dec (8 * u + j ≡ 8 * t + 1) → (u ≡ t) × (j ≡ 1)
-        free u j hu hj y (yes a) = (omega arith, omega arith)
-        free u j hu hj y (no n) = absurd (packet-unheld (setTracer m t 1 0) q (emptiest-ok m₀ q e .1) u j hu hj (nth-put-other (m .tracers) (8 * t + 1) (8 * u + j) 0 n ∙ y))
-
-    go : (b : Bool) → TracersOk (InHand m) (CardInHand m) (put (m .tracers) (8 * t + 1) (cond b (emptiest (setTracer m t 1 0)) (output m t)))
-    go true = pool (emptiest (setTracer m t 1 0)) refl
-    go false =
-        hold-ok (o .tracers-ok) t ht 1 (nth (m .tracers) (8 * t + 1)) (omega arith) (o .tracers-ok .places .held t 1 ht (omega arith))
-        (λ u j p hu hj x y. o .tracers-ok .places .once u j t 1 p hu ht hj (omega arith) y x)
+take-lines {m} o t ht =
+    let m₀ : Image = setTracer m t 1 0 in
+    put-tracers o _ (elim (bool-cases (noOutput m t)) [
+      | inl b ↦ rw b (hold-ok (o .tracers-ok) t ht 1 (emptiest m₀) (omega arith) (few-packets _ (λ q e. emptiest-ok m₀ q e .0))
+          (λ u j p hu hj x y. elim (ℕ-discrete (8 * u + j) (8 * t + 1)) [
+            | yes a ↦ (omega arith, omega arith)
+            | no n ↦ absurd (packet-unheld m₀ p (emptiest-ok m₀ p x .1) u j hu hj (nth-put-other (m .tracers) (8 * t + 1) (8 * u + j) 0 n ∙ y))
+          ]))
+      | inr b ↦ rw b (hold-ok (o .tracers-ok) t ht 1 (nth (m .tracers) (8 * t + 1)) (omega arith) (o .tracers-ok .places .held t 1 ht (omega arith))
+          (λ u j p hu hj x y. o .tracers-ok .places .once u j t 1 p hu ht hj (omega arith) y x))
+    ])
 
 -- the output packet that is taken is one of the 32 and has space
 pub took : {m : Image} → Lines m → (t p : ℕ) → t < 8 → output (takeOutput m t) t ≡ suc p → (p < 32) × (count m p < 30)
 unfolding takeOutput setTracer withTracers output noOutput count
-took {m} o t p ht e = go (noOutput m t) refl (sym (nth-put-same (m .tracers) (8 * t + 1) _ (omega (arith, o .tracers-ok .sized))) ∙ e)
-  where
-    go : (b : Bool) → noOutput m t ≡ b → cond b (emptiest (setTracer m t 1 0)) (output m t) ≡ suc p → (p < 32) × (count m p < 30)
-    go true q r = let u = emptiest-ok (setTracer m t 1 0) p r in (u .0, u .2)
-    go false q r =
-        let c = leb-false 30 (count m (output m t - 1)) (some-false _ q 1) in
-        let s : output m t - 1 ≡ p = omega arith in
-        (omega (arith, o .tracers-ok .places .held t 1 ht (omega arith)), rw s at c)
+took {m} o t p ht e =
+    let x = sym (nth-put-same (m .tracers) (8 * t + 1) (cond (noOutput m t) (emptiest (setTracer m t 1 0)) (output m t)) (omega (arith, o .tracers-ok .sized))) ∙ e in
+    elim (bool-cases (noOutput m t)) [
+      | inl b ↦ let u = emptiest-ok (setTracer m t 1 0) p (rw b at x) in (u .0, u .2)
+      | inr b ↦ let s : output m t ≡ suc p = rw b at x in
+          let q : output m t - 1 ≡ p = omega arith in
+          (omega (arith, o .tracers-ok .places .held t 1 ht (omega arith)), rw q at (leb-false 30 (count m (output m t - 1)) (some-false _ b 1)))
+    ]
 
 pub dirty-lines : {m : Image} → Lines m → (c : ℕ) → c < m .k → Lines (dirtyCard m c)
 unfolding dirtyCard setState state
 dirty-lines o c h = put-cards o _ (dirtied-ok (o .cards-ok) c h) (λ d. dirtied-on (o .cards-ok) c d h)
 
-append-lines : {m : Image} → Lines m → (p a : ℕ) → p < 32 → count m p < 30 → Marked m a → ((q e : ℕ) → Enters (m .packets) q e a → ⊥) → Lines (append m p a)
-unfolding append count
-append-lines o p a hp hc ma un = put-packets o _ (append-ok (o .packets-ok) p a hp hc ma un)
-
 -- ---- reach
+
+-- what no step of the collector but begin and finish writes
+abbrev pub frame : Image → ℕ × ℕ × List ℕ
+frame m = (m .width, m .k, m .general)
+
+-- what no reach writes, but for the registers
+abbrev unreached : Image → (ℕ × ℕ × List ℕ) × List ℕ × List ℕ × List ℕ
+unreached m = (frame m, m .heap, m .starts, m .players)
 
 -- what a reach leaves alone, and what it does
 pub record ReachedOnce (m : Image) (a : ℕ) (m′ : Image) : Type 0 where
   pub lines : Lines m′
-  pub k-same : m′ .k ≡ m .k
-  pub width-same : m′ .width ≡ m .width
-  pub heap-same : m′ .heap ≡ m .heap
-  pub starts-same : m′ .starts ≡ m .starts
   pub regs-same : m′ .regs ≡ m .regs
-  pub players-same : m′ .players ≡ m .players
-  pub general-same : m′ .general ≡ m .general
+  pub rest-same : unreached m′ ≡ unreached m
   pub tracer-same : (u i : ℕ) → 2 ≤ i → i < 8 → nth (m′ .tracers) (8 * u + i) ≡ nth (m .tracers) (8 * u + i)
   pub coming-kept : (g i : ℕ) → Coming m g i → Coming m′ g i
   pub marks-up : (g : ℕ) → marked m g ≡ true → marked m′ g ≡ true
@@ -137,31 +118,30 @@ pub record ReachedOnce (m : Image) (a : ℕ) (m′ : Image) : Type 0 where
   pub new-comes : (g i : ℕ) → marked m g ≡ false → marked m′ g ≡ true → Coming m′ g i
   pub now-marked : NilOr (λ g. marked m′ g ≡ true) a
 
+-- a link that leads where it led stays covered, if marks stay and what comes or is owed is covered
+pub covered-on : (m m′ : Image) (g i : ℕ) → link m′ g i ≡ link m g i → ((a : ℕ) → marked m a ≡ true → marked m′ a ≡ true) → (Coming m g i → Covered m′ g i)
+    → ((p r : ℕ) → p < 16 → r < 16 → owed m p ≡ suc (g / 64) → reg m p r ≡ link m g i → Covered m′ g i) → Covered m g i → Covered m′ g i
+covered-on m m′ g i e up coming owes (to-nil q) = to-nil (e ∙ q)
+covered-on m m′ g i e up coming owes (to-marked q) = to-marked (rw e (up _ q))
+covered-on m m′ g i e up coming owes (is-coming c) = coming c
+covered-on m m′ g i e up coming owes (is-owed (owes-by p r hp hr o q)) = owes p r hp hr o q
+
 pub reached-cover : {m : Image} {a : ℕ} {m′ : Image} → ReachedOnce m a m′ → Cover m → Cover m′
 unfolding granules links link word owed reg
-reached-cover {m} {a} {m′} r cov g i hg k l = go (bool-cases (marked m g))
-  where
-    hs : (j : ℕ) → nth (m′ .heap) j ≡ nth (m .heap) j
-    hs j = ap (λ h. nth h j) (r .heap-same)
-
-    here : Covered m g i → Covered m′ g i
-    here (to-nil q) = to-nil (hs _ ∙ q)
-    here (to-marked q) = to-marked (subst (λ x. marked m′ x ≡ true) (sym (hs _)) (r .marks-up _ q))
-    here (is-coming q) = is-coming (r .coming-kept g i q)
-    here (is-owed (owes-by p s hp hs′ o q)) = is-owed (owes-by p s hp hs′ (ap (λ x. nth x (2 * p)) (r .players-same) ∙ o) (ap (λ x. nth x (16 * p + s)) (r .regs-same) ∙ (q ∙ sym (hs _))))
-
-    go : (marked m g ≡ true) ⊎ (marked m g ≡ false) → Covered m′ g i
-    go (inl q) = here (cov g i (rw (r .k-same) at hg) q (rw (hs (4 * g + 1)) at l))
-    go (inr q) = is-coming (r .new-comes g i q k)
+reached-cover {m} {a} {m′} r cov g i hg k l =
+    let hs : m′ .heap ≡ m .heap = ap (λ f. f .1) (r .rest-same) in
+    let ks : m′ .k ≡ m .k = ap (λ f. f .0 .1) (r .rest-same) in
+    let us : m′ .players ≡ m .players = ap (λ f. f .3) (r .rest-same) in
+    elim (bool-cases (marked m g)) [
+      | inl q ↦ covered-on m m′ g i (rw hs) (r .marks-up) (λ c. is-coming (r .coming-kept g i c))
+          (λ p s hp hr o e. is-owed (owes-by p s hp hr (rw us o) (rw (r .regs-same, hs) e))) (cov g i (rw ks at hg) q (rw hs at l))
+      | inr q ↦ is-coming (r .new-comes g i q k)
+    ]
 
 -- a marked object is the one just marked, or was so
 marks-new : (m : Image) (a g : ℕ) → marked m g ≡ false → marked (setMark m a) g ≡ true → g ≡ a
 unfolding setMark withMarks marked
-marks-new m a g u k = go (ℕ-discrete g a)
-  where
-    go : Dec (g ≡ a) → g ≡ a
-    go (yes e) = e
-    go (no ne) = false≢ (sym u ∙ (sym (setBit-other (m .width) (m .marks) a g ne) ∙ k))
+marks-new m a g u k = elim (ℕ-discrete g a) [ yes e ↦ e | no ne ↦ false≢ (sym u ∙ (sym (setBit-other (m .width) (m .marks) a g ne) ∙ k)) ]
 
 module _ (m : Image) (o : Lines m) (t a : ℕ) (ht : t < 8) where
   -- the object marked, and an output packet taken
@@ -169,75 +149,48 @@ module _ (m : Image) (o : Lines m) (t a : ℕ) (ht : t < 8) where
   ready = takeOutput (setMark m a) t
 
   ready-coming : (g i : ℕ) → Coming m g i → Coming ready g i
-  ready-coming g i c = take-coming (setMark m a) t g i (mark-coming m a g i c)
+  unfolding takeOutput setMark withMarks
+  ready-coming g i c = hold-coming (setMark m a) t 1 _ (omega arith) g i (same-coming m (setMark m a) refl refl refl g i c)
 
   reach-new : marked m a ≡ false → Start m a → ReachedOnce m a (enter ready t a)
-  unfolding takeOutput setTracer withTracers setMark withMarks dirtyCard setState withCards append withPackets marked count
+  unfolding takeOutput setTracer withTracers setMark withMarks dirtyCard setState withCards append withPackets marked count entry
   reach-new un sa =
+      let room = o .marks-ok .sized a (sa .0) in
+      let here = setBit-same (m .width) (m .marks) a room in
+      let o₁ = mark-lines o a sa in
+      let o₂ : Lines ready = take-lines o₁ t ht in
+      let hc : a / 64 < m .k = omega (arith, sa .0) in
+      let hc′ : a / 64 < length (m .cards) = rw (o .cards-ok .sized) hc in
       enter-cases (ReachedOnce m a) ready t a
       (record {
         lines = dirty-lines o₂ (a / 64) hc;
-        k-same = refl;
-        width-same = refl;
-        heap-same = refl;
-        starts-same = refl;
         regs-same = refl;
-        players-same = refl;
-        general-same = refl;
-        tracer-same = same;
+        rest-same = refl;
+        tracer-same = λ u i h h′. nth-put-other (m .tracers) (8 * t + 1) (8 * u + i) _ (omega arith);
         coming-kept = λ g i c. dirty-coming ready (a / 64) g i hc′ (ready-coming g i c);
-        marks-up = up;
+        marks-up = λ g k. setBit-keeps (m .width) (m .marks) a g room k;
         new-comes = λ g i u k. rw (marks-new m a g u k) (on-dirty (dirty-same ready (a / 64) hc′));
         now-marked = inr here;
       })
-      (λ p e. let r = took o₁ t p ht e in
+      (λ p e.
+      let r = took o₁ t p ht e in
+      let n = append-new (o .packets-ok) p a (r .0) (r .1) in
       record {
-        lines = append-lines o₂ p a (r .0) (r .1) here (λ q f i. false≢ (sym un ∙ o .packets-ok .full q f a i));
-        k-same = refl;
-        width-same = refl;
-        heap-same = refl;
-        starts-same = refl;
+        lines = put-packets o₂ _ (append-ok (o₂ .packets-ok) p a (r .0) (r .1) here (λ q f i. false≢ (sym un ∙ o .packets-ok .full q f a i)));
         regs-same = refl;
-        players-same = refl;
-        general-same = refl;
-        tracer-same = same;
+        rest-same = refl;
+        tracer-same = λ u i h h′. nth-put-other (m .tracers) (8 * t + 1) (8 * u + i) _ (omega arith);
         coming-kept = λ g i c. append-coming ready (o .packets-ok) p a (r .0) (r .1) g i (ready-coming g i c);
-        marks-up = up;
-        new-comes = λ g i u k. rw (marks-new m a g u k) (append-comes ready (o .packets-ok) p a (r .0) (r .1) i);
+        marks-up = λ g k. setBit-keeps (m .width) (m .marks) a g room k;
+        new-comes = λ g i u k. rw (marks-new m a g u k) (on-entry p (count m p) (n .is-packet) (n .below) (n .is-entry));
         now-marked = inr here;
       })
-    where
-      o₁ : Lines (setMark m a)
-      o₁ = mark-lines o a sa
-
-      o₂ : Lines ready
-      o₂ = take-lines o₁ t ht
-
-      hc : a / 64 < m .k
-      hc = omega (arith, sa .0)
-
-      hc′ : a / 64 < length (m .cards)
-      hc′ = rw (o .cards-ok .sized) hc
-
-      here : bit (m .width) (setBit (m .width) (m .marks) a) a ≡ true
-      here = setBit-same (m .width) (m .marks) a (o .marks-ok .sized a (sa .0))
-
-      up : (g : ℕ) → bit (m .width) (m .marks) g ≡ true → bit (m .width) (setBit (m .width) (m .marks) a) g ≡ true
-      up g k = setBit-keeps (m .width) (m .marks) a g (o .marks-ok .sized a (sa .0)) k
-
-      same : (u i : ℕ) → 2 ≤ i → i < 8 → nth (put (m .tracers) (8 * t + 1) (cond (noOutput (setMark m a) t) (emptiest (setTracer (setMark m a) t 1 0)) (output (setMark m a) t))) (8 * u + i) ≡ nth (m .tracers) (8 * u + i)
-      same u i h h′ = nth-put-other (m .tracers) (8 * t + 1) (8 * u + i) _ (omega arith)
 
   reach-none : NilOr (λ g. marked m g ≡ true) a → ReachedOnce m a m
   reach-none n = record {
     lines = o;
-    k-same = refl;
-    width-same = refl;
-    heap-same = refl;
-    starts-same = refl;
     regs-same = refl;
-    players-same = refl;
-    general-same = refl;
+    rest-same = refl;
     tracer-same = λ u i h h′. refl;
     coming-kept = λ g i c. c;
     marks-up = λ g k. k;
@@ -247,20 +200,14 @@ module _ (m : Image) (o : Lines m) (t a : ℕ) (ht : t < 8) where
 
   pub reach-does : NilOr (Start m) a → ReachedOnce m a (reach m t a)
   unfolding reach
-  reach-does ok = go (some (eqb a 0 ∷ marked m a ∷ [])) refl ok
-    where
-      seen : (eqb a 0 ≡ true) ⊎ (some (marked m a ∷ []) ≡ true) → NilOr (λ g. marked m g ≡ true) a
-      seen (inl z) = inl (eqb-true _ _ z)
-      seen (inr z) = inr (last (some-use _ _ z))
-        where
-          last : (marked m a ≡ true) ⊎ (some [] ≡ true) → marked m a ≡ true
-          last (inl q) = q
-          last (inr q) = some-nil q
-
-      go : (b : Bool) → some (eqb a 0 ∷ marked m a ∷ []) ≡ b → NilOr (Start m) a → ReachedOnce m a (elim b [ true ↦ m | false ↦ enter (takeOutput (setMark m a) t) t a ])
-      go true e n = reach-none (seen (some-use _ _ e))
-      go false e (inl z) = absurd (eqb-false _ _ (some-false _ e 0) z)
-      go false e (inr sa) = reach-new (some-false _ e 1) sa
+  reach-does ok =
+      elim (bool-cases (some (eqb a 0 ∷ marked m a ∷ []))) [
+        | inl e ↦ rw (e, reach) (reach-none (elim (some-use _ _ e) [
+          | inl z ↦ inl (eqb-true _ _ z)
+          | inr z ↦ inr (elim (some-use _ _ z) [ inl q ↦ q | inr q ↦ some-nil q ])
+        ]))
+        | inr e ↦ rw (e, reach) (elim ok [ inl z ↦ absurd (eqb-false _ _ (some-false _ e 0) z) | inr sa ↦ reach-new (some-false _ e 1) sa ])
+      ]
 
 -- ---- a list of reaches
 
@@ -270,13 +217,6 @@ each-take P z zero l f i = z
 each-take P z (suc n) [] f i = z
 each-take P z (suc n) (x ∷ l) f zero = f zero
 each-take P z (suc n) (x ∷ l) f (suc i) = each-take P z n l (λ j. f (suc j)) i
-
--- what no step of the collector but begin and finish writes
-abbrev pub frame : Image → ℕ × ℕ × List ℕ
-frame m = (m .width, m .k, m .general)
-
-pub reached-frame : {m : Image} {a : ℕ} {m′ : Image} → ReachedOnce m a m′ → frame m′ ≡ frame m
-reached-frame r = λ i. (r .width-same i, r .k-same i, r .general-same i)
 
 -- the lines and Cover hold
 pub record StepStays (m m′ : Image) : Type 0 where
@@ -289,5 +229,6 @@ unfolding reachAll nth
 reachAll-does m o cov t ht [] f = record { lines = o; cover = cov; frame-same = refl }
 reachAll-does m o cov t ht (a ∷ l) f =
     let r = reach-does m o t a ht (f zero) in
-    let s = reachAll-does (reach m t a) (r .lines) (reached-cover r cov) t ht l (λ i. rw (r .k-same, r .width-same, r .starts-same) (f (suc i))) in
-    record { lines = s .lines; cover = s .cover; frame-same = s .frame-same ∙ reached-frame r }
+    let e = r .rest-same in
+    let s = reachAll-does (reach m t a) (r .lines) (reached-cover r cov) t ht l (λ i. rw (ap (λ x. x .0 .1) e, ap (λ x. x .0 .0) e, ap (λ x. x .2) e) (f (suc i))) in
+    record { lines = s .lines; cover = s .cover; frame-same = s .frame-same ∙ ap (λ x. x .0) e }

@@ -1,5 +1,6 @@
 -- A step by its number: the lines that an accepted one has passed, and the image and value that a step leaves. Lists of steps.
 use mathlib.Core.Path.{_≡_, refl, sym, ap, _∙_}
+use mathlib.Core.Logic.{_⊎_, inl, inr}
 use mathlib.Core.Bool.{false}
 use mathlib.Core.List.{[], _∷_, List, _++_}
 use Prim.Native.Nat.{ℕ, zero, suc, _<_, _+_, _*_, _-_, _≤_}
@@ -11,6 +12,11 @@ use Rattle.model.specs.Image.{Image}
 use Rattle.model.specs.Records.{Step, Kind, new, load, store, barrier, handOver, dropReg, read, write, begin, scan, trace, clean, finish, isDue, unknown, kindOf}
 use Rattle.model.specs.Steps.{Done, unnamed, offDesk, owing, noObject, pastEnd, badSize, noRoom, wrongPhase, nothingToDo, refusal, accept, finishDone, act, outcome, step, run, after}
 use Rattle.model.proofs.Laws.{first-none, some-false}
+
+-- a number is 0, or has one before it
+pub zero-or-suc : (n : ℕ) → (n ≡ 0) ⊎ ((p : ℕ) × (n ≡ suc p))
+zero-or-suc zero = inl refl
+zero-or-suc (suc n) = inr (n, refl)
 
 -- a player, register or tracer that is on the desk
 pub not-above : (b x : ℕ) → ltb b x ≡ false → x < suc b
@@ -73,20 +79,12 @@ module _ (m : Image) (s : Step) where
   -- "the others refuse one step, with value 0"
   pub refused-same : ((step m s) .number ≡ 0 → ⊥) → ((step m s) .image ≡ m) × ((step m s) .value ≡ 0)
   unfolding step outcome
-  refused-same nz = go (kindOf (s .kind)) (refusal m s (kindOf (s .kind))) nz
-    where
-      go : (n : Kind) (r : ℕ) → ((outcome m s n r) .number ≡ 0 → ⊥) → ((outcome m s n r) .image ≡ m) × ((outcome m s n r) .value ≡ 0)
-      go n zero z = absurd (z (act-number n))
-      go n (suc r) z = (refl, refl)
+  refused-same nz = elim (zero-or-suc (refusal m s (kindOf (s .kind)))) [ inl e ↦ absurd (nz (step-number refl ∙ e)) | inr (r, e) ↦ rw e (refl, refl) ]
 
   -- the image is as it was, or as an accepted step of the kind leaves it
   pub step-cases : (P : Image → Type 0) → P m → ((n : Kind) → kindOf (s .kind) ≡ n → refusal m s n ≡ 0 → P ((act m s n) .image)) → P ((step m s) .image)
   unfolding step outcome
-  step-cases P same f = go (refusal m s (kindOf (s .kind))) refl
-    where
-      go : (r : ℕ) → refusal m s (kindOf (s .kind)) ≡ r → P ((outcome m s (kindOf (s .kind)) r) .image)
-      go zero e = f (kindOf (s .kind)) refl e
-      go (suc r) e = same
+  step-cases P same f = elim (zero-or-suc (refusal m s (kindOf (s .kind)))) [ inl e ↦ rw e (f (kindOf (s .kind)) refl e) | inr (r, e) ↦ rw e same ]
 
 -- ---- lists of steps
 
