@@ -18,7 +18,7 @@ use image::layout::Word;
 use soundness::sets::SEEN;
 
 // Cards of a store whose table of links is a small one, and the words of that.
-const FEW_CARDS: usize = 32;
+const FEW_CARDS: usize = 64;
 
 const FEW_WORDS: usize = 64 * FEW_CARDS / BITS + 1;
 
@@ -290,7 +290,7 @@ fn few_covered(im: &[Word], k: usize, entered: &[Word]) -> bool
     requires { ⌜ Sized width k (now im) ⌝ }
     requires { ⌜ Coverable k (imageOf width k (now im)) ⌝ }
     requires { ⌜ EnteredSet width (imageOf width k (now im)) (now entered) ⌝ }
-    requires { ⌜ k ≤ 32 ⌝ }
+    requires { ⌜ k ≤ 64 ⌝ }
     ensures { λ r. ⌜ r ≡ cover (imageOf width k (now (im .entry))) ⌝ }
 {
     let mut table: [Word; FEW_WORDS] = [0; FEW_WORDS];
