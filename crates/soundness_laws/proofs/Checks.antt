@@ -1,5 +1,5 @@
 -- Loops that test every number below n, as `all n p` or `any n p`; laws of these tests.
-use mathlib.Core.Path.{_≡_, refl, sym}
+use mathlib.Core.Path.{_≡_, refl, sym, _∙_}
 use mathlib.Core.Bool.{Bool, true, false, _&&_, _||_, and-true, and-assoc, and-comm}
 use Prim.Native.Nat.{ℕ, zero, suc, _+_, _≤_, _<_, min, _-_}
 use native.Mathlib.Numerals.{add-one}
@@ -8,11 +8,13 @@ use native.Mathlib.Decide.{ℕ-discrete, decLt}
 use native.Mathlib.Omega.{arith}
 use lib.Dec.{ltb}
 use borrow.Author.Tests.{le-ltb, lt-ltb}
-use Rattle.model.specs.Base.{all, any, every}
+use lib.ListN.{take, drop}
+use Rattle.model.specs.Base.{nth, all, any, every}
+use Rattle.model.proofs.Entries.{nth-drop, nth-take}
 use Rattle.image_laws.proofs.Parts.{all-cong}
 use Rattle.model.proofs.Laws.{all-use}
 use Rattle.soundness_laws.specs.Tests.{onward}
-use mathlib.Core.List.{[], _∷_}
+use mathlib.Core.List.{List, [], _∷_}
 
 -- ---- `ok` says whether all below i pass
 
@@ -87,6 +89,10 @@ pub sought-end : (n : ℕ) (p : ℕ → Bool) (found : Bool) (i : ℕ) → Sough
 sought-end n p found i s h = let e : i ≡ n = omega (arith, s .within) in rw e at (s .so-far)
 
 -- ---- more tests
+
+-- word i of n that stand from a on
+pub nth-part : (n a : ℕ) (l : List ℕ) (i : ℕ) → i < n → nth (take n (drop a l)) i ≡ nth l (a + i)
+nth-part n a l i h = nth-take n (drop a l) i h ∙ nth-drop a l i
 
 pub all-append : (a b : ℕ) (p : ℕ → Bool) → all (a + b) p ≡ (all a p && all b (λ i. p (a + i)))
 unfolding all

@@ -8,13 +8,11 @@ use native.Mathlib.Numerals.{add-one}
 use native.Mathlib.Decide.{ℕ-discrete, decLt}
 use native.Mathlib.Omega.{arith}
 use lib.Dec.{eqb, leb}
-use lib.ListN.{length, take, drop, length-drop}
-use lib.Seq.{length-take-le}
+use lib.ListN.{length, take, drop, length-take, length-drop}
 use borrow.Author.Tests.{leb-true, eqb-true, le-leb, eq-eqb}
 use Rattle.model.specs.Base.{nth, all, every}
 use Rattle.model.specs.Image.{Image, imageOf, word, isStart, links, link, firstRun}
 use Rattle.model.proofs.Laws.{all-use, all-make, every-use, every-cons, every-nil, length-put, nth-put-same, nth-put-other}
-use Rattle.model.proofs.Entries.{nth-drop, nth-take}
 use Rattle.image_laws.specs.Sized.{Sized}
 use Rattle.image_laws.specs.Compare.{between, within}
 use Rattle.image_laws.specs.Digits.{digit}
@@ -22,7 +20,7 @@ use Rattle.image_laws.proofs.Lengths.{heap-words}
 use Rattle.soundness_laws.specs.Tests.{linkOk, objectOk, onward}
 use Rattle.soundness_laws.specs.Sets.{Targets, fullWords, lastFull}
 use Rattle.soundness_laws.specs.Small.{smallAt, SmallFrom, SmallUpto, leastAt, mostAt, Bounds, putFour}
-use Rattle.soundness_laws.proofs.Checks.{from-use}
+use Rattle.soundness_laws.proofs.Checks.{from-use, nth-part}
 use Rattle.soundness_laws.proofs.Sets.{some-width, low-target, full-place, full-start, full-inside}
 use Rattle.soundness_laws.proofs.Pieces.{head-make, object-is, piece-object, next-of-object}
 use Rattle.soundness_laws.proofs.Heap.{HeapWalk, w-start, w-more, links-object}
@@ -70,29 +68,21 @@ module _ (w top : ℕ) (l : List ℕ) where
     pub bounds-more : n < w → Bounds w top (n + 1) (putFour (putFour l (4 * n) 1 0 0 0) (4 * w + 4 * n) 1 2 top top)
     unfolding leastAt mostAt
     bounds-more s =
+        let r : List ℕ = putFour l (4 * n) 1 0 0 0 in
+        let long : length r ≡ 8 * w = four-length l (4 * n) 1 0 0 0 ∙ b .long in
+        let last = four-other r (4 * w + 4 * n) 1 2 top top in
         record {
           within = omega arith;
-          long = four-length (putFour l (4 * n) 1 0 0 0) (4 * w + 4 * n) 1 2 top top ∙ first-length;
-          least = λ i j h q. least i j h q (ℕ-discrete i n);
-          most = λ i j h q. most i j h q (ℕ-discrete i n);
+          long = four-length r (4 * w + 4 * n) 1 2 top top ∙ long;
+          least = λ i j h q. last (4 * i + j) (λ x y. omega arith) ∙ elim (ℕ-discrete i n) [
+            | yes e ↦ rw e (four-at l (4 * n) 1 0 0 0 (omega (arith, b .long)) j q)
+            | no e ↦ four-other l (4 * n) 1 0 0 0 (4 * i + j) (λ x y. omega arith) ∙ b .least i j (omega arith) q
+          ];
+          most = λ i j h q. elim (ℕ-discrete i n) [
+            | yes e ↦ rw e (four-at r (4 * w + 4 * n) 1 2 top top (omega arith) j q)
+            | no e ↦ last (4 * w + 4 * i + j) (λ x y. omega arith) ∙ (four-other l (4 * n) 1 0 0 0 (4 * w + 4 * i + j) (λ x y. omega arith) ∙ b .most i j (omega arith) q)
+          ];
         }
-      where
-        first-length : length (putFour l (4 * n) 1 0 0 0) ≡ 8 * w
-        first-length = four-length l (4 * n) 1 0 0 0 ∙ b .long
-
-        least : (i j : ℕ) → i < n + 1 → j < 4 → Dec (i ≡ n) → nth (putFour (putFour l (4 * n) 1 0 0 0) (4 * w + 4 * n) 1 2 top top) (4 * i + j) ≡ nth (1 ∷ 0 ∷ 0 ∷ 0 ∷ []) j
-        least i j h q (yes e) =
-            four-other (putFour l (4 * n) 1 0 0 0) (4 * w + 4 * n) 1 2 top top (4 * i + j) (λ x y. omega arith)
-            ∙ rw e (four-at l (4 * n) 1 0 0 0 (omega (arith, b .long)) j q)
-        least i j h q (no e) =
-            four-other (putFour l (4 * n) 1 0 0 0) (4 * w + 4 * n) 1 2 top top (4 * i + j) (λ x y. omega arith)
-            ∙ (four-other l (4 * n) 1 0 0 0 (4 * i + j) (λ x y. omega arith) ∙ b .least i j (omega arith) q)
-
-        most : (i j : ℕ) → i < n + 1 → j < 4 → Dec (i ≡ n) → nth (putFour (putFour l (4 * n) 1 0 0 0) (4 * w + 4 * n) 1 2 top top) (4 * w + 4 * i + j) ≡ nth (1 ∷ 2 ∷ top ∷ top ∷ []) j
-        most i j h q (yes e) = rw e (four-at (putFour l (4 * n) 1 0 0 0) (4 * w + 4 * n) 1 2 top top (omega (arith, first-length)) j q)
-        most i j h q (no e) =
-            four-other (putFour l (4 * n) 1 0 0 0) (4 * w + 4 * n) 1 2 top top (4 * w + 4 * i + j) (λ x y. omega arith)
-            ∙ (four-other l (4 * n) 1 0 0 0 (4 * w + 4 * i + j) (λ x y. omega arith) ∙ b .most i j (omega arith) q)
 
     pub bounds-end : w ≤ n → Bounds w top w l
     bounds-end h = let e : n ≡ w = omega (arith, b .within) in rw e at b
@@ -118,39 +108,22 @@ module _ (w k : ℕ) (l set bs : List ℕ) (z : Sized w k l) (t : Targets w (ima
 
     -- they are as many as the bounds that they are held to
     pub word-fits : (4 * (a - c + w) - 4 * a ≤ length lows) × (4 * (a - c + w) - 4 * a ≤ length highs)
-    word-fits =
-        let p : length lows ≡ 4 * w - 4 * c = length-take-le (4 * w - 4 * c) (drop (4 * c) bs) (simp length-drop (omega (arith, b .long))) in
-        let q : length highs ≡ 8 * w - (4 * w + 4 * c) = length-take-le (8 * w - (4 * w + 4 * c)) (drop (4 * w + 4 * c) bs) (simp length-drop (omega (arith, b .long))) in
-        (omega arith, omega arith)
+    word-fits = (simp (length-take, length-drop) (omega (arith, b .long)), simp (length-take, length-drop) (omega (arith, b .long)))
 
     module _ (h : within lows highs words ≡ true) (d : ℕ) (hd : c + d < w) where
       word-between : (j : ℕ) → j < 4 → (leastAt j ≤ word (imageOf w k l) (a + d) j) × (word (imageOf w k l) (a + d) j ≤ mostAt (lastFull w set) j)
       unfolding within between word
       word-between j q =
-          let above : nth lows (4 * d + j) ≤ nth words (4 * d + j) = leb-true _ _ (every-use _ e 0) in
-          let below : nth words (4 * d + j) ≤ nth highs (4 * d + j) = leb-true _ _ (every-use _ e 1) in
-          (omega (arith, low, this), omega (arith, high, this))
-        where
-          long : length words ≡ 4 * (a - c + w) - 4 * a
-          long = length-take-le (4 * (a - c + w) - 4 * a) (drop (4 * a) (imageOf w k l .heap)) (simp length-drop (omega (arith, heap-words z)))
-
-          e : every (leb (nth lows (4 * d + j)) (nth words (4 * d + j)) ∷ leb (nth words (4 * d + j)) (nth highs (4 * d + j)) ∷ []) ≡ true
-          e = all-use (length words) _ h (4 * d + j) (rw long (omega arith))
-
-          low : nth lows (4 * d + j) ≡ leastAt j
-          low =
-              let p : 4 * c + (4 * d + j) ≡ 4 * (c + d) + j = omega arith in
-              nth-take (4 * w - 4 * c) (drop (4 * c) bs) (4 * d + j) (omega arith) ∙ (nth-drop (4 * c) bs (4 * d + j) ∙ rw p (b .least (c + d) j hd q))
-
-          high : nth highs (4 * d + j) ≡ mostAt (lastFull w set) j
-          high =
-              let p : 4 * w + 4 * c + (4 * d + j) ≡ 4 * w + 4 * (c + d) + j = omega arith in
-              nth-take (8 * w - (4 * w + 4 * c)) (drop (4 * w + 4 * c) bs) (4 * d + j) (omega arith) ∙ (nth-drop (4 * w + 4 * c) bs (4 * d + j) ∙ rw p (b .most (c + d) j hd q))
-
-          this : nth words (4 * d + j) ≡ nth (imageOf w k l .heap) (4 * (a + d) + j)
-          this =
-              let p : 4 * a + (4 * d + j) ≡ 4 * (a + d) + j = omega arith in
-              nth-take (4 * (a - c + w) - 4 * a) (drop (4 * a) (imageOf w k l .heap)) (4 * d + j) (omega arith) ∙ (nth-drop (4 * a) (imageOf w k l .heap) (4 * d + j) ∙ rw p refl)
+          let this : 4 * a + (4 * d + j) ≡ 4 * (a + d) + j = omega arith in
+          let low : 4 * c + (4 * d + j) ≡ 4 * (c + d) + j = omega arith in
+          let high : 4 * w + 4 * c + (4 * d + j) ≡ 4 * w + 4 * (c + d) + j = omega arith in
+          let long : 4 * d + j < length words = simp (length-take, length-drop) (omega (arith, heap-words z)) in
+          let e = rw (nth-part (4 * (a - c + w) - 4 * a) (4 * a) (imageOf w k l .heap) (4 * d + j) (omega arith), this) at (all-use (length words) _ h (4 * d + j) long) in
+          let above : nth lows (4 * d + j) ≤ nth (imageOf w k l .heap) (4 * (a + d) + j) = leb-true _ _ (every-use _ e 0) in
+          let below : nth (imageOf w k l .heap) (4 * (a + d) + j) ≤ nth highs (4 * d + j) = leb-true _ _ (every-use _ e 1) in
+          let least : nth lows (4 * d + j) ≡ leastAt j = nth-part (4 * w - 4 * c) (4 * c) bs (4 * d + j) (omega arith) ∙ rw low (b .least (c + d) j hd q) in
+          let most : nth highs (4 * d + j) ≡ mostAt (lastFull w set) j = nth-part (8 * w - (4 * w + 4 * c)) (4 * w + 4 * c) bs (4 * d + j) (omega arith) ∙ rw high (b .most (c + d) j hd q) in
+          (omega arith, omega arith)
 
       bounded-small : smallAt (imageOf w k l) (a + d) ≡ true
       unfolding smallAt leastAt mostAt nth links linkOk link
