@@ -73,6 +73,11 @@ unfolding piece every
 piece-split st g s ws next run true = rw (bare-nowhere g s) (apart (leb 1 s) (leb (4 * s) (suc (length ws))) (bare st g s) _)
 piece-split st g s ws next run false = rw (bare-nowhere g s) (apart (leb 1 s) (leb (4 * s) (suc (length ws))) (bare st g s) _)
 
+pub piece-size : (st : ℕ → Bool) (g s : ℕ) (ws : List ℕ) (next : ℕ) (run b : Bool) → piece st g s ws next run b ≡ true → (1 ≤ s) × (4 * s ≤ suc (length ws))
+unfolding piece
+piece-size st g s ws next run true e = (leb-true _ _ (every-use _ e 0), leb-true _ _ (every-use _ e 1))
+piece-size st g s ws next run false e = (leb-true _ _ (every-use _ e 0), leb-true _ _ (every-use _ e 1))
+
 -- ---- pieces by index
 
 module _ (w k : ℕ) (l : List ℕ) (z : Sized w k l) (g : ℕ) (hg : g < 64 * k) where

@@ -176,8 +176,8 @@ module _ (w k : ℕ) (l : List ℕ) (z : Sized w k l) (set : List ℕ) (t : Targ
   pub full-inside : w * fullWords w set ≤ 64 * k
   full-inside =
       elim (decLt 1 (w * fullWords w set)) [
-        yes h ↦ omega (arith, full-start (w * fullWords w set - 1) (omega arith) (omega arith) .0)
-      | no h ↦ omega (arith, z .low)
+        | yes h ↦ omega (arith, full-start (w * fullWords w set - 1) (omega arith) (omega arith) .0)
+        | no h ↦ omega (arith, z .low)
       ]
 
   regs-words : length (imageOf w k l .regs) ≡ 256

@@ -163,12 +163,8 @@ module _ (w k : ℕ) (l set : List ℕ) (z : Sized w k l) (t : Targets w (imageO
           low = omega (arith, u .low, e .0, e .1 .0);
           high = omega (arith, full-inside w k l z set t, e .1 .1);
           starts = λ g p q. full-start w k l z set t g p (omega (arith, e .1 .1)) .1;
-          objects = record { small = λ g p q. go g p q (decLt g a) };
+          objects = record { small = λ g p q. elim (decLt g a) [ yes r ↦ u .objects .small g p r | no r ↦ f .small g (omega arith) q ] };
         }
-      where
-        go : (g : ℕ) → 1 ≤ g → g < a - a % w + w → Dec (g < a) → smallAt (imageOf w k l) g ≡ true
-        go g p q (yes r) = u .objects .small g p r
-        go g p q (no r) = f .small g (omega arith) q
 
 -- ---- the walk goes over them
 
@@ -192,6 +188,4 @@ module _ (w k : ℕ) (l : List ℕ) (z : Sized w k l) where
         rw e (one-turn (n + 1) first n (turns n shorter) (omega (arith, u .high)) (u .starts (n + 1) (omega arith) (omega arith)) (u .objects .small (n + 1) (omega arith) (omega arith)))
 
     pub w-from : (from : ℕ) → SmallUpto k (imageOf w k l) from → HeapWalk w k l from first false (from - 1)
-    w-from from u =
-        let e : from - 1 + 1 ≡ from = omega (arith, u .low) in
-        subst (λ (g : ℕ). HeapWalk w k l g first false (from - 1)) e (turns (from - 1) (subst (λ (g : ℕ). SmallUpto k (imageOf w k l) g) (sym e) u))
+    w-from from u = let e : from - 1 + 1 ≡ from = omega (arith, u .low) in rw e at (turns (from - 1) (rw e u))
