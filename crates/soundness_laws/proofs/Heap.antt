@@ -52,17 +52,13 @@ module _ (w k : ℕ) (l : List ℕ) where
     past-end n g next run h = rw (drop-of-length-le (imageOf w k l .heap) {i = 4 * g} (omega (arith, heap-words z)))
 
     module _ (g next : ℕ) (run : Bool) (hg : g < 64 * k) where
-      next-is : cond (isStart (imageOf w k l) g) next (nth (drop (suc (4 * g)) (imageOf w k l .heap)) 0) ≡ nextRun (imageOf w k l) g next
-      unfolding nextRun
-      next-is = rw (tail-at w k l z g hg 0)
-
-      rest-is : drop (4 * word (imageOf w k l) g 0) (word (imageOf w k l) g 0 ∷ drop (suc (4 * g)) (imageOf w k l .heap)) ≡ drop (4 * (g + word (imageOf w k l) g 0)) (imageOf w k l .heap)
-      rest-is = let e : 4 * g + 4 * word (imageOf w k l) g 0 ≡ 4 * (g + word (imageOf w k l) g 0) = omega arith in rw (← (head-is w k l z g hg), drop-drop, e)
-
       -- the piece in order, and no start inside it
       by-pieces : (n : ℕ) → fillFrom (suc n) g next run ≡ ((pieceOk (imageOf w k l) g next run && clear (imageOf w k l) (g + 1) (word (imageOf w k l) g 0 - 1)) && fillFrom n (g + word (imageOf w k l) g 0) (nextRun (imageOf w k l) g next) (not (isStart (imageOf w k l) g)))
-      unfolding pieceOk
-      by-pieces n = rw (head-is w k l z g hg) (fill-more (isStart (imageOf w k l)) n g _ _ next run ∙ rw (piece-split (isStart (imageOf w k l)), bare-is w k l z g hg, rest-is, next-is))
+      unfolding pieceOk nextRun
+      by-pieces n =
+          let e : 4 * g + 4 * word (imageOf w k l) g 0 ≡ 4 * (g + word (imageOf w k l) g 0) = omega arith in
+          rw (head-is w k l z g hg)
+          (fill-more (isStart (imageOf w k l)) n g _ _ next run ∙ rw (piece-split (isStart (imageOf w k l)), bare-is w k l z g hg, tail-at w k l z g hg 0, ← (head-is w k l z g hg), drop-drop, e))
 
       -- a piece that is in order is not empty, and lies inside
       fine : pieceOk (imageOf w k l) g next run ≡ true → (1 ≤ word (imageOf w k l) g 0) × (g + word (imageOf w k l) g 0 ≤ 64 * k)
