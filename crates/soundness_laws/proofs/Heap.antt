@@ -6,10 +6,10 @@ use mathlib.Core.List.{List, _∷_}
 use Prim.Native.Nat.{ℕ, suc, _+_, _*_, _-_, _≤_, _<_}
 use native.Mathlib.Nat.{add-zero, zero-add}
 use native.Mathlib.Omega.{arith}
-use lib.Dec.{eqb, leb}
-use lib.ListN.{length, drop, drop-of-length-le, take}
+use lib.Dec.{eqb}
+use lib.ListN.{drop, drop-of-length-le, take}
 use lib.Seq.{drop-drop}
-use borrow.Author.Tests.{leb-true, not-true, not-false}
+use borrow.Author.Tests.{not-true, not-false}
 use Rattle.model.specs.Base.{nth, all, implies, every, zeroes}
 use Rattle.model.specs.Image.{image, imageOf, granules, word, isStart, links, firstRun, mostCards}
 use Rattle.model.specs.Undamaged.{piece, fill, filled, linksOk, zeroGranule}
