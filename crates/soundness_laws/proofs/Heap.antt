@@ -58,7 +58,8 @@ module _ (w k : ℕ) (l : List ℕ) where
       by-pieces n =
           let e : 4 * g + 4 * word (imageOf w k l) g 0 ≡ 4 * (g + word (imageOf w k l) g 0) = omega arith in
           rw (head-is w k l z g hg)
-          (fill-more (isStart (imageOf w k l)) n g _ _ next run ∙ rw (piece-split (isStart (imageOf w k l)), bare-is w k l z g hg, tail-at w k l z g hg 0, ← (head-is w k l z g hg), drop-drop, e))
+          (fill-more (isStart (imageOf w k l)) n g _ _ next run
+          ∙ rw (piece-split (isStart (imageOf w k l)), bare-is w k l z g hg, tail-at w k l z g hg 0, ← (head-is w k l z g hg), drop-drop, e))
 
       -- a piece that is in order is not empty, and lies inside
       fine : pieceOk (imageOf w k l) g next run ≡ true → (1 ≤ word (imageOf w k l) g 0) × (g + word (imageOf w k l) g 0 ≤ 64 * k)

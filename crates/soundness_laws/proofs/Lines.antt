@@ -1,6 +1,6 @@
 -- The lines together: with no cycle those on marks, packets and tracers follow from their words being 0; the ways out of a cycle's lines and of all lines.
 use Prim.Native.Nat.{ℕ, _+_, _*_, suc, _/_, zero, _%_}
-use Rattle.model.proofs.Laws.{all-make, every-use, every-cons, every-nil, zeroes-use}
+use Rattle.model.proofs.Laws.{bool-cases, all-make, every-use, every-cons, every-nil, zeroes-use}
 use Rattle.model.specs.Base.{nth, all, distinct, bit, every, implies, either, zeroes}
 use Rattle.model.specs.Image.{entries, entriesOf, count, entry, image, imageOf, granules, marked, hand, nextLink, handCard, nextGranule, running, owed, scanned}
 use Rattle.model.specs.Undamaged.{zeroGranule, filled, linksOk, regOk, cardOk, playerOk, generalOk, markOk, entryOk, handOk, handCardOk, tracerOk, heldAt, heldOnce, idleOk, sound}
@@ -8,6 +8,7 @@ use borrow.Author.Tests.{eq-eqb, ne-eqb, le-ltb, not-true, not-false}
 use lib.Dec.{leb}
 use lib.ListN.{take, drop}
 use mathlib.Core.Bool.{Bool, true, false, not, _&&_, and-true, and-assoc, and-false}
+use mathlib.Core.Logic.{inl, inr}
 use mathlib.Core.List.{List, []}
 use mathlib.Core.Path.{_≡_, refl, sym, _∙_}
 use native.Mathlib.Omega.{arith}
@@ -96,20 +97,10 @@ module _ (w k : ℕ) (l : List ℕ) where
       sound-is = rw ea (simp (and-assoc, and-true))
 
       module _ (v : ℕ) (ev : v ≡ running (imageOf w k l)) where
-        idle-still : v ≡ 0 → idleOk (imageOf w k l) ≡ idle (imageOf w k l)
-        unfolding idleOk implies idle notScanned
-        idle-still h = rw (← ev, eq-eqb v 0 h)
-
-        idle-running : (v ≡ 0 → ⊥) → idleOk (imageOf w k l) ≡ true
-        unfolding idleOk implies
-        idle-running h = rw (← ev, ne-eqb v 0 h)
-
         pub sound-still : (i : Bool) → v ≡ 0 → i ≡ idle (imageOf w k l) → (a && i) ≡ sound (imageOf w k l)
-        sound-still i h q = rw (sound-is, idle-still h, ← q) (go i q)
-          where
-            go : (i : Bool) → i ≡ idle (imageOf w k l) → (a && i) ≡ (a && (cycleLines (imageOf w k l) && i))
-            go true q = rw (idle-cycle (sym q))
-            go false q = simp and-false
+        unfolding idleOk implies idle notScanned
+        sound-still i h q = rw (sound-is, ← ev, eq-eqb v 0 h, ← q) (elim (bool-cases i) [ inl e ↦ rw (e, idle-cycle (sym q ∙ e)) | inr e ↦ rw e (simp and-false) ])
 
         pub sound-cycle : (y : Bool) → (v ≡ 0 → ⊥) → y ≡ cycleLines (imageOf w k l) → (a && y) ≡ sound (imageOf w k l)
-        sound-cycle y h q = rw (sound-is, idle-running h, ← q) (simp and-true)
+        unfolding idleOk implies
+        sound-cycle y h q = rw (sound-is, ← ev, ne-eqb v 0 h, ← q) (simp and-true)

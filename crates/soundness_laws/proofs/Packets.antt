@@ -1,12 +1,12 @@
 -- Packets by index: their lines, their entries packet after packet, and whether none is entered twice.
 use Prim.Native.Nat.{ℕ, _+_, _*_, _≤_, _<_, suc, _/_, zero, _-_}
-use Rattle.model.proofs.Entries.{nth-drop, nth-take}
+use Rattle.model.proofs.Entries.{nth-drop}
 use Rattle.model.proofs.Laws.{all-use, every-use}
 use Rattle.model.specs.Base.{nth, all, eachPiece, bit, setBit, every, zeroes}
 use Rattle.model.specs.Image.{entries, entriesOf, count, entry, image, imageOf, granules, marked, mostCards}
 use Rattle.model.specs.Undamaged.{entryOk, packetOk}
 use borrow.Author.Tests.{leb-true, ltb-true, lt-ltb, le-ltb, le-leb, lt-leb}
-use lib.Dec.{eqb, leb, ltb}
+use lib.Dec.{eqb, leb}
 use lib.ListN.{length, getD, take, drop, length-take, length-drop}
 use lib.Seq.{drop-drop, take-suc, take-all}
 use mathlib.Core.Bool.{Bool, true, not, _&&_, and-true, and-assoc, false}
@@ -16,14 +16,13 @@ use native.Mathlib.Numerals.{add-one}
 use native.Mathlib.Omega.{arith}
 use Rattle.soundness_laws.specs.Sets.{setWords, packetEntries, AddedOnce}
 use Rattle.soundness_laws.specs.Tests.{packetOkAt, entryOkAt, Packed, entryMarked}
-use Rattle.soundness_laws.proofs.Checks.{test-inside, all-append}
+use Rattle.soundness_laws.proofs.Checks.{test-inside, all-append, nth-part}
 use Rattle.soundness_laws.proofs.Sets.{once-none, once-one, once-append}
 use Rattle.image_laws.specs.Sized.{Sized}
 use Rattle.image_laws.proofs.Bits.{mark-past}
 use Rattle.image_laws.proofs.Parts.{all-cong, all-none, all-first, zero-stretch}
 use Rattle.image_laws.proofs.Places.{word-in}
 use Rattle.image_laws.proofs.Sections.{granules-image}
-use Rattle.model.specs.Rows.{below}
 use Rattle.image_laws.proofs.Lengths.{sized-width, packets-words}
 
 -- ---- pieces by index
@@ -70,18 +69,14 @@ module _ (w k : ℕ) (l : List ℕ) (z : Sized w k l) where
       ∙ rw (all-cong n _ _ (λ e q. entry-in p e (omega arith)), zero-stretch (imageOf w k l .packets) (32 * p + 2 + n) (30 - n) (omega (arith, packets-words z)))
       (ap (λ b. all n (entryMarked (imageOf w k l) p) && b) (all-cong (30 - n) _ _ (λ i q. let y : 32 * p + 2 + (n + i) ≡ 32 * p + 2 + n + i = omega arith in entry-past p (n + i) (omega arith) ∙ rw y)))
 
-  -- word i of packet p
-  packet-nth : (p i : ℕ) → i < 32 → nth (take 32 (drop (32 * p) (imageOf w k l .packets))) i ≡ nth (imageOf w k l .packets) (32 * p + i)
-  packet-nth p i h = nth-take 32 (drop (32 * p) (imageOf w k l .packets)) i h ∙ nth-drop (32 * p) (imageOf w k l .packets) i
-
   pub packet-is : (p : ℕ) → packetOkAt (imageOf w k l) p ≡ every (leb (count (imageOf w k l) p) 30 ∷ eqb (nth (imageOf w k l .packets) (32 * p + 1)) 0 ∷ all 30 (entryOkAt (imageOf w k l) p) ∷ [])
   unfolding packetOkAt packetOk entryOkAt count entry every
   packet-is p =
       let o : 32 * p + 0 ≡ 32 * p = omega arith in
-      let c : nth (take 32 (drop (32 * p) (imageOf w k l .packets))) 0 ≡ nth (imageOf w k l .packets) (32 * p) = packet-nth p 0 (omega arith) ∙ ap (nth (imageOf w k l .packets)) o in
-      let b : all 30 (λ e. entryOk (imageOf w k l) (ltb e (nth (imageOf w k l .packets) (32 * p))) (nth (take 32 (drop (32 * p) (imageOf w k l .packets))) (2 + e))) ≡ all 30 (λ e. entryOk (imageOf w k l) (ltb e (nth (imageOf w k l .packets) (32 * p))) (nth (imageOf w k l .packets) (32 * p + 2 + e))) =
-      all-cong 30 _ _ (λ e h. let y : 32 * p + (2 + e) ≡ 32 * p + 2 + e = omega arith in rw (packet-nth p (2 + e) (omega arith), y)) in
-      rw (c, packet-nth p 1 (omega arith), b)
+      let ps : List ℕ = imageOf w k l .packets in
+      rw (nth-part 32 (32 * p) ps 0 (omega arith), o, nth-part 32 (32 * p) ps 1 (omega arith))
+      (ap (λ b. every (leb (nth ps (32 * p)) 30 ∷ eqb (nth ps (32 * p + 1)) 0 ∷ b ∷ []))
+      (all-cong 30 _ _ (λ e h. let y : 32 * p + (2 + e) ≡ 32 * p + 2 + e = omega arith in rw (nth-part 32 (32 * p) ps (2 + e) (omega arith), y))))
 
   module _ (p n : ℕ) (hp : p < 32) (en : n ≡ nth (imageOf w k l .packets) (32 * p)) where
     pub packet-many : 30 < n → false ≡ packetOkAt (imageOf w k l) p
@@ -106,16 +101,10 @@ module _ (w k : ℕ) (l : List ℕ) (z : Sized w k l) where
   all-packets = each-piece 32 32 (packetOk (imageOf w k l)) (imageOf w k l .packets)
 
   pub packed : all 32 (packetOkAt (imageOf w k l)) ≡ true → Packed (imageOf w k l)
-  packed h = record { counts = few; below = in-heap }
-    where
-      lines : (p : ℕ) → p < 32 → (i : ℕ) → getD (leb (count (imageOf w k l) p) 30 ∷ eqb (nth (imageOf w k l .packets) (32 * p + 1)) 0 ∷ all 30 (entryOkAt (imageOf w k l) p) ∷ []) i true ≡ true
-      lines p hp = every-use _ (sym (packet-is p) ∙ all-use 32 (packetOkAt (imageOf w k l)) h p hp)
-
-      few : (p : ℕ) → p < 32 → count (imageOf w k l) p ≤ 30
-      few p hp = leb-true _ _ (lines p hp 0)
-
-      in-heap : (p e : ℕ) → p < 32 → e < count (imageOf w k l) p → entry (imageOf w k l) p e < granules (imageOf w k l)
-      in-heap p e hp he = below-end p e he (all-use 30 (entryOkAt (imageOf w k l) p) (lines p hp 2) e (omega (arith, few p hp)))
+  packed h =
+      let ok = all-use 32 (packetOkAt (imageOf w k l)) h in
+      let few : (p : ℕ) → p < 32 → count (imageOf w k l) p ≤ 30 = λ p hp. leb-true _ _ (every-use _ (sym (packet-is p) ∙ ok p hp) 0) in
+      record { counts = few; below = λ p e hp he. below-end p e he (all-use 30 _ (every-use _ (sym (packet-is p) ∙ ok p hp) 2) e (omega (arith, few p hp))) }
 
 -- ---- the entries of a packet, none of them twice
 
@@ -130,7 +119,7 @@ module _ (w k : ℕ) (l : List ℕ) (z : Sized w k l) (packed : Packed (imageOf 
 
   entries-nth : (e : ℕ) → e < count (imageOf w k l) p → getD (packetEntries (imageOf w k l) p) e 0 ≡ nth (imageOf w k l .packets) (32 * p + 2 + e)
   unfolding packetEntries nth
-  entries-nth e h = nth-take (count (imageOf w k l) p) (drop (32 * p + 2) (imageOf w k l .packets)) e h ∙ nth-drop (32 * p + 2) (imageOf w k l .packets) e
+  entries-nth e h = nth-part (count (imageOf w k l) p) (32 * p + 2) (imageOf w k l .packets) e h
 
 -- `after` holds the granules of the first e of the n entries of l besides those of `before`
 pub record EntriesSearched (w : ℕ) (l : List ℕ) (n : ℕ) (before : List ℕ) (ok : Bool) (e : ℕ) (after : List ℕ) : Type 0 where

@@ -118,11 +118,13 @@ module _ (w k : ℕ) (l set bs : List ℕ) (z : Sized w k l) (t : Targets w (ima
           let low : 4 * c + (4 * d + j) ≡ 4 * (c + d) + j = omega arith in
           let high : 4 * w + 4 * c + (4 * d + j) ≡ 4 * w + 4 * (c + d) + j = omega arith in
           let long : 4 * d + j < length words = simp (length-take, length-drop) (omega (arith, heap-words z)) in
-          let e = rw (nth-part (4 * (a - c + w) - 4 * a) (4 * a) (imageOf w k l .heap) (4 * d + j) (omega arith), this) at (all-use (length words) _ h (4 * d + j) long) in
+          let p = nth-part (4 * (a - c + w) - 4 * a) (4 * a) (imageOf w k l .heap) (4 * d + j) (omega arith) in
+          let e = rw (p, this) at (all-use (length words) _ h (4 * d + j) long) in
           let above : nth lows (4 * d + j) ≤ nth (imageOf w k l .heap) (4 * (a + d) + j) = leb-true _ _ (every-use _ e 0) in
           let below : nth (imageOf w k l .heap) (4 * (a + d) + j) ≤ nth highs (4 * d + j) = leb-true _ _ (every-use _ e 1) in
           let least : nth lows (4 * d + j) ≡ leastAt j = nth-part (4 * w - 4 * c) (4 * c) bs (4 * d + j) (omega arith) ∙ rw low (b .least (c + d) j hd q) in
-          let most : nth highs (4 * d + j) ≡ mostAt (lastFull w set) j = nth-part (8 * w - (4 * w + 4 * c)) (4 * w + 4 * c) bs (4 * d + j) (omega arith) ∙ rw high (b .most (c + d) j hd q) in
+          let most : nth highs (4 * d + j) ≡ mostAt (lastFull w set) j =
+          nth-part (8 * w - (4 * w + 4 * c)) (4 * w + 4 * c) bs (4 * d + j) (omega arith) ∙ rw high (b .most (c + d) j hd q) in
           (omega arith, omega arith)
 
       bounded-small : smallAt (imageOf w k l) (a + d) ≡ true
