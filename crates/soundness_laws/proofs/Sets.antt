@@ -146,15 +146,16 @@ module _ (w : ℕ) where
         | no e ↦ absurd (omega (arith, rw (ne-eqb x (2 ^ w - 1) e) at h))
       ]
 
-  ones-bit : (j : ℕ) → j < w → testBit (2 ^ w - 1) j ≡ true
-  ones-bit j h = on-digit _ (omega (arith, bit-not w 0 (2 ^ w - 1) j (omega (arith, pow-pos w)) h, bit-none j))
+  -- a word of w bits that are all set
+  pub ones-bit : (x j : ℕ) → x + 1 ≡ 2 ^ w → j < w → testBit x j ≡ true
+  ones-bit x j e h = on-digit (testBit x j) (omega (arith, bit-not w 0 x j (omega arith) h, bit-none j))
 
   pub full-place : (set : List ℕ) (g : ℕ) → g < w * fullWords w set → g / w < fullWords w set
   full-place set g h = div-lt-iff-lt-mul (some-width w (fullWords w set) g h) .1 (rw (mul-comm (fullWords w set) w) h)
 
   full-bit : (set : List ℕ) (g : ℕ) → g < w * fullWords w set → bit w set g ≡ true
   unfolding bit
-  full-bit set g h = rw (full-word set (g / w) (full-place set g h)) (ones-bit (g % w) (mod-lt g (some-width w (fullWords w set) g h)))
+  full-bit set g h = rw (full-word set (g / w) (full-place set g h)) (ones-bit (2 ^ w - 1) (g % w) (omega (arith, pow-pos w)) (mod-lt g (some-width w (fullWords w set) g h)))
 
 -- ---- what the full words of the targets tell: their values are nil or starts
 
