@@ -78,7 +78,8 @@ module _ (w : ℕ) (m : Image) (from i n : ℕ) (en : n ≡ links m (w * i + w -
 
 -- ---- a near word is covered
 
-module _ (w k : ℕ) (l : List ℕ) (z : Sized w k l) (c : Coverable k (imageOf w k l)) (from i : ℕ) (s : MarkedStretch w (imageOf w k l) from (i + 1)) (h : from ≤ i) (hi : i < 64 * k / w) (r : Bool) (e : r ≡ nearWord w (imageOf w k l) from i) (t : r ≡ true) where
+module _ (w k : ℕ) (l : List ℕ) (z : Sized w k l) (c : Coverable k (imageOf w k l)) (from i : ℕ) (s : MarkedStretch w (imageOf w k l) from (i + 1)) (h : from ≤ i) (hi : i < 64 * k / w)
+    (r : Bool) (e : r ≡ nearWord w (imageOf w k l) from i) (t : r ≡ true) where
   here-marked : (j : ℕ) → j < w → marked (imageOf w k l) (w * i + j) ≡ true
   here-marked j q = s .are-marked (w * i + j) (omega (arith, mul-le-mul-left w h)) (omega (arith, next-word w i))
 
@@ -104,7 +105,8 @@ module _ (w k : ℕ) (l : List ℕ) (z : Sized w k l) (c : Coverable k (imageOf 
   link-plain j p q b =
       let full : w * i + w ≤ 64 * k = omega (arith, next-word w i, words-full w k (sized-width z), mul-le-mul-left {m = i + 1} {n = 64 * k / w} w (omega arith)) in
       let g : 4 * (w * i) + (4 * j + (2 + p)) ≡ 4 * (w * i + j) + (2 + p) = omega arith in
-      value-plain (w * i + j) p _ refl (rw g at (near-at _ _ (4 * (w * i)) (4 * w) _ (every-use _ (sym e ∙ t) 1) (omega (arith, heap-words z)) (4 * j + (2 + p)) (omega arith)))
+      value-plain (w * i + j) p _ refl
+      (rw g at (near-at _ _ (4 * (w * i)) (4 * w) _ (every-use _ (sym e ∙ t) 1) (omega (arith, heap-words z)) (4 * j + (2 + p)) (omega arith)))
 
   pub near-covered : true ≡ wordwise w (objectCovered (imageOf w k l)) i
   unfolding wordwise atWord

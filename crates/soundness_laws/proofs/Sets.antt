@@ -155,7 +155,8 @@ module _ (w : ℕ) where
 
   full-bit : (set : List ℕ) (g : ℕ) → g < w * fullWords w set → bit w set g ≡ true
   unfolding bit
-  full-bit set g h = rw (full-word set (g / w) (full-place set g h)) (ones-bit (2 ^ w - 1) (g % w) (omega (arith, pow-pos w)) (mod-lt g (some-width w (fullWords w set) g h)))
+  full-bit set g h =
+      rw (full-word set (g / w) (full-place set g h)) (ones-bit (2 ^ w - 1) (g % w) (omega (arith, pow-pos w)) (mod-lt g (some-width w (fullWords w set) g h)))
 
 -- ---- what the full words of the targets tell: their values are nil or starts
 
