@@ -8,18 +8,14 @@ use lib.ListN.{length, set, take, drop, getD}
 use lib.Seq.{drop-cons, drop-drop, take-take, getD-take, getD-drop}
 use borrow.Rule.Slice.PartMut.{midOf, putMid}
 use Rattle.model.specs.Base.{nth, put}
-use Rattle.model.specs.Image.{Image, place, lengths, sections, split, imageOf, image, packetsAt, count, entry, withPackets}
+use Rattle.model.specs.Image.{Image, place, lengths, split, imageOf, image, packetsAt, count, entry, withPackets}
 use Rattle.model.specs.Collect.{append, pop}
 use Rattle.image_laws.specs.Sized.{Sized}
 use Rattle.image_laws.proofs.Split.{split-part}
-use Rattle.image_laws.proofs.Sections.{image-fits}
+use Rattle.image_laws.proofs.Lengths.{packets-words}
 use Rattle.image_laws.proofs.Clearing.{mid-section}
 use Rattle.tracers_laws.specs.Packet.{Packet, Tidy, LastOff, packetAt, withEntry, withoutLast, wordsOf, withPacket}
 use Rattle.tracers_laws.proofs.Writes.{writes, write}
-
-packets-long : {w k : ℕ} {ws : List ℕ} → Sized w k ws → length (imageOf w k ws .packets) ≡ 1024
-unfolding sections imageOf image
-packets-long z = ap (λ (l : List ℕ). getD l packetsAt 0) (image-fits z .section-lengths)
 
 -- ---- read and written
 
@@ -95,10 +91,10 @@ popped-count q r e = ap (λ (x : Packet). x .count) e
 
 module _ (w k : ℕ) (ws : List ℕ) (z : Sized w k ws) (p : ℕ) (h : p < 32) (t : Tidy (imageOf w k ws) p) (q r : Packet) (e : q ≡ packetAt (imageOf w k ws) p) (n : Image) (f : n ≡ withPacket (imageOf w k ws) p r) where
   pub append-done : (g : ℕ) → r ≡ withEntry q g → count (imageOf w k ws) p < 30 → n ≡ append (imageOf w k ws) p g
-  append-done g s c = f ∙ rw (s, e) (entry-on (imageOf w k ws) p h (packets-long z) t g c)
+  append-done g s c = f ∙ rw (s, e) (entry-on (imageOf w k ws) p h (packets-words z) t g c)
 
   pub pop-done : (g : ℕ) → g ≡ nth (q .entries) (q .count - 1) → r ≡ withoutLast q → 0 < count (imageOf w k ws) p → LastOff (imageOf w k ws) p g n
   pop-done g l s c = record {
-    is-last = l ∙ rw (packet-count (imageOf w k ws) p q e, e) (last-entry (imageOf w k ws) p h (packets-long z) t c);
-    is-left = f ∙ rw (s, e) (last-off (imageOf w k ws) p h (packets-long z) t c);
+    is-last = l ∙ rw (packet-count (imageOf w k ws) p q e, e) (last-entry (imageOf w k ws) p h (packets-words z) t c);
+    is-left = f ∙ rw (s, e) (last-off (imageOf w k ws) p h (packets-words z) t c);
   }

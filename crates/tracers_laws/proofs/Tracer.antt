@@ -1,10 +1,12 @@
 -- A tracer read from the image and written back: what its next states by value do to the image.
 use mathlib.Core.Path.{_≡_, refl, sym, ap, _∙_}
-use mathlib.Core.Bool.{Bool, true, false, cond}
+use mathlib.Core.Bool.{cond}
 use mathlib.Core.List.{List, [], _∷_}
 use Prim.Native.Nat.{ℕ, zero, suc, _+_, _*_, _≤_, _<_}
 use native.Mathlib.Omega.{arith}
-use native.Mathlib.Numerals.{add-one}
+use native.Mathlib.Numerals.{add-one, towards-numerals}
+use mathlib.Core.Logic.{inl, inr}
+use Rattle.model.proofs.Laws.{bool-cases}
 use lib.Dec.{ltb}
 use lib.ListN.{length, getD}
 use lib.Seq.{drop-cons}
@@ -38,13 +40,7 @@ mid-from (suc n) l o h = rw (drop-cons l o 0 (omega arith)) (ap (λ r. getD l o 
 
 mid-six : (l : List ℕ) (o : ℕ) → o + 6 ≤ length l → midOf o 6 l ≡ six l o
 unfolding from
-mid-six l o h =
-    let a : suc o ≡ o + 1 = omega arith in
-    let b : suc (suc o) ≡ o + 2 = omega arith in
-    let c : suc (suc (suc o)) ≡ o + 3 = omega arith in
-    let d : suc (suc (suc (suc o))) ≡ o + 4 = omega arith in
-    let e : suc (suc (suc (suc (suc o)))) ≡ o + 5 = omega arith in
-    rw (e, d, c, b, a) at (mid-from 6 l o h)
+mid-six l o h = simp towards-numerals at (mid-from 6 l o h)
 
 -- the six words of a state written, then r
 abbrev words-then : Tracer → List Write → List Write
@@ -103,11 +99,11 @@ module _ (m : Image) (t : ℕ) (h : t < 8) (l : length (m .tracers) ≡ 64) wher
 
   pub link-done-written : (n : ℕ) → withTracer m t (linkDone (tracerAt m t) n) ≡ cond (ltb (suc (nextLink m t)) n) (putHand m t (hand m t) (suc (nextLink m t))) (putHand m t 0 0)
   unfolding linkDone putHand tracer-open
-  link-done-written n = rw (← add-one (nextLink m t)) (go (ltb (nextLink m t + 1) n))
-    where
-      go : (b : Bool) → withTracer m t (cond b (atNextLink (tracerAt m t)) (handEmpty (tracerAt m t))) ≡ cond b (putHand m t (hand m t) (nextLink m t + 1)) (putHand m t 0 0)
-      go true = by-writes _ (write 2 (hand m t) ∷ write 3 (nextLink m t + 1) ∷ []) (omega arith, (omega arith, tt)) refl
-      go false = by-writes _ (write 2 0 ∷ write 3 0 ∷ []) (omega arith, (omega arith, tt)) refl
+  link-done-written n =
+      rw (← add-one (nextLink m t)) (elim (bool-cases (ltb (nextLink m t + 1) n)) [
+        | inl e ↦ rw e (by-writes _ (write 2 (hand m t) ∷ write 3 (nextLink m t + 1) ∷ []) (omega arith, (omega arith, tt)) refl)
+        | inr e ↦ rw e (by-writes _ (write 2 0 ∷ write 3 0 ∷ []) (omega arith, (omega arith, tt)) refl)
+      ])
 
   pub object-written : (g : ℕ) → withTracer m t (objectInHand (tracerAt m t) g) ≡ putHand m t g 0
   unfolding objectInHand putHand tracer-open
