@@ -4,7 +4,8 @@ use mathlib.Core.Bool.{cond}
 use mathlib.Core.List.{List, [], _∷_}
 use Prim.Native.Nat.{ℕ, zero, suc, _+_, _*_, _≤_, _<_}
 use native.Mathlib.Omega.{arith}
-use native.Mathlib.Numerals.{add-one, towards-numerals}
+use native.Mathlib.Nat.{add-zero, add-suc, suc-add}
+use native.Mathlib.Numerals.{add-one}
 use mathlib.Core.Logic.{inl, inr}
 use Rattle.model.proofs.Laws.{bool-cases}
 use lib.Dec.{ltb}
@@ -12,7 +13,7 @@ use lib.ListN.{length, getD}
 use lib.Seq.{drop-cons}
 use borrow.Rule.Slice.PartMut.{midOf, putMid}
 use borrow.Author.Tests.{lt-ltb, le-ltb}
-use Rattle.model.specs.Base.{nth, put}
+use Rattle.model.specs.Base.{nth, put, table}
 use Rattle.model.specs.Image.{Image, sections, imageOf, image, tracersAt, input, output, hand, nextLink, handCard, nextGranule, setTracer, withTracers}
 use Rattle.image_laws.specs.Sized.{Sized}
 use Rattle.image_laws.proofs.Sections.{image-fits}
@@ -29,18 +30,15 @@ abbrev six : List ℕ → ℕ → List ℕ
 six l o = nth l o ∷ nth l (o + 1) ∷ nth l (o + 2) ∷ nth l (o + 3) ∷ nth l (o + 4) ∷ nth l (o + 5) ∷ []
 
 -- n words from o on, one by one
-from : List ℕ → ℕ → ℕ → List ℕ
-from l o zero = []
-from l o (suc n) = nth l o ∷ from l (suc o) n
-
-mid-from : (n : ℕ) (l : List ℕ) (o : ℕ) → o + n ≤ length l → midOf o n l ≡ from l o n
-unfolding nth from
-mid-from zero l o h = refl
-mid-from (suc n) l o h = rw (drop-cons l o 0 (omega arith)) (ap (λ r. getD l o 0 ∷ r) (mid-from n l (suc o) (omega arith)))
+mid-table : (n : ℕ) (l : List ℕ) (o : ℕ) → o + n ≤ length l → midOf o n l ≡ table n (λ i. nth l (o + i))
+unfolding nth table
+mid-table zero l o h = refl
+mid-table (suc n) l o h =
+    rw (drop-cons l o 0 (omega arith)) (simp (add-zero, add-suc) (ap (λ r. getD l o 0 ∷ r) (simp suc-add at (mid-table n l (suc o) (omega arith)))))
 
 mid-six : (l : List ℕ) (o : ℕ) → o + 6 ≤ length l → midOf o 6 l ≡ six l o
-unfolding from
-mid-six l o h = simp towards-numerals at (mid-from 6 l o h)
+unfolding table
+mid-six l o h = rw (add-zero o) at (mid-table 6 l o h)
 
 -- the six words of a state written, then r
 abbrev words-then : Tracer → List Write → List Write
