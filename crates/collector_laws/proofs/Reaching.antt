@@ -91,11 +91,7 @@ start-in w k ws g (inl e) z = absurd (z e)
 start-in w k ws g (inr s) z = s .0
 
 pub marked-lines : (m n : Image) (g : ℕ) → n ≡ setMark m g → Lines m → NilOr (Start m) g → (g ≡ 0 → ⊥) → Lines n
-marked-lines m n g f o s z = rw f (mark-lines o g (is-start s))
-  where
-    is-start : NilOr (Start m) g → Start m g
-    is-start (inl e) = absurd (z e)
-    is-start (inr s) = s
+marked-lines m n g f o s z = rw f (mark-lines o g (elim s [ inl e ↦ absurd (z e) | inr q ↦ q ]))
 
 module _ (m : Image) (t g : ℕ) where
   pub reach-nil : g ≡ 0 → m ≡ reach m t g

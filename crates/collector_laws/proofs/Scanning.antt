@@ -13,7 +13,6 @@ use Rattle.theory.specs.Lines.{NilOr, Start, Lines}
 use Rattle.theory.proofs.heap.Facts.{reg-value}
 use Rattle.theory.proofs.steps.Reaching.{ReachedOnce, reach-does}
 use Rattle.collector_laws.specs.Outcome.{doneUnless}
-use Rattle.model.specs.Examples.{at}
 use Rattle.request_laws.specs.Answer.{done}
 use lib.Dec.{eqb}
 use borrow.Author.Tests.{eq-eqb, ne-eqb}
