@@ -12,11 +12,11 @@ use lib.Seq.{drop-drop}
 use borrow.Author.Tests.{not-true, not-false}
 use Rattle.model.specs.Base.{nth, all, implies, every, zeroes}
 use Rattle.model.specs.Image.{image, imageOf, granules, word, isStart, links, firstRun, mostCards}
-use Rattle.model.specs.Undamaged.{piece, fill, filled, linksOk, zeroGranule}
+use Rattle.model.specs.Undamaged.{bare, piece, fill, filled, linksOk, zeroGranule}
 use Rattle.model.proofs.Laws.{false≢, bool-cases, and-split, all-use, all-make, every-use}
 use Rattle.soundness_laws.specs.Tests.{startsIn, linkOk, objectOk, pieceOk, nextRun, LinksInside}
 use Rattle.soundness_laws.proofs.Checks.{all-append}
-use Rattle.soundness_laws.proofs.Pieces.{head-use, piece-split, piece-size, tail-at, tail-long, head-is, bare-is, object-is}
+use Rattle.soundness_laws.proofs.Pieces.{head-use, piece-split, piece-size, tail-at, tail-long, head-is, object-is}
 use Rattle.soundness_laws.proofs.Starts.{notStart, clear, count-le, seen-more, seen-few}
 use Rattle.image_laws.specs.Sized.{Sized}
 use Rattle.image_laws.proofs.Parts.{all-first, zero-stretch}
@@ -54,12 +54,12 @@ module _ (w k : ℕ) (l : List ℕ) where
     module _ (g next : ℕ) (run : Bool) (hg : g < 64 * k) where
       -- the piece in order, and no start inside it
       by-pieces : (n : ℕ) → fillFrom (suc n) g next run ≡ ((pieceOk (imageOf w k l) g next run && clear (imageOf w k l) (g + 1) (word (imageOf w k l) g 0 - 1)) && fillFrom n (g + word (imageOf w k l) g 0) (nextRun (imageOf w k l) g next) (not (isStart (imageOf w k l) g)))
-      unfolding pieceOk nextRun
+      unfolding pieceOk nextRun bare clear notStart
       by-pieces n =
           let e : 4 * g + 4 * word (imageOf w k l) g 0 ≡ 4 * (g + word (imageOf w k l) g 0) = omega arith in
           rw (head-is w k l z g hg)
           (fill-more (isStart (imageOf w k l)) n g _ _ next run
-          ∙ rw (piece-split (isStart (imageOf w k l)), bare-is w k l z g hg, tail-at w k l z g hg 0, ← (head-is w k l z g hg), drop-drop, e))
+          ∙ rw (piece-split (isStart (imageOf w k l)), tail-at w k l z g hg 0, ← (head-is w k l z g hg), drop-drop, e))
 
       -- a piece that is in order is not empty, and lies inside
       fine : pieceOk (imageOf w k l) g next run ≡ true → (1 ≤ word (imageOf w k l) g 0) × (g + word (imageOf w k l) g 0 ≤ 64 * k)
@@ -73,12 +73,6 @@ module _ (w k : ℕ) (l : List ℕ) where
           let h = head-use k g (word (imageOf w k l) g 0) (word (imageOf w k l) g 1) (object-is w k l z g hg _ _ refl refl ∙ rw q at e) in
           omega (arith, h .inside, h .links-in)
 
-    clear-use : (a n h : ℕ) → clear (imageOf w k l) a n ≡ true → a ≤ h → h < a + n → isStart (imageOf w k l) h ≡ false
-    unfolding clear notStart
-    clear-use a n h e p q =
-        let i : a + (h - a) ≡ h = omega arith in
-        rw i at (not-true (isStart (imageOf w k l) (a + (h - a))) (all-use n (notStart (imageOf w k l) a) e (h - a) (omega arith)))
-
     -- ---- the loop
 
     links-none : (h : ℕ) → isStart (imageOf w k l) h ≡ false → linksOk (imageOf w k l) h ≡ true
@@ -86,9 +80,12 @@ module _ (w k : ℕ) (l : List ℕ) where
     links-none h e = rw e
 
     links-more : (g s : ℕ) → 1 ≤ s → clear (imageOf w k l) (g + 1) (s - 1) ≡ true → all (g + s) (linksOk (imageOf w k l)) ≡ (all g (linksOk (imageOf w k l)) && linksOk (imageOf w k l) g)
+    unfolding clear notStart
     links-more g s p c =
         let e : suc (s - 1) ≡ s = omega arith in
-        let a : all (s - 1) (λ i. linksOk (imageOf w k l) (g + suc i)) ≡ true = all-make (s - 1) _ (λ i h. links-none (g + suc i) (clear-use (g + 1) (s - 1) (g + suc i) c (omega arith) (omega arith))) in
+        let a : all (s - 1) (λ i. linksOk (imageOf w k l) (g + suc i)) ≡ true = all-make (s - 1) _ (λ i h.
+        let q : g + 1 + i ≡ g + suc i = omega arith in
+        links-none (g + suc i) (rw q at (not-true (isStart (imageOf w k l) (g + 1 + i)) (all-use (s - 1) (notStart (imageOf w k l) (g + 1)) c i h)))) in
         all-append g s (linksOk (imageOf w k l))
         ∙ ap (λ b. all g (linksOk (imageOf w k l)) && b) ((rw e at (all-first (s - 1) (λ i. linksOk (imageOf w k l) (g + i)))) ∙ rw (a, add-zero) (and-true _))
 

@@ -39,14 +39,11 @@ module _ (w k : ℕ) (l : List ℕ) where
   unfolding marked bit
   no-mark e g = zero-bit _ _ (zeroes-use (imageOf w k l .marks) e _)
 
-  module _ (z : (i : ℕ) → nth (imageOf w k l .packets) i ≡ 0) where
-    entry-idle : (p e : ℕ) → entryOkAt (imageOf w k l) p e ≡ true
-    unfolding entryOkAt entryOk count entry
-    entry-idle p e = rw (z (32 * p), z (32 * p + 2 + e), le-ltb e 0 (omega arith))
-
-    packet-idle : (s : Sized w k l) (p : ℕ) → packetOkAt (imageOf w k l) p ≡ true
-    unfolding every count
-    packet-idle s p = rw (packet-is w k l s p, z (32 * p), z (32 * p + 1), all-make 30 (entryOkAt (imageOf w k l) p) (λ e h. entry-idle p e))
+  packet-idle : ((i : ℕ) → nth (imageOf w k l .packets) i ≡ 0) → Sized w k l → (p : ℕ) → packetOkAt (imageOf w k l) p ≡ true
+  unfolding every count entryOkAt entryOk entry
+  packet-idle z s p =
+      let entries = all-make 30 (entryOkAt (imageOf w k l) p) (λ e h. rw (z (32 * p), z (32 * p + 2 + e), le-ltb e 0 (omega arith))) in
+      rw (packet-is w k l s p, z (32 * p + 1), entries, z (32 * p))
 
   module _ (z : (i : ℕ) → nth (imageOf w k l .tracers) i ≡ 0) where
     tracer-idle : (t : ℕ) → tracerOk (imageOf w k l) t ≡ true

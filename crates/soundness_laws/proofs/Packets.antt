@@ -159,10 +159,6 @@ a-end w k l z packed p hp before seen n e ok a h en =
 -- ---- packet after packet
 
 module _ (w k : ℕ) (l : List ℕ) where
-  packet-more : (p : ℕ) → entriesOf (suc p) (imageOf w k l .packets) ≡ entriesOf p (imageOf w k l .packets) ++ packetEntries (imageOf w k l) p
-  unfolding packetEntries count
-  packet-more p = entries-more p (imageOf w k l .packets)
-
   pub record PacketsSearched (before : List ℕ) (ok : Bool) (p : ℕ) (after : List ℕ) : Type 0 where
     pub within : p ≤ 32
     pub long : length after ≡ setWords w
@@ -173,8 +169,9 @@ module _ (w k : ℕ) (l : List ℕ) where
   p-none before h = record { within = omega arith; long = h; so-far = once-none }
 
   pub p-more : (before seen seen′ : List ℕ) (p : ℕ) (ok t : Bool) → PacketsSearched before ok p seen → p < 32 → AddedOnce w seen (packetEntries (imageOf w k l) p) t seen′ → PacketsSearched before (ok && t) (p + 1) seen′
+  unfolding packetEntries count
   p-more before seen seen′ p ok t a h o =
-      rw add-one (record { within = omega arith; long = o .same-length ∙ a .long; so-far = rw (packet-more p) (once-append (a .so-far) o) })
+      rw add-one (record { within = omega arith; long = o .same-length ∙ a .long; so-far = rw (entries-more p (imageOf w k l .packets)) (once-append (a .so-far) o) })
 
   pub p-end : (before seen : List ℕ) (p : ℕ) (ok : Bool) → PacketsSearched before ok p seen → 32 ≤ p → AddedOnce w before (entries (imageOf w k l)) ok seen
   unfolding entries

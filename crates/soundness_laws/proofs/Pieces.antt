@@ -14,7 +14,6 @@ use Rattle.model.specs.Undamaged.{bare, piece}
 use Rattle.model.proofs.Laws.{all-make, and-split, and-join, every-use, every-cons, every-nil, same-test}
 use Rattle.model.proofs.Entries.{nth-drop}
 use Rattle.soundness_laws.specs.Tests.{objectOk, runOk, pieceOk, nextRun}
-use Rattle.soundness_laws.proofs.Starts.{notStart, clear}
 use Rattle.image_laws.specs.Sized.{Sized}
 use Rattle.image_laws.proofs.Parts.{all-cong, zero-stretch}
 use Rattle.image_laws.proofs.Lengths.{heap-words}
@@ -79,10 +78,6 @@ module _ (w k : ℕ) (l : List ℕ) (z : Sized w k l) (g : ℕ) (hg : g < 64 * k
   pub head-is : drop (4 * g) (imageOf w k l .heap) ≡ word (imageOf w k l) g 0 ∷ drop (suc (4 * g)) (imageOf w k l .heap)
   unfolding word nth
   head-is = let e : 4 * g + 0 ≡ 4 * g = omega arith in rw e (drop-cons (imageOf w k l .heap) (4 * g) 0 (omega (arith, heap-words z)))
-
-  pub bare-is : (s : ℕ) → bare (isStart (imageOf w k l)) g s ≡ clear (imageOf w k l) (g + 1) (s - 1)
-  unfolding bare clear notStart
-  bare-is s = refl
 
   pub object-is : (s n : ℕ) → s ≡ word (imageOf w k l) g 0 → n ≡ word (imageOf w k l) g 1 → headOk k g s n ≡ objectOk (imageOf w k l) g
   unfolding objectOk piece

@@ -1,6 +1,6 @@
 -- Objects of one granule, side by side: the tests that find them, and the walk's turns that they stand for.
 use mathlib.Core.Path.{_≡_, refl, sym, _∙_, ap}
-use mathlib.Core.Bool.{Bool, true, false, _&&_, and-true, and-assoc}
+use mathlib.Core.Bool.{Bool, true, false, _&&_, and-true, and-assoc, or-true}
 use mathlib.Core.List.{List, [], _∷_}
 use Prim.Native.Nat.{ℕ, zero, suc, _+_, _*_, _-_, _/_, _%_, _≤_, _<_, min}
 use native.Mathlib.Nat.{add-zero, mul-suc, mul-le-mul-left, mod-lt, div-add-mod}
@@ -12,7 +12,7 @@ use lib.ListN.{length, take, drop, length-take, length-drop}
 use borrow.Author.Tests.{leb-true, eqb-true, le-leb, eq-eqb}
 use Rattle.model.specs.Base.{nth, all, every}
 use Rattle.model.specs.Image.{Image, imageOf, word, isStart, links, link, firstRun}
-use Rattle.model.proofs.Laws.{all-use, all-make, every-use, every-cons, every-nil, length-put, nth-put-same, nth-put-other}
+use Rattle.model.proofs.Laws.{all-use, every-use, every-cons, every-nil, length-put, nth-put-same, nth-put-other}
 use Rattle.image_laws.specs.Sized.{Sized}
 use Rattle.image_laws.specs.Compare.{between, within}
 use Rattle.image_laws.specs.Digits.{digit}
@@ -20,7 +20,7 @@ use Rattle.image_laws.proofs.Lengths.{heap-words}
 use Rattle.soundness_laws.specs.Tests.{linkOk, objectOk, onward}
 use Rattle.soundness_laws.specs.Sets.{Targets, fullWords, lastFull}
 use Rattle.soundness_laws.specs.Small.{smallAt, SmallFrom, SmallUpto, leastAt, mostAt, Bounds, putFour}
-use Rattle.soundness_laws.proofs.Checks.{from-use, nth-part}
+use Rattle.soundness_laws.proofs.Checks.{from-use, first-two, nth-part}
 use Rattle.soundness_laws.proofs.Sets.{some-width, low-target, full-place, full-start, full-inside}
 use Rattle.soundness_laws.proofs.Pieces.{head-make, object-is, piece-object, next-of-object}
 use Rattle.soundness_laws.proofs.Heap.{HeapWalk, w-start, w-more, links-object}
@@ -46,19 +46,18 @@ module _ (l : List ℕ) (o a b c d : ℕ) where
       ∙ (nth-put-other _ (o + 1) q b (λ e. h (omega arith) (omega arith))
       ∙ nth-put-other l o q a (λ e. h (omega arith) (omega arith))))
 
-  module _ (h : o + 4 ≤ length l) where
-    four-at : (j : ℕ) → j < 4 → nth (putFour l o a b c d) (o + j) ≡ nth (a ∷ b ∷ c ∷ d ∷ []) j
-    unfolding putFour nth
-    four-at zero q =
-        rw (add-zero o)
-        (nth-put-other _ (o + 3) o d (λ e. absurd (omega arith))
-        ∙ (nth-put-other _ (o + 2) o c (λ e. absurd (omega arith)) ∙ (nth-put-other _ (o + 1) o b (λ e. absurd (omega arith)) ∙ nth-put-same l o a (omega arith))))
-    four-at (suc zero) q =
-        nth-put-other _ (o + 3) (o + 1) d (λ e. absurd (omega arith))
-        ∙ (nth-put-other _ (o + 2) (o + 1) c (λ e. absurd (omega arith)) ∙ nth-put-same _ (o + 1) b (simp length-put (omega arith)))
-    four-at (suc (suc zero)) q = nth-put-other _ (o + 3) (o + 2) d (λ e. absurd (omega arith)) ∙ nth-put-same _ (o + 2) c (simp length-put (omega arith))
-    four-at (suc (suc (suc zero))) q = nth-put-same _ (o + 3) d (simp length-put (omega arith))
-    four-at (suc (suc (suc (suc j)))) q = absurd (omega arith)
+  four-at : o + 4 ≤ length l → (j : ℕ) → j < 4 → nth (putFour l o a b c d) (o + j) ≡ nth (a ∷ b ∷ c ∷ d ∷ []) j
+  unfolding putFour nth
+  four-at h zero q =
+      rw (add-zero o)
+      (nth-put-other _ (o + 3) o d (λ e. absurd (omega arith))
+      ∙ (nth-put-other _ (o + 2) o c (λ e. absurd (omega arith)) ∙ (nth-put-other _ (o + 1) o b (λ e. absurd (omega arith)) ∙ nth-put-same l o a (omega arith))))
+  four-at h (suc zero) q =
+      nth-put-other _ (o + 3) (o + 1) d (λ e. absurd (omega arith))
+      ∙ (nth-put-other _ (o + 2) (o + 1) c (λ e. absurd (omega arith)) ∙ nth-put-same _ (o + 1) b (simp length-put (omega arith)))
+  four-at h (suc (suc zero)) q = nth-put-other _ (o + 3) (o + 2) d (λ e. absurd (omega arith)) ∙ nth-put-same _ (o + 2) c (simp length-put (omega arith))
+  four-at h (suc (suc (suc zero))) q = nth-put-same _ (o + 3) d (simp length-put (omega arith))
+  four-at h (suc (suc (suc (suc j)))) q = absurd (omega arith)
 
 module _ (w top : ℕ) (l : List ℕ) where
   pub bounds-none : length l ≡ 8 * w → Bounds w top 0 l
@@ -132,13 +131,10 @@ module _ (w k : ℕ) (l set bs : List ℕ) (z : Sized w k l) (t : Targets w (ima
       bounded-small =
           let one : (1 ≤ word (imageOf w k l) (a + d) 0) × (word (imageOf w k l) (a + d) 0 ≤ 1) = word-between 0 (omega arith) in
           let few : word (imageOf w k l) (a + d) 1 ≤ 2 = word-between 1 (omega arith) .1 in
+          let first : linkOk (imageOf w k l) (a + d) 0 ≡ true = low-target w k l z set t _ (word-between 2 (omega arith) .1) in
+          let last : linkOk (imageOf w k l) (a + d) 1 ≡ true = low-target w k l z set t _ (word-between 3 (omega arith) .1) in
           every-cons _ _ (eq-eqb (word (imageOf w k l) (a + d) 0) 1 (omega arith))
-          (every-cons _ _ (le-leb _ _ few) (every-cons _ _ (all-make _ _ (λ i q. link-low i (omega arith))) every-nil))
-        where
-          link-low : (i : ℕ) → i < 2 → linkOk (imageOf w k l) (a + d) i ≡ true
-          link-low zero q = low-target w k l z set t _ (word-between 2 (omega arith) .1)
-          link-low (suc zero) q = low-target w k l z set t _ (word-between 3 (omega arith) .1)
-          link-low (suc (suc i)) q = absurd (omega arith)
+          (every-cons _ _ (le-leb _ _ few) (every-cons _ _ (sym (first-two (linkOk (imageOf w k l) (a + d)) _ true true (sym first) (sym last)) ∙ simp or-true) every-nil))
 
     pub word-small : (r : Bool) → r ≡ within lows highs words → r ≡ true → SmallFrom (imageOf w k l) a (a - c + w)
     word-small r e h = record { small = λ g p q. let o : a + (g - a) ≡ g = omega arith in rw o at (bounded-small (sym e ∙ h) (g - a) (omega arith)) }
