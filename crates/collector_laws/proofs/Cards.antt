@@ -14,11 +14,10 @@ use Rattle.model.specs.Collect.{lowestDirty}
 
 -- ---- the lowest number that passes
 
-module _ (ok : ℕ → Bool) where
-  lowest-on : (d n p : ℕ) → lowest ok n ≡ suc p → lowest ok (d + n) ≡ suc p
-  unfolding lowest best
-  lowest-on zero n p e = rw (zero-add n) e
-  lowest-on (suc d) n p e = rw (suc-add d n, lowest-on d n p e, and-false (ok (d + n)), best)
+lowest-on : (ok : ℕ → Bool) (d n p : ℕ) → lowest ok n ≡ suc p → lowest ok (d + n) ≡ suc p
+unfolding lowest best
+lowest-on ok zero n p e = rw (zero-add n) e
+lowest-on ok (suc d) n p e = rw (suc-add d n, lowest-on ok d n p e, and-false (ok (d + n)), best)
 
 -- ---- the walk over the cards
 

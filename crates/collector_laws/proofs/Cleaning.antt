@@ -41,9 +41,8 @@ module _ (w k : ℕ) (ws : List ℕ) (o : Lines (imageOf w k ws)) (t : ℕ) (h :
     pub card-in : c ≤ k
     card-in = rw a (in-range .0)
 
-    module _ (n : ℕ) (b : n ≡ x .granule) where
-      pub card-from : 64 * c ≤ n + 64
-      card-from = rw (a, b) (in-range .1)
+    pub card-from : (n : ℕ) → n ≡ x .granule → 64 * c ≤ n + 64
+    card-from n b = rw (a, b) (in-range .1)
 
   module _ (g : ℕ) (f : g ≡ nextMarked (imageOf w k ws) (64 * x .card - x .granule) (x .granule)) where
     pub next-in : g ≤ 64 * k

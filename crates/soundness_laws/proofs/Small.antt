@@ -153,16 +153,15 @@ module _ (w k : ℕ) (l set : List ℕ) (z : Sized w k l) (t : Targets w (imageO
   pub upto-none : SmallUpto k (imageOf w k l) 1
   upto-none = record { low = omega arith; high = omega (arith, z .low); starts = λ g p q. absurd (omega arith); objects = record { small = λ g p q. absurd (omega arith) } }
 
-  module _ (a : ℕ) (u : SmallUpto k (imageOf w k l) a) (h : a < w * fullWords w set) where
-    pub upto-more : SmallFrom (imageOf w k l) a (a - a % w + w) → SmallUpto k (imageOf w k l) (a - a % w + w)
-    upto-more f =
-        let e = word-end a h in
-        record {
-          low = omega (arith, u .low, e .0, e .1 .0);
-          high = omega (arith, full-inside w k l z set t, e .1 .1);
-          starts = λ g p q. full-start w k l z set t g p (omega (arith, e .1 .1)) .1;
-          objects = record { small = λ g p q. elim (decLt g a) [ yes r ↦ u .objects .small g p r | no r ↦ f .small g (omega arith) q ] };
-        }
+  pub upto-more : (a : ℕ) → SmallUpto k (imageOf w k l) a → a < w * fullWords w set → SmallFrom (imageOf w k l) a (a - a % w + w) → SmallUpto k (imageOf w k l) (a - a % w + w)
+  upto-more a u h f =
+      let e = word-end a h in
+      record {
+        low = omega (arith, u .low, e .0, e .1 .0);
+        high = omega (arith, full-inside w k l z set t, e .1 .1);
+        starts = λ g p q. full-start w k l z set t g p (omega (arith, e .1 .1)) .1;
+        objects = record { small = λ g p q. elim (decLt g a) [ yes r ↦ u .objects .small g p r | no r ↦ f .small g (omega arith) q ] };
+      }
 
 -- ---- the walk goes over them
 

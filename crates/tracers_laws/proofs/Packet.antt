@@ -1,8 +1,9 @@
 -- A packet read from the image and written back: what push and pop by value do to the image.
 use mathlib.Core.Path.{_≡_, refl, sym, ap, _∙_}
 use mathlib.Core.List.{List, [], _∷_, _++_}
-use Prim.Native.Nat.{ℕ, suc, _+_, _*_, _-_, _≤_, _<_}
+use Prim.Native.Nat.{ℕ, suc, _+_, _*_, _-_, _<_}
 use native.Mathlib.Nat.{add-zero}
+use native.Mathlib.Numerals.{add-one, add-two}
 use native.Mathlib.Omega.{arith}
 use lib.ListN.{length, set, take, drop, getD}
 use lib.Seq.{drop-cons, drop-drop, take-take, getD-take, getD-drop}
@@ -39,14 +40,6 @@ module _ (w k : ℕ) (ws : List ℕ) (z : Sized w k ws) (p : ℕ) (h : p < 32) (
 
 -- ---- what push and pop do
 
--- the words of a packet whose word between is zero
-mid-words : (l : List ℕ) (o : ℕ) → o + 32 ≤ length l → nth l (o + 1) ≡ 0 → midOf o 32 l ≡ nth l o ∷ 0 ∷ take 30 (drop (o + 2) l)
-unfolding nth
-mid-words l o h e =
-    let s : suc o ≡ o + 1 = omega arith in
-    let t : suc (suc o) ≡ o + 2 = omega arith in
-    rw (drop-cons l o 0 (omega arith), drop-cons l (suc o) 0 (omega arith), s, e) (ap (λ (j : ℕ). getD l o 0 ∷ 0 ∷ take 30 (drop j l)) t)
-
 -- an entry and the count written
 one-more : (l e : List ℕ) (o i v c d : ℕ) → midOf o 32 l ≡ c ∷ 0 ∷ e → i < 30 → take o l ++ ((d ∷ 0 ∷ set e i v) ++ drop (o + 32) l) ≡ put (put l (o + 2 + i) v) o d
 unfolding put
@@ -56,8 +49,10 @@ one-more l e o i v c d m h =
 
 module _ (m : Image) (p : ℕ) (h : p < 32) (l : length (m .packets) ≡ 1024) (t : Tidy m p) where
   its-words : midOf (32 * p) 32 (m .packets) ≡ count m p ∷ 0 ∷ take 30 (drop (32 * p + 2) (m .packets))
-  unfolding count
-  its-words = mid-words (m .packets) (32 * p) (omega arith) (t .gap)
+  unfolding count nth
+  its-words =
+      let g : getD (m .packets) (suc (32 * p)) 0 ≡ 0 = rw add-one at (t .gap) in
+      rw (drop-cons (m .packets) (32 * p) 0 (omega arith), drop-cons (m .packets) (suc (32 * p)) 0 (omega arith), g, add-two)
 
   -- "appended to the output packet"
   pub entry-on : (g : ℕ) → count m p < 30 → withPacket m p (withEntry (packetAt m p) g) ≡ append m p g
