@@ -47,32 +47,6 @@ module _ (w k : ℕ) (l : List ℕ) where
   heapLines = filled (imageOf w k l) && all (granules (imageOf w k l)) (linksOk (imageOf w k l))
 
   module _ (z : Sized w k l) where
-    past-end : (n g next : ℕ) (run : Bool) → 64 * k ≤ g → fillFrom (suc n) g next run ≡ eqb next 0
-    unfolding fill
-    past-end n g next run h = rw (drop-of-length-le (imageOf w k l .heap) {i = 4 * g} (omega (arith, heap-words z)))
-
-    module _ (g next : ℕ) (run : Bool) (hg : g < 64 * k) where
-      -- the piece in order, and no start inside it
-      by-pieces : (n : ℕ) → fillFrom (suc n) g next run ≡ ((pieceOk (imageOf w k l) g next run && clear (imageOf w k l) (g + 1) (word (imageOf w k l) g 0 - 1)) && fillFrom n (g + word (imageOf w k l) g 0) (nextRun (imageOf w k l) g next) (not (isStart (imageOf w k l) g)))
-      unfolding pieceOk nextRun bare clear notStart
-      by-pieces n =
-          let e : 4 * g + 4 * word (imageOf w k l) g 0 ≡ 4 * (g + word (imageOf w k l) g 0) = omega arith in
-          rw (head-is w k l z g hg)
-          (fill-more (isStart (imageOf w k l)) n g _ _ next run
-          ∙ rw (piece-split (isStart (imageOf w k l)), tail-at w k l z g hg 0, ← (head-is w k l z g hg), drop-drop, e))
-
-      -- a piece that is in order is not empty, and lies inside
-      fine : pieceOk (imageOf w k l) g next run ≡ true → (1 ≤ word (imageOf w k l) g 0) × (g + word (imageOf w k l) g 0 ≤ 64 * k)
-      unfolding pieceOk
-      fine e = let p = piece-size (λ _. false) g _ _ next run _ e in (p .0, omega (arith, p .1, tail-long w k l z g hg))
-
-      -- an object that is in order has its links inside the heap
-      object-room : pieceOk (imageOf w k l) g next run ≡ true → isStart (imageOf w k l) g ≡ true → 4 * g + 2 + links (imageOf w k l) g ≤ 256 * k
-      unfolding links pieceOk objectOk piece
-      object-room e q =
-          let h = head-use k g (word (imageOf w k l) g 0) (word (imageOf w k l) g 1) (object-is w k l z g hg _ _ refl refl ∙ rw q at e) in
-          omega (arith, h .inside, h .links-in)
-
     -- ---- the loop
 
     links-none : (h : ℕ) → isStart (imageOf w k l) h ≡ false → linksOk (imageOf w k l) h ≡ true
@@ -112,19 +86,30 @@ module _ (w k : ℕ) (l : List ℕ) where
           rest = fillFrom (v .fuel - 1) (g + word (imageOf w k l) g 0) (nextRun (imageOf w k l) g next) (not (isStart (imageOf w k l) g))
 
           here : filled (imageOf w k l) ≡ (eqb seen (startsIn (imageOf w k l) 0 g) && ((t && clear (imageOf w k l) (g + 1) (word (imageOf w k l) g 0 - 1)) && rest))
+          unfolding pieceOk nextRun bare clear notStart
           here =
               let q : suc (v .fuel - 1) ≡ v .fuel = omega (arith, v .enough) in
-              v .same ∙ ap (λ b. eqb seen (startsIn (imageOf w k l) 0 g) && b) (rw (q, ← e) at (by-pieces g next run hg (v .fuel - 1)))
+              let s : 4 * g + 4 * word (imageOf w k l) g 0 ≡ 4 * (g + word (imageOf w k l) g 0) = omega arith in
+              let head = head-is w k l z g hg in
+              rw (← q, head, fill-more (isStart (imageOf w k l)), piece-split (isStart (imageOf w k l)), tail-at w k l z g hg 0, ← head, drop-drop, s, ← e) at (v .same)
 
           pub w-stop : not t ≡ true → false ≡ heapLines
           w-stop q = let h : filled (imageOf w k l) ≡ false = here ∙ rw (not-true t q) (and-false (eqb seen (startsIn (imageOf w k l) 0 g))) in rw h
 
           module _ (q : not t ≡ false) where
+            -- a piece that is in order is not empty, and lies inside
             found : (1 ≤ word (imageOf w k l) g 0) × (g + word (imageOf w k l) g 0 ≤ 64 * k)
-            found = fine g next run hg (sym e ∙ not-false t q)
+            unfolding pieceOk
+            found = let p = piece-size (λ _. false) g _ _ next run _ (sym e ∙ not-false t q) in (p .0, omega (arith, p .1, tail-long w k l z g hg))
 
+            -- an object that is in order has its links inside the heap
             pub w-room : LinksInside k (imageOf w k l) g
-            w-room = record { inside = object-room g next run hg (sym e ∙ not-false t q) }
+            unfolding links pieceOk objectOk piece
+            w-room = record {
+              inside = λ h.
+                  let r = head-use k g (word (imageOf w k l) g 0) (word (imageOf w k l) g 1) (object-is w k l z g hg _ _ refl refl ∙ rw h at (sym e ∙ not-false t q)) in
+                  omega (arith, r .inside, r .links-in);
+            }
 
             pub w-less : (s : ℕ) → s ≡ word (imageOf w k l) g 0 → 64 * k - (g + s) < 64 * k - g
             w-less s es = omega (arith, found)
@@ -146,11 +131,12 @@ module _ (w k : ℕ) (l : List ℕ) where
                 }
 
       pub w-end : 64 * k ≤ g → (n : ℕ) → n ≡ startsIn (imageOf w k l) 0 (64 * k) → (eqb next 0 && eqb seen n) ≡ heapLines
-      unfolding granules imageOf image
+      unfolding granules imageOf image fill
       w-end h n en =
           let q : suc (v .fuel - 1) ≡ v .fuel = omega (arith, v .enough, v .inside) in
           let o : g ≡ 64 * k = omega (arith, v .inside) in
-          let f : filled (imageOf w k l) ≡ (eqb seen n && eqb next 0) = v .same ∙ rw (← (rw q at (past-end (v .fuel - 1) g next run h)), en, o) in
+          let past = drop-of-length-le (imageOf w k l .heap) {i = 4 * g} (omega (arith, heap-words z)) in
+          let f : filled (imageOf w k l) ≡ (eqb seen n && eqb next 0) = rw (← q, past) at (v .same) ∙ rw (en, o) in
           rw f (elim (bool-cases (eqb seen n)) [
             | inl e ↦ let a : all (64 * k) (linksOk (imageOf w k l)) ≡ true = rw o at (v .so-far (rw (o, ← en) e)) in rw (e, a)
             | inr e ↦ rw e (and-false (eqb next 0))
