@@ -106,11 +106,10 @@ module _ (m : Image) (x : ℕ) where
 held-with : (s x p : ℕ) → testBit (heldWith s x) p ≡ (testBit s p || eqb x (suc p))
 unfolding heldWith
 held-with s zero p = rw (ne-eqb 0 (suc p) (λ e. omega arith)) (sym (or-false (testBit s p)))
-held-with s (suc q) p =
-    elim (ℕ-discrete p q) [
-      | yes e ↦ rw (e, withBit-same s q, eq-eqb (suc q) (suc q) refl) (sym (or-true (testBit s q)))
-      | no ne ↦ rw (withBit-other s p q ne, ne-eqb (suc q) (suc p) (λ e. ne (omega arith))) (sym (or-false (testBit s p)))
-    ]
+held-with s (suc q) p = elim (ℕ-discrete p q) [
+  | yes e ↦ rw (e, withBit-same s q, eq-eqb (suc q) (suc q) refl) (sym (or-true (testBit s q)))
+  | no ne ↦ rw (withBit-other s p q ne, ne-eqb (suc q) (suc p) (λ e. ne (omega arith))) (sym (or-false (testBit s p)))
+]
 
 -- tracer t holds packet p
 abbrev holder : Image → ℕ → ℕ → Bool

@@ -86,11 +86,10 @@ module _ (w k : ℕ) (l : List ℕ) (z : Sized w k l) (c : Coverable k (imageOf 
   -- behind every object but the last stands the next
   few : (j : ℕ) → j < w → links (imageOf w k l) (w * i + j) ≤ 2
   unfolding nearWord
-  few j q =
-      elim (ℕ-discrete (j + 1) w) [
-        | yes y ↦ let g : w * i + w - 1 ≡ w * i + j = omega arith in rw g at (leb-true (links (imageOf w k l) (w * i + w - 1)) 2 (every-use _ (sym e ∙ t) 0))
-        | no n ↦ let g : w * i + suc j ≡ suc (w * i + j) = omega arith in c .two-links (w * i + j) (here-marked j q) (rw g at (here-marked (suc j) (omega arith)))
-      ]
+  few j q = elim (ℕ-discrete (j + 1) w) [
+    | yes y ↦ let g : w * i + w - 1 ≡ w * i + j = omega arith in rw g at (leb-true (links (imageOf w k l) (w * i + w - 1)) 2 (every-use _ (sym e ∙ t) 0))
+    | no n ↦ let g : w * i + suc j ≡ suc (w * i + j) = omega arith in c .two-links (w * i + j) (here-marked j q) (rw g at (here-marked (suc j) (omega arith)))
+  ]
 
   value-plain : (g p x : ℕ) → link (imageOf w k l) g p ≡ x → (x ≤ 2) ⊎ ((w * from ≤ x) × (x < w * i + w)) → plain (imageOf w k l) g p ≡ true
   unfolding plain nilOrMarked

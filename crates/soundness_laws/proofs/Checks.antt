@@ -103,11 +103,10 @@ all-append a (suc b) p = rw (add-suc, all-append a b p) (and-assoc (all a p) _ _
 pub all-pick : (n : ℕ) (a b : ℕ → Bool) (j : ℕ) → j < n → ((i : ℕ) → (i ≡ j → ⊥) → a i ≡ b i) → b j ≡ true → all n a ≡ (a j && all n b)
 unfolding all
 all-pick zero a b j h f e = absurd (omega arith)
-all-pick (suc n) a b j h f e =
-    elim (ℕ-discrete n j) [
-      | yes q ↦ rw (q, e, all-cong j a b (λ i l. f i (λ (z : i ≡ j). omega arith)), and-true) (and-comm (all j b) (a j))
-      | no q ↦ rw (all-pick n a b j (omega arith) f e, f n q) (and-assoc (a j) (all n b) (b n))
-    ]
+all-pick (suc n) a b j h f e = elim (ℕ-discrete n j) [
+  | yes q ↦ rw (q, e, all-cong j a b (λ i l. f i (λ (z : i ≡ j). omega arith)), and-true) (and-comm (all j b) (a j))
+  | no q ↦ rw (all-pick n a b j (omega arith) f e, f n q) (and-assoc (a j) (all n b) (b n))
+]
 
 -- below the end is no further condition, where none behind it passes
 pub test-inside : (p : ℕ → Bool) (n a : ℕ) → (n ≤ a → p a ≡ false) → every (ltb a n ∷ p a ∷ []) ≡ p a
@@ -116,8 +115,7 @@ test-inside p n a past = elim (decLt a n) [ yes h ↦ rw (lt-ltb a n h) (and-tru
 
 -- the same where the test is made of a granule below the end
 pub clamped : (p : ℕ → Bool) (n a b : ℕ) (t : Bool) → (n ≤ a → p a ≡ false) → b ≡ min a (n - 1) → t ≡ p b → (ltb a n && t) ≡ p a
-clamped p n a b t past eb et =
-    elim (decLt a n) [
-      | yes h ↦ let e : b ≡ a = omega arith in rw (lt-ltb a n h, et, e)
-      | no h ↦ rw (le-ltb a n (omega arith), past (omega arith))
-    ]
+clamped p n a b t past eb et = elim (decLt a n) [
+  | yes h ↦ let e : b ≡ a = omega arith in rw (lt-ltb a n h, et, e)
+  | no h ↦ rw (le-ltb a n (omega arith), past (omega arith))
+]

@@ -75,11 +75,10 @@ module _ (w k : ℕ) (l : List ℕ) where
         -- a link that is neither nil nor a start
         pub w-link : (c : Bool) → c ≡ linksOk (imageOf w k l) g → not c ≡ true → false ≡ heapLines
         unfolding granules imageOf image
-        w-link c ec r =
-            elim (bool-cases (all (granules (imageOf w k l)) (linksOk (imageOf w k l)))) [
-              | inl e ↦ false≢ (sym (sym ec ∙ not-true c r) ∙ all-use (granules (imageOf w k l)) (linksOk (imageOf w k l)) e g hg)
-              | inr e ↦ rw e (sym (and-false (filled (imageOf w k l))))
-            ]
+        w-link c ec r = elim (bool-cases (all (granules (imageOf w k l)) (linksOk (imageOf w k l)))) [
+          | inl e ↦ false≢ (sym (sym ec ∙ not-true c r) ∙ all-use (granules (imageOf w k l)) (linksOk (imageOf w k l)) e g hg)
+          | inr e ↦ rw e (sym (and-false (filled (imageOf w k l))))
+        ]
 
         module _ (t : Bool) (e : t ≡ pieceOk (imageOf w k l) g next run) where
           abbrev rest : Bool
@@ -118,17 +117,16 @@ module _ (w k : ℕ) (l : List ℕ) where
             seen-is = seen-more (imageOf w k l) g (word (imageOf w k l) g 0) seen (found .0) (v .few)
 
             pub w-more : (s next′ seen′ : ℕ) (b c : Bool) → b ≡ isStart (imageOf w k l) g → c ≡ linksOk (imageOf w k l) g → not c ≡ false → seen′ ≡ seen + digit b → next′ ≡ nextRun (imageOf w k l) g next → s ≡ word (imageOf w k l) g 0 → HeapWalk (g + s) next′ (not b) seen′
-            w-more s next′ seen′ b c eb ec r eseen en es =
-                record {
-                  fuel = v .fuel - 1;
-                  inside = omega (arith, found);
-                  enough = omega (arith, found, v .enough);
-                  few = rw (eseen, eb, es) (seen-few (imageOf w k l) g (word (imageOf w k l) g 0) seen (found .0) (v .few));
-                  same = rw (eseen, eb, es, en, seen-is) (here ∙ rw (not-false t q) (sym (and-assoc (eqb seen (startsIn (imageOf w k l) 0 g)) (clear (imageOf w k l) (g + 1) (word (imageOf w k l) g 0 - 1)) rest)));
-                  so-far = λ h.
-                      let p = and-split _ _ (sym seen-is ∙ rw (eseen, eb, es) at h) in
-                      rw (es, links-more g (word (imageOf w k l) g 0) (found .0) (p .1), v .so-far (p .0), ← ec, not-false c r);
-                }
+            w-more s next′ seen′ b c eb ec r eseen en es = record {
+              fuel = v .fuel - 1;
+              inside = omega (arith, found);
+              enough = omega (arith, found, v .enough);
+              few = rw (eseen, eb, es) (seen-few (imageOf w k l) g (word (imageOf w k l) g 0) seen (found .0) (v .few));
+              same = rw (eseen, eb, es, en, seen-is) (here ∙ rw (not-false t q) (sym (and-assoc (eqb seen (startsIn (imageOf w k l) 0 g)) (clear (imageOf w k l) (g + 1) (word (imageOf w k l) g 0 - 1)) rest)));
+              so-far = λ h.
+                  let p = and-split _ _ (sym seen-is ∙ rw (eseen, eb, es) at h) in
+                  rw (es, links-more g (word (imageOf w k l) g 0) (found .0) (p .1), v .so-far (p .0), ← ec, not-false c r);
+            }
 
       pub w-end : 64 * k ≤ g → (n : ℕ) → n ≡ startsIn (imageOf w k l) 0 (64 * k) → (eqb next 0 && eqb seen n) ≡ heapLines
       unfolding granules imageOf image fill

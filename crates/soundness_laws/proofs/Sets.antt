@@ -40,16 +40,15 @@ module _ (w k : ℕ) (l : List ℕ) (z : Sized w k l) where
   t-none set e = record { within = omega arith; long = rw e (length-replicate {A = ℕ} 4096 0); copied = λ j q. absurd (omega arith); rest = λ j q. rw e (nth-replicate 4096 j) }
 
   pub t-more : (set : List ℕ) (i v n : ℕ) → Copied w k l set i → n ≡ min (64 * k / w) 4096 → i < n → v ≡ nth (imageOf w k l .starts) i → Copied w k l (put set i v) (i + 1)
-  t-more set i v n c en h e =
-      record {
-        within = omega arith;
-        long = length-put set i v ∙ c .long;
-        copied = λ j q. elim (ℕ-discrete j i) [
-          | yes o ↦ rw o (nth-put-same set i v (omega (arith, c .long)) ∙ e)
-          | no o ↦ nth-put-other set i j v o ∙ c .copied j (omega arith)
-        ];
-        rest = λ j q. nth-put-other set i j v (λ o. absurd (omega arith)) ∙ c .rest j (omega arith);
-      }
+  t-more set i v n c en h e = record {
+    within = omega arith;
+    long = length-put set i v ∙ c .long;
+    copied = λ j q. elim (ℕ-discrete j i) [
+      | yes o ↦ rw o (nth-put-same set i v (omega (arith, c .long)) ∙ e)
+      | no o ↦ nth-put-other set i j v o ∙ c .copied j (omega arith)
+    ];
+    rest = λ j q. nth-put-other set i j v (λ o. absurd (omega arith)) ∙ c .rest j (omega arith);
+  }
 
   pub t-place : (set : List ℕ) (i j : ℕ) → Copied w k l set i → j < 4096 → j < length set
   t-place set i j c h = omega (arith, c .long)
@@ -140,11 +139,10 @@ module _ (w : ℕ) where
   full-word : (set : List ℕ) (j : ℕ) → j < fullWords w set → nth set j ≡ 2 ^ w - 1
   unfolding fullWords fullAnd nth
   full-word [] j h = absurd (omega arith)
-  full-word (x ∷ l) j h =
-      elim (ℕ-discrete x (2 ^ w - 1)) [
-        | yes e ↦ elim j as (λ i. j ≡ i → nth (x ∷ l) i ≡ 2 ^ w - 1) [ zero ↦ λ q. e | suc i ↦ λ q. full-word l i (omega (arith, rw (eq-eqb x (2 ^ w - 1) e) at h)) ] refl
-        | no e ↦ absurd (omega (arith, rw (ne-eqb x (2 ^ w - 1) e) at h))
-      ]
+  full-word (x ∷ l) j h = elim (ℕ-discrete x (2 ^ w - 1)) [
+    | yes e ↦ elim j as (λ i. j ≡ i → nth (x ∷ l) i ≡ 2 ^ w - 1) [ zero ↦ λ q. e | suc i ↦ λ q. full-word l i (omega (arith, rw (eq-eqb x (2 ^ w - 1) e) at h)) ] refl
+    | no e ↦ absurd (omega (arith, rw (ne-eqb x (2 ^ w - 1) e) at h))
+  ]
 
   -- a word of w bits that are all set
   pub ones-bit : (x j : ℕ) → x + 1 ≡ 2 ^ w → j < w → testBit x j ≡ true
@@ -163,11 +161,10 @@ module _ (w : ℕ) where
 module _ (w k : ℕ) (l : List ℕ) (z : Sized w k l) (set : List ℕ) (t : Targets w (imageOf w k l) set) where
   pub low-target : (a : ℕ) → a ≤ lastFull w set → nilOrStart (imageOf w k l) a ≡ true
   unfolding nilOrStart either
-  low-target a h =
-      elim (ℕ-discrete a 0) [
-        | yes e ↦ rw e
-        | no e ↦ let q : a < w * fullWords w set = omega arith in sym (t .bits a (omega (arith, full-place w set a q, full-few w set, t .long))) ∙ full-bit w set a q
-      ]
+  low-target a h = elim (ℕ-discrete a 0) [
+    | yes e ↦ rw e
+    | no e ↦ let q : a < w * fullWords w set = omega arith in sym (t .bits a (omega (arith, full-place w set a q, full-few w set, t .long))) ∙ full-bit w set a q
+  ]
 
   pub full-start : (a : ℕ) → 1 ≤ a → a < w * fullWords w set → (a < 64 * k) × (isStart (imageOf w k l) a ≡ true)
   unfolding nilOrStart granules imageOf image
@@ -176,11 +173,10 @@ module _ (w k : ℕ) (l : List ℕ) (z : Sized w k l) (set : List ℕ) (t : Targ
       (ltb-true _ _ (every-use _ e 0), every-use _ e 1)
 
   pub full-inside : w * fullWords w set ≤ 64 * k
-  full-inside =
-      elim (decLt 1 (w * fullWords w set)) [
-        | yes h ↦ omega (arith, full-start (w * fullWords w set - 1) (omega arith) (omega arith) .0)
-        | no h ↦ omega (arith, z .low)
-      ]
+  full-inside = elim (decLt 1 (w * fullWords w set)) [
+    | yes h ↦ omega (arith, full-start (w * fullWords w set - 1) (omega arith) (omega arith) .0)
+    | no h ↦ omega (arith, z .low)
+  ]
 
   regs-words : length (imageOf w k l .regs) ≡ 256
   unfolding sections imageOf image
@@ -194,11 +190,10 @@ module _ (w k : ℕ) (l : List ℕ) (z : Sized w k l) (set : List ℕ) (t : Targ
   -- the first of them holds more
   pub high-reg : (top x : ℕ) → x ≡ nth (imageOf w k l .regs) 0 → top < x → false ≡ atMost top (imageOf w k l .regs)
   unfolding atMost noMore
-  high-reg top x e h =
-      elim (bool-cases (all (length (imageOf w k l .regs)) (noMore top (imageOf w k l .regs)))) [
-        | inl q ↦ absurd (omega (arith, leb-true (nth (imageOf w k l .regs) 0) top (all-use _ _ q 0 (omega (arith, regs-words)))))
-        | inr q ↦ sym q
-      ]
+  high-reg top x e h = elim (bool-cases (all (length (imageOf w k l .regs)) (noMore top (imageOf w k l .regs)))) [
+    | inl q ↦ absurd (omega (arith, leb-true (nth (imageOf w k l .regs) 0) top (all-use _ _ q 0 (omega (arith, regs-words)))))
+    | inr q ↦ sym q
+  ]
 
 -- ---- no granule twice, by the set of those seen
 
@@ -207,11 +202,10 @@ eqb-sym x y = elim (ℕ-discrete x y) [ yes e ↦ rw e | no e ↦ rw (ne-eqb x y
 
 -- one more granule in the set
 bit-more : (w : ℕ) (seen : List ℕ) (x g : ℕ) → x / w < length seen → bit w (setBit w seen x) g ≡ (bit w seen g || eqb g x)
-bit-more w seen x g h =
-    elim (ℕ-discrete g x) [
-      | yes e ↦ rw (e, setBit-same w seen x h, eq-eqb x x refl) (sym (or-true (bit w seen x)))
-      | no e ↦ rw (setBit-other w seen x g e, ne-eqb g x e) (sym (or-false (bit w seen g)))
-    ]
+bit-more w seen x g h = elim (ℕ-discrete g x) [
+  | yes e ↦ rw (e, setBit-same w seen x h, eq-eqb x x refl) (sym (or-true (bit w seen x)))
+  | no e ↦ rw (setBit-other w seen x g e, ne-eqb g x e) (sym (or-false (bit w seen g)))
+]
 
 none-more : (w : ℕ) (seen : List ℕ) (x : ℕ) (l : List ℕ) → x / w < length seen → noneIn w (setBit w seen x) l ≡ (noneIn w seen l && not (elem x l))
 unfolding noneIn elem
@@ -229,12 +223,11 @@ once-none = record { same-length = refl; once = λ rest. refl; holds = λ g. sym
 
 pub once-one : (w : ℕ) (seen : List ℕ) (x : ℕ) → x / w < length seen → AddedOnce w seen (x ∷ []) (not (bit w seen x)) (setBit w seen x)
 unfolding noneIn distinct elem setBit
-once-one w seen x h =
-    record {
-      same-length = length-put seen _ _;
-      once = λ rest. rw (none-more w seen x rest h) (simp and-assoc);
-      holds = λ g. rw (or-false (eqb g x)) (bit-more w seen x g h);
-    }
+once-one w seen x h = record {
+  same-length = length-put seen _ _;
+  once = λ rest. rw (none-more w seen x rest h) (simp and-assoc);
+  holds = λ g. rw (or-false (eqb g x)) (bit-more w seen x g h);
+}
 
 elem-append : (g : ℕ) (l r : List ℕ) → elem g (l ++ r) ≡ (elem g l || elem g r)
 unfolding elem
@@ -242,12 +235,11 @@ elem-append g [] r = refl
 elem-append g (x ∷ l) r = rw (elem-append g l r) (sym (or-assoc (eqb g x) _ _))
 
 pub once-append : {w : ℕ} {a b c l r : List ℕ} {s t : Bool} → AddedOnce w a l s b → AddedOnce w b r t c → AddedOnce w a (l ++ r) (s && t) c
-once-append {w} {a} {b} {c} {l} {r} {s} {t} p q =
-    record {
-      same-length = q .same-length ∙ p .same-length;
-      once = λ rest. rw (append-assoc l r rest) (p .once (r ++ rest) ∙ rw (q .once rest) (sym (and-assoc s t _)));
-      holds = λ g. q .holds g ∙ rw (p .holds g, elem-append g l r) (or-assoc (bit w a g) (elem g l) (elem g r));
-    }
+once-append {w} {a} {b} {c} {l} {r} {s} {t} p q = record {
+  same-length = q .same-length ∙ p .same-length;
+  once = λ rest. rw (append-assoc l r rest) (p .once (r ++ rest) ∙ rw (q .once rest) (sym (and-assoc s t _)));
+  holds = λ g. q .holds g ∙ rw (p .holds g, elem-append g l r) (or-assoc (bit w a g) (elem g l) (elem g r));
+}
 
 none-zeros : (w n : ℕ) (l : List ℕ) → noneIn w (replicate n 0) l ≡ true
 unfolding noneIn

@@ -61,11 +61,10 @@ module _ (m : Image) where
   clear-is : (a n : ℕ) → clear m a n ≡ eqb (startsIn m a n) 0
   unfolding clear all notStart startsIn digit
   clear-is a zero = refl
-  clear-is a (suc n) =
-      elim (bool-cases (isStart m (a + n))) [
-        | inl e ↦ rw (e, and-false (clear m a n)) (sym (ne-eqb (startsIn m a n + 1) 0 (λ q. absurd (omega arith))))
-        | inr e ↦ rw (e, and-true (clear m a n), add-zero (startsIn m a n)) (clear-is a n)
-      ]
+  clear-is a (suc n) = elim (bool-cases (isStart m (a + n))) [
+    | inl e ↦ rw (e, and-false (clear m a n)) (sym (ne-eqb (startsIn m a n + 1) 0 (λ q. absurd (omega arith))))
+    | inr e ↦ rw (e, and-true (clear m a n), add-zero (startsIn m a n)) (clear-is a n)
+  ]
 
   -- as many objects seen as starts, behind a piece of s granules at g
   pub seen-more : (g s seen : ℕ) → 1 ≤ s → seen ≤ startsIn m 0 g → eqb (seen + startBit m g) (startsIn m 0 (g + s)) ≡ (eqb seen (startsIn m 0 g) && clear m (g + 1) (s - 1))
