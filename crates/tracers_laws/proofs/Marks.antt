@@ -1,24 +1,25 @@
 -- The mark bits of a card gathered in one number, and the next marked granule by its trailing zeros.
-use mathlib.Core.Path.{_≡_, refl, sym, ap, _∙_}
+use mathlib.Core.Path.{_≡_, refl, sym, _∙_}
 use mathlib.Core.Logic.{_⊎_}
 use mathlib.Core.Bool.{true, false}
 use mathlib.Core.List.{List}
 use Prim.Native.Nat.{ℕ, zero, suc, _+_, _*_, _-_, _/_, _%_, _^_, _<_, _≤_}
-use native.Mathlib.Nat.{mul-add, mul-suc, suc-mul, mul-le-mul-right, add-comm, add-zero, zero-div, div-le-self}
+use native.Mathlib.Nat.{mul-add, mul-suc, suc-mul, mul-le-mul-right, add-comm, zero-add, suc-add, add-zero, zero-div, div-le-self}
 use native.Mathlib.Numerals.{add-one}
 use native.Mathlib.Decide.{decLt}
 use native.Mathlib.Omega.{arith}
 use lib.Bits.{bitOr, or-shifted-r}
 use lib.Pow.{pow-add, pow-pos, shr-shr, pow-mono, shl-exact, low, high, field, mod-mod-pow}
 use lib.Count.{trailingZeros}
-use Rattle.model.specs.Base.{nth, testBit, bit}
+use Rattle.model.specs.Base.{nth, testBit}
 use Rattle.model.specs.Image.{Image, imageOf, image, marked}
 use Rattle.model.specs.Collect.{nextMarked}
 use Rattle.model.proofs.Laws.{false≢}
 use Rattle.image_laws.specs.Sized.{Sized}
 use Rattle.image_laws.proofs.Leading.{bit-past}
 use Rattle.image_laws.proofs.Lengths.{sized-width}
-use Rattle.image_laws.proofs.Places.{place-word, place-bit, by-width, words-begin}
+use Rattle.image_laws.proofs.Bits.{bit-at}
+use Rattle.image_laws.proofs.Places.{by-width, words-begin}
 use Rattle.image_laws.proofs.Trailing.{Lowest, trailing-lowest}
 use Rattle.tracers_laws.specs.Marks.{CardMarks}
 
@@ -64,11 +65,11 @@ module _ (w k : ℕ) (ws : List ℕ) (z : Sized w k ws) (c i x : ℕ) (o : Marks
 
   module _ (h : i < 64 / w) (v : ℕ) (e : v ≡ nth (imageOf w k ws .marks) (64 / w * c + i)) (l : v < 2 ^ w) where
     next-bit : (j : ℕ) → j < w → testBit v j ≡ marked (imageOf w k ws) (64 * c + (w * i + j))
-    unfolding marked bit imageOf image
+    unfolding marked imageOf image
     next-bit j b =
         let a : ℕ = 64 / w * c + i in
         let q : 64 * c + (w * i + j) ≡ w * a + j = omega (arith, words-begin w c (64 / w * c) (sized-width z) refl, mul-add w (64 / w * c) i) in
-        rw (q, place-word w a j b, place-bit w a j b, e)
+        rw (q, bit-at w (imageOf w k ws .marks) a j b, e)
 
     pub marks-more : MarksBelow w (imageOf w k ws) c (i + 1) (bitOr x (v * 2 ^ (w * i) % 18446744073709551616))
     marks-more =
@@ -86,23 +87,14 @@ module _ (w k : ℕ) (ws : List ℕ) (z : Sized w k ws) (c i x : ℕ) (o : Marks
 
 -- ---- the next marked granule
 
-next-zero : (m : Image) (n g : ℕ) → ((i : ℕ) → i < n → marked m (g + i) ≡ false) → nextMarked m n g ≡ 0
+-- past t granules with no mark
+next-skip : (m : Image) (t n g : ℕ) → ((i : ℕ) → i < t → marked m (g + i) ≡ false) → nextMarked m (t + n) g ≡ nextMarked m n (g + t)
 unfolding nextMarked
-next-zero m zero g h = refl
-next-zero m (suc n) g h =
+next-skip m zero n g h = rw (zero-add n, add-zero g)
+next-skip m (suc t) n g h =
     let e : marked m g ≡ false = rw (add-zero g) at (h 0 (omega arith)) in
-    rw (e, nextMarked) (next-zero m n (suc g) (λ i l. let s : suc g + i ≡ g + suc i = omega arith in rw s (h (suc i) (omega arith))))
-
-next-at : (m : Image) (n g t : ℕ) → t < n → marked m (g + t) ≡ true → ((i : ℕ) → i < t → marked m (g + i) ≡ false) → nextMarked m n g ≡ suc (g + t)
-unfolding nextMarked
-next-at m zero g t l e h = absurd (omega arith)
-next-at m (suc n) g zero l e h =
-    let s : marked m g ≡ true = rw (add-zero g) at e in
-    rw (s, nextMarked) (ap suc (sym (add-zero g)))
-next-at m (suc n) g (suc t) l e h =
-    let f : marked m g ≡ false = rw (add-zero g) at (h 0 (omega arith)) in
-    let s : suc g + t ≡ g + suc t = omega arith in
-    rw (f, nextMarked) (rw s at (next-at m n (suc g) t (omega arith) (rw s e) (λ i q. let u : suc g + i ≡ g + suc i = omega arith in rw u (h (suc i) (omega arith)))))
+    let s : g + suc t ≡ suc g + t = omega arith in
+    rw (suc-add t n, e, nextMarked, s) (next-skip m t n (suc g) (λ i l. let u : suc g + i ≡ g + suc i = omega arith in rw u (h (suc i) (omega arith))))
 
 pub next-past : (m : Image) (c g : ℕ) → 64 * c ≤ g → 0 ≡ nextMarked m (64 * c - g) g
 unfolding nextMarked
@@ -119,10 +111,11 @@ module _ (m : Image) (c g x y : ℕ) (near : 64 * c ≤ g + 64) (inside : g < 64
       shifted i ∙ rw q at (b .bits (g % 64 + i) (omega arith))
 
   pub next-none : y ≡ 0 → 0 ≡ nextMarked m (64 * c - g) g
-  unfolding testBit
-  next-none z = sym (next-zero m (64 * c - g) g (λ i h. sym (shifted-mark i h) ∙ rw (z, zero-div (2 ^ i))))
+  unfolding testBit nextMarked
+  next-none z = sym (rw add-zero at (next-skip m (64 * c - g) 0 g (λ i h. sym (shifted-mark i h) ∙ rw (z, zero-div (2 ^ i)))))
 
   pub next-found : (t : ℕ) → x < 2 ^ 64 → (y ≡ 0 → ⊥) → t ≡ trailingZeros 64 y → g + t + 1 ≡ nextMarked m (64 * c - g) g
+  unfolding nextMarked
   next-found t l z q =
       let small : y < 2 ^ 64 = omega (arith, div-le-self x (2 ^ (g % 64))) in
       let w : Lowest 64 y t = rw q (trailing-lowest 64 y small z) in
@@ -130,5 +123,6 @@ module _ (m : Image) (c g x y : ℕ) (near : 64 * c ≤ g + 64) (inside : g < 64
         | yes i ↦ omega arith
         | no i ↦ false≢ (sym (bit-past x (g % 64 + t) (omega (arith, pow-mono {i = 64} {j = g % 64 + t} (omega arith)))) ∙ (sym (shifted t) ∙ w .is-set))
       ] in
-      let s : g + t + 1 ≡ suc (g + t) = omega arith in
-      s ∙ sym (next-at m (64 * c - g) g t below (sym (shifted-mark t below) ∙ w .is-set) (λ i h. sym (shifted-mark i (omega arith)) ∙ w .clear-below i h))
+      let d : t + suc (64 * c - g - suc t) ≡ 64 * c - g = omega arith in
+      let here : marked m (g + t) ≡ true = sym (shifted-mark t below) ∙ w .is-set in
+      rw (add-one, ← d, next-skip m t _ g (λ i h. sym (shifted-mark i (omega arith)) ∙ w .clear-below i h), here, nextMarked)
