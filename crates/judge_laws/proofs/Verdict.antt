@@ -26,42 +26,41 @@ use Rattle.theory.proofs.lines.Sizes.{fits-sizes}
 use Rattle.soundness_laws.proofs.Lines.{no-mark}
 use Rattle.soundness_laws.proofs.Packets.{all-packets, packed}
 
-module _ (w k : ℕ) (l : List ℕ) (z : Sized w k l) where
-  -- ---- what soundness gives, and the ways out of `is_undamaged`
+-- ---- what soundness gives, and the ways out of `is_undamaged`
 
-  module _ (s : Bool) (e : s ≡ sound (imageOf w k l)) where
-    pub un-sound : not s ≡ true → false ≡ undamaged (imageOf w k l)
-    unfolding undamaged every
-    un-sound h = rw (← e, not-true s h)
+module _ (w k : ℕ) (l : List ℕ) (z : Sized w k l) (s : Bool) (e : s ≡ sound (imageOf w k l)) where
+  pub un-sound : not s ≡ true → false ≡ undamaged (imageOf w k l)
+  unfolding undamaged every
+  un-sound h = rw (← e, not-true s h)
 
-    pub ready-of : not s ≡ false → Coverable k (imageOf w k l)
-    unfolding sound
-    ready-of h =
-        let t : sound (imageOf w k l) ≡ true = sym e ∙ not-false s h in
-        let o : Lines (imageOf w k l) = sound-use (imageOf w k l) (fits-sizes _ (image-fits z)) t .lines in
-        let d : Laid (imageOf w k l) = laid-of o in
-        record {
-          inside = λ g h q. omega (arith, d .inside g (d .marks-start g q), granules-image w k l);
-          below = λ g q. record {
-            below = λ i h. elim (ℕ-discrete (link (imageOf w k l) g i) 0) [
-              | yes n ↦ omega (arith, z .low)
-              | no n ↦ omega (arith, heap-filled-of o .start-range _ (proper-of o .link-start g i (d .marks-start g q) h n), granules-image w k l)
-            ];
-          };
-          two-links = λ g q r. omega (arith, d .inside g (d .marks-start g q), d .apart g (suc g) (d .marks-start g q) (d .marks-start (suc g) r) (omega arith));
-          packed = packed w k l z (sym (all-packets w k l z) ∙ every-use _ t 8);
-        }
+  pub ready-of : not s ≡ false → Coverable k (imageOf w k l)
+  unfolding sound
+  ready-of h =
+      let t : sound (imageOf w k l) ≡ true = sym e ∙ not-false s h in
+      let o : Lines (imageOf w k l) = sound-use (imageOf w k l) (fits-sizes _ (image-fits z)) t .lines in
+      let d : Laid (imageOf w k l) = laid-of o in
+      record {
+        inside = λ g h q. omega (arith, d .inside g (d .marks-start g q), granules-image w k l);
+        below = λ g q. record {
+          below = λ i h. elim (ℕ-discrete (link (imageOf w k l) g i) 0) [
+            | yes n ↦ omega (arith, z .low)
+            | no n ↦ omega (arith, heap-filled-of o .start-range _ (proper-of o .link-start g i (d .marks-start g q) h n), granules-image w k l)
+          ];
+        };
+        two-links = λ g q r. omega (arith, d .inside g (d .marks-start g q), d .apart g (suc g) (d .marks-start g q) (d .marks-start (suc g) r) (omega arith));
+        packed = packed w k l z (sym (all-packets w k l z) ∙ every-use _ t 8);
+      }
 
-    pub un-cover : (r : Bool) → not s ≡ false → r ≡ cover (imageOf w k l) → r ≡ undamaged (imageOf w k l)
-    unfolding undamaged every
-    un-cover r h q = rw (← e, not-false s h, ← q) (sym (and-true r))
+  pub un-cover : (r : Bool) → not s ≡ false → r ≡ cover (imageOf w k l) → r ≡ undamaged (imageOf w k l)
+  unfolding undamaged every
+  un-cover r h q = rw (← e, not-false s h, ← q) (sym (and-true r))
 
-    -- with no cycle nothing is marked
-    pub un-still : (v : ℕ) → not s ≡ false → v ≡ running (imageOf w k l) → v ≡ 0 → true ≡ undamaged (imageOf w k l)
-    unfolding sound idleOk cover implies
-    un-still v h ev y =
-        let i = imp-use _ _ (every-use _ (sym e ∙ not-false s h) 12) (eq-eqb _ 0 (sym ev ∙ y)) in
-        un-cover true h (sym (all-make (granules (imageOf w k l)) _ (λ g b. rw (no-mark w k l (every-use _ i 0) g))))
+  -- with no cycle nothing is marked
+  pub un-still : (v : ℕ) → not s ≡ false → v ≡ running (imageOf w k l) → v ≡ 0 → true ≡ undamaged (imageOf w k l)
+  unfolding sound idleOk cover implies
+  un-still v h ev y =
+      let i = imp-use _ _ (every-use _ (sym e ∙ not-false s h) 12) (eq-eqb _ 0 (sym ev ∙ y)) in
+      un-cover true h (sym (all-make (granules (imageOf w k l)) _ (λ g b. rw (no-mark w k l (every-use _ i 0) g))))
 
 -- ---- the ways out of `judge`
 

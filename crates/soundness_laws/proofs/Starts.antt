@@ -32,7 +32,6 @@ module _ (m : Image) where
   unfoldable pub clear : ℕ → ℕ → Bool
   clear a n = all n (notStart a)
 
-module _ (m : Image) where
   count-append : (a n j : ℕ) → startsIn m a (n + j) ≡ startsIn m a n + startsIn m (a + n) j
   unfolding startsIn
   count-append a n zero = rw (add-zero n) (sym (add-zero (startsIn m a n)))
@@ -58,16 +57,16 @@ module _ (m : Image) where
   count-le a (suc n) = omega (arith, count-le a n, digit-le (isStart m (a + n)))
 
   -- no start among them
-  clear-is : (a n : ℕ) → clear m a n ≡ eqb (startsIn m a n) 0
+  clear-is : (a n : ℕ) → clear a n ≡ eqb (startsIn m a n) 0
   unfolding clear all notStart startsIn digit
   clear-is a zero = refl
   clear-is a (suc n) = elim (bool-cases (isStart m (a + n))) [
-    | inl e ↦ rw (e, and-false (clear m a n)) (sym (ne-eqb (startsIn m a n + 1) 0 (λ q. absurd (omega arith))))
-    | inr e ↦ rw (e, and-true (clear m a n), add-zero (startsIn m a n)) (clear-is a n)
+    | inl e ↦ rw (e, and-false (clear a n)) (sym (ne-eqb (startsIn m a n + 1) 0 (λ q. absurd (omega arith))))
+    | inr e ↦ rw (e, and-true (clear a n), add-zero (startsIn m a n)) (clear-is a n)
   ]
 
   -- as many objects seen as starts, behind a piece of s granules at g
-  pub seen-more : (g s seen : ℕ) → 1 ≤ s → seen ≤ startsIn m 0 g → eqb (seen + startBit m g) (startsIn m 0 (g + s)) ≡ (eqb seen (startsIn m 0 g) && clear m (g + 1) (s - 1))
+  pub seen-more : (g s seen : ℕ) → 1 ≤ s → seen ≤ startsIn m 0 g → eqb (seen + startBit m g) (startsIn m 0 (g + s)) ≡ (eqb seen (startsIn m 0 g) && clear (g + 1) (s - 1))
   seen-more g s seen p h =
       let c : startsIn m 0 (g + s) ≡ startsIn m 0 g + (startBit m g + startsIn m (g + 1) (s - 1)) = count-piece g s p in
       rw (clear-is (g + 1) (s - 1)) (same-test _ _
