@@ -34,10 +34,6 @@ module _ (w k : ℕ) (ws : List ℕ) (o : Lines (imageOf w k ws)) (g : ℕ) (s :
 -- ---- the object in hand
 
 module _ (w k : ℕ) (ws : List ℕ) (o : Lines (imageOf w k ws)) (t : ℕ) (h : t < 8) (p : 0 < hand (imageOf w k ws) t) (x : Tracer) (e : x ≡ tracerAt (imageOf w k ws) t) where
-  in-hand : Start (imageOf w k ws) (x .hand)
-  unfolding tracerAt marked
-  in-hand = rw e (o .marks-ok .on-starts (hand (imageOf w k ws) t) (in-hand-ok (imageOf w k ws) o t h (λ z. omega arith) .0))
-
   next-in-hand : x .link < links (imageOf w k ws) (x .hand)
   unfolding tracerAt
   next-in-hand = rw e (in-hand-ok (imageOf w k ws) o t h (λ z. omega arith) .1)
@@ -45,7 +41,8 @@ module _ (w k : ℕ) (ws : List ℕ) (o : Lines (imageOf w k ws)) (t : ℕ) (h :
   -- object g in hand at link i, as the code has read them
   module _ (g : ℕ) (a : g ≡ x .hand) where
     pub hand-start : Start (imageOf w k ws) g
-    hand-start = rw a in-hand
+    unfolding tracerAt marked
+    hand-start = rw (a, e) (o .marks-ok .on-starts (hand (imageOf w k ws) t) (in-hand-ok (imageOf w k ws) o t h (λ z. omega arith) .0))
 
     pub hand-below : 4 * g + 1 < 256 * k
     unfolding imageOf image

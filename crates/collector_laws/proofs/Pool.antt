@@ -111,11 +111,8 @@ held-with s (suc q) p = elim (ℕ-discrete p q) [
   | no ne ↦ rw (withBit-other s p q ne, ne-eqb (suc q) (suc p) (λ e. ne (omega arith))) (sym (or-false (testBit s p)))
 ]
 
--- tracer t holds packet p
-abbrev holder : Image → ℕ → ℕ → Bool
-holder m p t = some (eqb (input m t) (suc p) ∷ eqb (output m t) (suc p) ∷ [])
-
-held-set : (m : Image) (n p : ℕ) → testBit (heldSet m n) p ≡ any n (holder m p)
+-- one of the first n tracers holds packet p
+held-set : (m : Image) (n p : ℕ) → testBit (heldSet m n) p ≡ any n (λ t. some (eqb (input m t) (suc p) ∷ eqb (output m t) (suc p) ∷ []))
 unfolding heldSet any some
 held-set m zero p = zero-bit 0 p refl
 held-set m (suc n) p =

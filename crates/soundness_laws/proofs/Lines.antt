@@ -45,18 +45,13 @@ module _ (w k : ℕ) (l : List ℕ) where
       let entries = all-make 30 (entryOkAt (imageOf w k l) p) (λ e h. rw (z (32 * p), z (32 * p + 2 + e), le-ltb e 0 (omega arith))) in
       rw (packet-is w k l s p, z (32 * p + 1), entries, z (32 * p))
 
-  module _ (z : (i : ℕ) → nth (imageOf w k l .tracers) i ≡ 0) where
-    tracer-idle : (t : ℕ) → tracerOk (imageOf w k l) t ≡ true
-    unfolding tracerOk every handOk handCardOk either hand nextLink handCard nextGranule
-    tracer-idle t = simp z
-
-    held-idle : (x : ℕ) → heldOnce (imageOf w k l) x ≡ true
-    unfolding heldOnce heldAt either
-    held-idle x = rw (z (8 * (x / 2) + x % 2))
+  tracer-idle : ((i : ℕ) → nth (imageOf w k l .tracers) i ≡ 0) → (t : ℕ) → tracerOk (imageOf w k l) t ≡ true
+  unfolding tracerOk every handOk handCardOk either hand nextLink handCard nextGranule
+  tracer-idle z t = simp z
 
   module _ (s : Sized w k l) where
     pub idle-cycle : idle (imageOf w k l) ≡ true → cycleLines (imageOf w k l) ≡ true
-    unfolding idle cycleLines markOk implies entries distinct
+    unfolding idle cycleLines markOk implies entries distinct heldOnce heldAt either
     idle-cycle e =
         let p : (i : ℕ) → nth (imageOf w k l .packets) i ≡ 0 = zeroes-use (imageOf w k l .packets) (every-use _ e 1) in
         let t : (i : ℕ) → nth (imageOf w k l .tracers) i ≡ 0 = zeroes-use (imageOf w k l .tracers) (every-use _ e 2) in
@@ -64,7 +59,7 @@ module _ (w k : ℕ) (l : List ℕ) where
         (every-cons _ _ (all-packets w k l s ∙ all-make 32 (packetOkAt (imageOf w k l)) (λ i h. packet-idle p s i))
         (every-cons _ _ (rw (no-entries 32 (imageOf w k l .packets) p))
         (every-cons _ _ (all-make 8 _ (λ i h. tracer-idle t i))
-        (every-cons _ _ (all-make 16 _ (λ i h. held-idle t i)) every-nil))))
+        (every-cons _ _ (all-make 16 _ (λ x h. rw (t (8 * (x / 2) + x % 2)))) every-nil))))
 
     -- ---- the ways out of `cycle_ok`
 

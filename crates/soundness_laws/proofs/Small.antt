@@ -142,24 +142,20 @@ module _ (w k : ℕ) (l set bs : List ℕ) (z : Sized w k l) (t : Targets w (ima
 -- ---- bit words one after the other
 
 module _ (w k : ℕ) (l set : List ℕ) (z : Sized w k l) (t : Targets w (imageOf w k l) set) where
-  -- the bit word of granule a ends among those that are full
-  word-end : (a : ℕ) → a < w * fullWords w set → (a % w < w) × ((a % w ≤ a) × (a - a % w + w ≤ w * fullWords w set))
-  word-end a h =
-      let m : w * (a / w + 1) ≤ w * fullWords w set = mul-le-mul-left w (omega (arith, full-place w set a h)) in
-      let s : w * (a / w + 1) ≡ w * (a / w) + w = rw (add-one (a / w)) (mul-suc w (a / w)) in
-      let e : w * (a / w) + a % w ≡ a = div-add-mod a w in
-      (mod-lt a (some-width w (fullWords w set) a h), (omega arith, omega arith))
-
   pub upto-none : SmallUpto k (imageOf w k l) 1
   upto-none = record { low = omega arith; high = omega (arith, z .low); starts = λ g p q. absurd (omega arith); objects = record { small = λ g p q. absurd (omega arith) } }
 
+  -- the bit word of granule a ends among those that are full
   pub upto-more : (a : ℕ) → SmallUpto k (imageOf w k l) a → a < w * fullWords w set → SmallFrom (imageOf w k l) a (a - a % w + w) → SmallUpto k (imageOf w k l) (a - a % w + w)
   upto-more a u h f =
-      let e = word-end a h in
+      let m : w * (a / w + 1) ≤ w * fullWords w set = mul-le-mul-left w (omega (arith, full-place w set a h)) in
+      let s : w * (a / w + 1) ≡ w * (a / w) + w = rw (add-one (a / w)) (mul-suc w (a / w)) in
+      let e : w * (a / w) + a % w ≡ a = div-add-mod a w in
+      let r : a % w < w = mod-lt a (some-width w (fullWords w set) a h) in
       record {
-        low = omega (arith, u .low, e .0, e .1 .0);
-        high = omega (arith, full-inside w k l z set t, e .1 .1);
-        starts = λ g p q. full-start w k l z set t g p (omega (arith, e .1 .1)) .1;
+        low = omega (arith, u .low);
+        high = omega (arith, full-inside w k l z set t);
+        starts = λ g p q. full-start w k l z set t g p (omega arith) .1;
         objects = record { small = λ g p q. elim (decLt g a) [ yes r ↦ u .objects .small g p r | no r ↦ f .small g (omega arith) q ] };
       }
 

@@ -84,23 +84,13 @@ module _ (m : Image) where
 -- ---- by words of start bits
 
 module _ (w k : ℕ) (l : List ℕ) (i x : ℕ) (ex : x ≡ nth (imageOf w k l .starts) i) (lx : x < 2 ^ w) where
-  word-bit : (j : ℕ) → j < w → startBit (imageOf w k l) (w * i + j) ≡ x / 2 ^ j % 2
-  unfolding isStart imageOf image
-  word-bit j h = rw (bit-at w (imageOf w k l .starts) i j h, ← ex) (bit-digit x j)
-
   word-ones : (n j : ℕ) → j + n ≡ w → ones (x / 2 ^ j) ≡ startsIn (imageOf w k l) (w * i + j) n
-  unfolding startsIn ones onesIn
+  unfolding startsIn ones onesIn isStart imageOf image
   word-ones zero j h = let p : j ≡ w = omega arith in rw (p, div-eq-of-lt lx)
   word-ones (suc n) j h =
       let t : w * i + j + 1 ≡ w * i + (j + 1) = omega arith in
-      ones-step (x / 2 ^ j)
-      ∙ (rw (← (word-bit j (omega arith)), shr-shr x j 1, word-ones n (j + 1) (omega arith), ← t) refl ∙ sym (count-first (imageOf w k l) (w * i + j) n))
-
-  count-word : (n : ℕ) → n ≡ startsIn (imageOf w k l) 0 (w * i) → n + ones x ≡ startsIn (imageOf w k l) 0 (w * (i + 1))
-  count-word n e =
-      let s : w * i + w ≡ w * (i + 1) = rw (add-one i) (sym (mul-suc w i)) in
-      let o : ones x ≡ startsIn (imageOf w k l) (w * i) w = rw (add-zero (w * i), div-one x) at (word-ones w 0 (zero-add w)) in
-      rw (e, o) (sym (rw s at (count-split (imageOf w k l) (w * i) w)))
+      let b : startBit (imageOf w k l) (w * i + j) ≡ x / 2 ^ j % 2 = rw (bit-at w (imageOf w k l .starts) i j (omega arith), ← ex) (bit-digit x j) in
+      ones-step (x / 2 ^ j) ∙ (rw (← b, shr-shr x j 1, word-ones n (j + 1) (omega arith), ← t) refl ∙ sym (count-first (imageOf w k l) (w * i + j) n))
 
 -- ---- `n` starts stand in the first i words
 
@@ -117,7 +107,10 @@ module _ (w k : ℕ) (l : List ℕ) where
   c-small n i c = omega (arith, c .so-far, count-le (imageOf w k l) 0 (w * i))
 
   pub c-more : (n i x : ℕ) → StartsCounted w k l n i → i < 64 * k / w → x ≡ nth (imageOf w k l .starts) i → x < 2 ^ w → StartsCounted w k l (n + ones x) (i + 1)
-  c-more n i x c h e lx = record { within = omega arith; so-far = count-word w k l i x e lx n (c .so-far) }
+  c-more n i x c h e lx =
+      let s : w * i + w ≡ w * (i + 1) = rw (add-one i) (sym (mul-suc w i)) in
+      let o : ones x ≡ startsIn (imageOf w k l) (w * i) w = rw (add-zero (w * i), div-one x) at (word-ones w k l i x e lx w 0 (zero-add w)) in
+      record { within = omega arith; so-far = rw (c .so-far, o) (sym (rw s at (count-split (imageOf w k l) (w * i) w))) }
 
   pub c-end : (n i : ℕ) → Sized w k l → StartsCounted w k l n i → 64 * k / w ≤ i → n ≡ startsIn (imageOf w k l) 0 (64 * k)
   c-end n i z c h =

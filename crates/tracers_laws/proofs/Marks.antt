@@ -1,6 +1,5 @@
 -- The mark bits of a card gathered in one number, and the next marked granule by its trailing zeros.
 use mathlib.Core.Path.{_≡_, refl, sym, _∙_}
-use mathlib.Core.Logic.{_⊎_}
 use mathlib.Core.Bool.{true, false}
 use mathlib.Core.List.{List}
 use Prim.Native.Nat.{ℕ, zero, suc, _+_, _*_, _-_, _/_, _%_, _^_, _<_, _≤_}
@@ -52,16 +51,11 @@ pub record MarksBelow (w : ℕ) (m : Image) (c i x : ℕ) : Type 0 where
 pub marks-none : (w : ℕ) (m : Image) (c : ℕ) → MarksBelow w m c 0 0
 marks-none w m c = record { small = pow-pos (w * 0); bits = λ j h. absurd (omega arith) }
 
--- the card's words are whole
-words-in : (w i : ℕ) → (w ≡ 16) ⊎ (w ≡ 32) → i < 64 / w → w * i + w ≤ 64
-words-in w i = by-width (λ w. i < 64 / w → w * i + w ≤ 64) (λ h. omega arith) (λ h. omega arith)
-
-words-all : (w i : ℕ) → (w ≡ 16) ⊎ (w ≡ 32) → 64 / w ≤ i → 64 ≤ w * i
-words-all w i = by-width (λ w. 64 / w ≤ i → 64 ≤ w * i) (λ h. omega arith) (λ h. omega arith)
-
 module _ (w k : ℕ) (ws : List ℕ) (z : Sized w k ws) (c i x : ℕ) (o : MarksBelow w (imageOf w k ws) c i x) where
   pub marks-all : 64 / w ≤ i → CardMarks (imageOf w k ws) c x
-  marks-all h = record { bits = λ j l. o .bits j (omega (arith, words-all w i (sized-width z) h)) }
+  marks-all h =
+      let n : 64 ≤ w * i = by-width (λ w. 64 / w ≤ i → 64 ≤ w * i) (λ h. omega arith) (λ h. omega arith) (sized-width z) h in
+      record { bits = λ j l. o .bits j (omega arith) }
 
   module _ (h : i < 64 / w) (v : ℕ) (e : v ≡ nth (imageOf w k ws .marks) (64 / w * c + i)) (l : v < 2 ^ w) where
     next-bit : (j : ℕ) → j < w → testBit v j ≡ marked (imageOf w k ws) (64 * c + (w * i + j))
@@ -73,7 +67,8 @@ module _ (w k : ℕ) (ws : List ℕ) (z : Sized w k ws) (c i x : ℕ) (o : Marks
 
     pub marks-more : MarksBelow w (imageOf w k ws) c (i + 1) (bitOr x (v * 2 ^ (w * i) % 18446744073709551616))
     marks-more =
-        let s : v * 2 ^ (w * i) % 18446744073709551616 ≡ v * 2 ^ (w * i) = shl-exact w (w * i) 64 l (omega (arith, words-in w i (sized-width z) h)) in
+        let r : w * i + w ≤ 64 = by-width (λ w. i < 64 / w → w * i + w ≤ 64) (λ h. omega arith) (λ h. omega arith) (sized-width z) h in
+        let s : v * 2 ^ (w * i) % 18446744073709551616 ≡ v * 2 ^ (w * i) = shl-exact w (w * i) 64 l (omega arith) in
         let n : w * (i + 1) ≡ w * i + w = rw (add-one i) (mul-suc w i) in
         rw
         (s, or-shifted-r v (w * i) x (o .small))

@@ -36,10 +36,6 @@ mid-table zero l o h = refl
 mid-table (suc n) l o h =
     rw (drop-cons l o 0 (omega arith)) (simp (add-zero, add-suc) (ap (λ r. getD l o 0 ∷ r) (simp suc-add at (mid-table n l (suc o) (omega arith)))))
 
-mid-six : (l : List ℕ) (o : ℕ) → o + 6 ≤ length l → midOf o 6 l ≡ six l o
-unfolding table
-mid-six l o h = rw (add-zero o) at (mid-table 6 l o h)
-
 -- the six words of a state written, then r
 abbrev words-then : Tracer → List Write → List Write
 words-then x r = write 0 (x .input) ∷ write 1 (x .output) ∷ write 2 (x .hand) ∷ write 3 (x .link) ∷ write 4 (x .card) ∷ write 5 (x .granule) ∷ r
@@ -49,9 +45,10 @@ words-below x r b = (omega arith, (omega arith, (omega arith, (omega arith, (ome
 
 -- Writes that leave the same six words leave the same list.
 same-writes : (l : List ℕ) (o : ℕ) (r s : List Write) → o + 6 ≤ length l → Below 6 r → Below 6 s → inStretch (six l o) r ≡ inStretch (six l o) s → inList o l r ≡ inList o l s
+unfolding table
 same-writes l o r s h b c q =
-    let mid : (u : List Write) → putMid o 6 l (inStretch (midOf o 6 l) u) ≡ putMid o 6 l (inStretch (six l o) u) = λ u. ap (λ x. putMid o 6 l (inStretch x u)) (mid-six l o h) in
-    sym (writes o 6 l r b) ∙ (mid r ∙ (ap (putMid o 6 l) q ∙ (sym (mid s) ∙ writes o 6 l s c)))
+    let mid : midOf o 6 l ≡ six l o = rw (add-zero o) at (mid-table 6 l o h) in
+    sym (rw mid at (writes o 6 l r b)) ∙ (ap (putMid o 6 l) q ∙ rw mid at (writes o 6 l s c))
 
 -- ---- read and written
 
