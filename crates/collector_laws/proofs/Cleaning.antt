@@ -1,5 +1,5 @@
 -- The lines of clean, each way out as the code finds it.
-use mathlib.Core.Path.{_≡_, refl, sym, _∙_}
+use mathlib.Core.Path.{_≡_, refl, sym, ap, _∙_}
 use mathlib.Core.Bool.{true}
 use mathlib.Core.List.{List}
 use Prim.Native.Nat.{ℕ, zero, suc, _+_, _*_, _-_, _≤_, _<_}
@@ -8,7 +8,7 @@ use lib.Dec.{eqb}
 use borrow.Author.Tests.{eq-eqb, ne-eqb}
 use Rattle.model.specs.Base.{first, lowest}
 use Rattle.model.specs.Image.{Image, imageOf, image, marked, hand, handCard, setState, withCards}
-use Rattle.model.specs.Collect.{traceHand, putCard, takeObject, nextMarked, cleanTo, cleanCard, lowestDirty, takeCard, cleanLine, cleanStep}
+use Rattle.model.specs.Collect.{traceHand, takeObject, nextMarked, cleanTo, cleanCard, lowestDirty, takeCard, cleanLine, cleanStep}
 use Rattle.model.proofs.Laws.{best-ok, bool-cases}
 use Rattle.theory.specs.Lines.{Lines}
 use Rattle.theory.proofs.steps.Cleaning.{card-in-hand}
@@ -26,11 +26,6 @@ next-below : (m : Image) (d g : ℕ) → nextMarked m d g ≤ g + d
 unfolding nextMarked
 next-below m zero g = omega arith
 next-below m (suc d) g = elim (bool-cases (marked m g)) [ inl e ↦ rw (e, nextMarked) (omega arith) | inr e ↦ rw (e, nextMarked) (omega (arith, next-below m d (suc g))) ]
-
-to-object : (m : Image) (t g : ℕ) → (g ≡ 0 → ⊥) → takeObject (putCard m t (handCard m t) (suc (g - 1))) t (g - 1) ≡ cleanTo m t g
-unfolding cleanTo
-to-object m t zero z = absurd (z refl)
-to-object m t (suc g) z = let p : suc g - 1 ≡ g = omega arith in rw p
 
 module _ (w k : ℕ) (ws : List ℕ) (o : Lines (imageOf w k ws)) (t : ℕ) (h : t < 8) (x : Tracer) (e : x ≡ tracerAt (imageOf w k ws) t) (z : 0 < x .card) where
   in-range : (x .card ≤ k) × (64 * x .card ≤ x .granule + 64) × (x .granule ≤ 64 * x .card)
@@ -60,7 +55,10 @@ module _ (w k : ℕ) (ws : List ℕ) (o : Lines (imageOf w k ws)) (t : ℕ) (h :
     card-let-go q y n r s = s ∙ (rw (r, e) (let-go-written (imageOf w k ws) t h (o .tracers-ok .sized)) ∙ rw q at cleaned)
 
     pub card-object : (g ≡ 0 → ⊥) → (y : Tracer) (n n′ : Image) → y ≡ granuleMovesOn x (g - 1) → n ≡ withTracer (imageOf w k ws) t y → n′ ≡ takeObject n t (g - 1) → n′ ≡ cleanCard (imageOf w k ws) t
-    card-object u y n n′ r s i = i ∙ (rw (s, r, e, granule-written (imageOf w k ws) t h (o .tracers-ok .sized) (g - 1)) (to-object (imageOf w k ws) t g u) ∙ cleaned)
+    unfolding cleanTo
+    card-object u y n n′ r s i =
+        let p : suc (g - 1) ≡ g = omega arith in
+        i ∙ (rw (s, r, e, granule-written (imageOf w k ws) t h (o .tracers-ok .sized) (g - 1)) (ap (cleanTo (imageOf w k ws) t) p) ∙ cleaned)
 
 -- ---- a card taken
 

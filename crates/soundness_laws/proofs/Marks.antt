@@ -39,12 +39,8 @@ by-words w k l p r z e = e ∙ (rw (words-full w k (sized-width z)) at (sym (all
 
 -- ---- within a word
 
--- bit j of a is in b
-isIn : ℕ → ℕ → ℕ → Bool
-isIn a b j = implies (testBit a j) (testBit b j)
-
-sub-word : (n a b c : ℕ) → a < 2 ^ n → b + c + 1 ≡ 2 ^ n → eqb (bitAnd a c) 0 ≡ all n (isIn a b)
-unfolding isIn
+-- every bit of a is in b
+sub-word : (n a b c : ℕ) → a < 2 ^ n → b + c + 1 ≡ 2 ^ n → eqb (bitAnd a c) 0 ≡ all n (λ j. implies (testBit a j) (testBit b j))
 sub-word n a b c ha e =
     same-test _ _
     (λ q. all-make n _ (λ j h. imp-make _ _ (λ t.
@@ -59,7 +55,7 @@ sub-word n a b c ha e =
 
 pub mark-word : (w k : ℕ) (l : List ℕ) (i a b : ℕ) → a ≡ nth (imageOf w k l .marks) i → b ≡ nth (imageOf w k l .starts) i → a < 2 ^ w → b < 2 ^ w
     → eqb (bitAnd a (2 ^ w - 1 - b)) 0 ≡ wordwise w (markOk (imageOf w k l)) i
-unfolding wordwise atWord markOk marked isStart imageOf image isIn
+unfolding wordwise atWord markOk marked isStart imageOf image
 mark-word w k l i a b ea eb ha hb =
     sub-word w a b (2 ^ w - 1 - b) ha (omega arith)
     ∙ all-cong w _ _ (λ j q. rw (bit-at w (imageOf w k l .marks) i j q, bit-at w (imageOf w k l .starts) i j q, ea, eb))

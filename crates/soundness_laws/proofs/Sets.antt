@@ -86,14 +86,11 @@ module _ (w k : ℕ) (l : List ℕ) (z : Sized w k l) where
     pub target-bit : (r : Bool) → a / w < 4096 → r ≡ bit w set a → r ≡ nilOrStart (imageOf w k l) a
     target-bit r h e = e ∙ t .bits a h
 
-    not-nil : 4096 ≤ a / w → a ≡ 0 → ⊥
-    not-nil h e = omega (arith, rw e at h, zero-div w)
-
     pub target-start : (r : Bool) → 4096 ≤ a / w → r ≡ isStart (imageOf w k l) a → r ≡ nilOrStart (imageOf w k l) a
-    target-start r h e = e ∙ start-not-nil a (not-nil h)
+    target-start r h e = e ∙ start-not-nil a (λ q. omega (arith, rw q at h, zero-div w))
 
     pub target-past : 4096 ≤ a / w → 64 * k ≤ a → false ≡ nilOrStart (imageOf w k l) a
-    target-past h p = sym (start-past w k l z a p) ∙ start-not-nil a (not-nil h)
+    target-past h p = sym (start-past w k l z a p) ∙ start-not-nil a (λ q. omega (arith, rw q at h, zero-div w))
 
 pub target-word : (m : Image) (a v : ℕ) (r : Bool) → v ≡ a → r ≡ nilOrStart m v → r ≡ nilOrStart m a
 target-word m a v r e q = q ∙ ap (nilOrStart m) e
@@ -210,12 +207,9 @@ bit-more w seen x g h = elim (ℕ-discrete g x) [
 none-more : (w : ℕ) (seen : List ℕ) (x : ℕ) (l : List ℕ) → x / w < length seen → noneIn w (setBit w seen x) l ≡ (noneIn w seen l && not (elem x l))
 unfolding noneIn elem
 none-more w seen x [] h = refl
-none-more w seen x (y ∷ l) h = rw (none-more w seen x l h, bit-more w seen x y h, eqb-sym x y) (go (bit w seen y) (eqb y x) (noneIn w seen l) (elem x l))
-  where
-    go : (a b c d : Bool) → (not (a || b) && (c && not d)) ≡ ((not a && c) && not (b || d))
-    go true b c d = refl
-    go false true c d = sym (and-false c)
-    go false false c d = refl
+none-more w seen x (y ∷ l) h =
+    rw (none-more w seen x l h, bit-more w seen x y h, eqb-sym x y)
+    (elim (bool-cases (bit w seen y)) [ inl e ↦ rw e | inr e ↦ elim (bool-cases (eqb y x)) [ inl f ↦ rw (e, f) (sym (and-false (noneIn w seen l))) | inr f ↦ rw (e, f) ] ])
 
 pub once-none : {w : ℕ} {before : List ℕ} → AddedOnce w before [] true before
 unfolding elem

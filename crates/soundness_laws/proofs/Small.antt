@@ -134,7 +134,8 @@ module _ (w k : ℕ) (l set bs : List ℕ) (z : Sized w k l) (t : Targets w (ima
           let first : linkOk (imageOf w k l) (a + d) 0 ≡ true = low-target w k l z set t _ (word-between 2 (omega arith) .1) in
           let last : linkOk (imageOf w k l) (a + d) 1 ≡ true = low-target w k l z set t _ (word-between 3 (omega arith) .1) in
           every-cons _ _ (eq-eqb (word (imageOf w k l) (a + d) 0) 1 (omega arith))
-          (every-cons _ _ (le-leb _ _ few) (every-cons _ _ (sym (first-two (linkOk (imageOf w k l) (a + d)) _ true true (sym first) (sym last)) ∙ simp or-true) every-nil))
+          (every-cons _ _ (le-leb _ _ few)
+          (every-cons _ _ (sym (first-two (linkOk (imageOf w k l) (a + d)) _ true true (sym first) (sym last)) ∙ simp or-true) every-nil))
 
     pub word-small : (r : Bool) → r ≡ within lows highs words → r ≡ true → SmallFrom (imageOf w k l) a (a - c + w)
     word-small r e h = record { small = λ g p q. let o : a + (g - a) ≡ g = omega arith in rw o at (bounded-small (sym e ∙ h) (g - a) (omega arith)) }
@@ -146,7 +147,8 @@ module _ (w k : ℕ) (l set : List ℕ) (z : Sized w k l) (t : Targets w (imageO
   upto-none = record { low = omega arith; high = omega (arith, z .low); starts = λ g p q. absurd (omega arith); objects = record { small = λ g p q. absurd (omega arith) } }
 
   -- the bit word of granule a ends among those that are full
-  pub upto-more : (a : ℕ) → SmallUpto k (imageOf w k l) a → a < w * fullWords w set → SmallFrom (imageOf w k l) a (a - a % w + w) → SmallUpto k (imageOf w k l) (a - a % w + w)
+  pub upto-more : (a : ℕ) → SmallUpto k (imageOf w k l) a → a < w * fullWords w set
+      → SmallFrom (imageOf w k l) a (a - a % w + w) → SmallUpto k (imageOf w k l) (a - a % w + w)
   upto-more a u h f =
       let m : w * (a / w + 1) ≤ w * fullWords w set = mul-le-mul-left w (omega (arith, full-place w set a h)) in
       let s : w * (a / w + 1) ≡ w * (a / w) + w = rw (add-one (a / w)) (mul-suc w (a / w)) in
