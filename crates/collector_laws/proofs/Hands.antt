@@ -19,13 +19,9 @@ use Rattle.tracers_laws.proofs.Tracer.{tracers-long, link-done-written, object-
 -- ---- a link of an object
 
 module _ (w k : ℕ) (ws : List ℕ) (o : Lines (imageOf w k ws)) (g : ℕ) (s : Start (imageOf w k ws) g) where
-  object : ObjectAt (imageOf w k ws) g
-  unfolding isStart
-  object = object-at (imageOf w k ws) (heap-filled-of o) g (s .1)
-
   pub link-in : (i : ℕ) → i < links (imageOf w k ws) g → 4 * g + (2 + i) < 256 * k
-  unfolding granules imageOf image
-  link-in i h = omega (arith, object .links-in, object .in-heap)
+  unfolding isStart granules imageOf image
+  link-in i h = let b : ObjectAt (imageOf w k ws) g = object-at (imageOf w k ws) (heap-filled-of o) g (s .1) in omega (arith, b .links-in, b .in-heap)
 
   pub link-ok : (i a : ℕ) → i < links (imageOf w k ws) g → a ≡ word (imageOf w k ws) g (2 + i) → NilOr (Start (imageOf w k ws)) a
   unfolding link
