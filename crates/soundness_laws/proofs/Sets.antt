@@ -8,7 +8,7 @@ use native.Mathlib.Decide.{ℕ-discrete, decLt}
 use native.Mathlib.Omega.{arith}
 use lib.Dec.{eqb}
 use lib.ListN.{length, getD, replicate, length-replicate}
-use borrow.Author.Tests.{eq-eqb, ne-eqb, ltb-true, leb-true}
+use borrow.Author.Tests.{eq-eqb, ne-eqb, eqb-true, ltb-true, leb-true}
 use Rattle.model.specs.Base.{nth, all, elem, distinct, bit, setBit, put, either, testBit, withBit}
 use Rattle.model.specs.Image.{Image, regsAt, sections, entries, image, imageOf, granules, isStart}
 use Rattle.model.specs.Undamaged.{entered, nilOrStart, regOk}
@@ -136,10 +136,8 @@ module _ (w : ℕ) where
   full-word : (set : List ℕ) (j : ℕ) → j < fullWords w set → nth set j ≡ 2 ^ w - 1
   unfolding fullWords fullAnd nth
   full-word [] j h = absurd (omega arith)
-  full-word (x ∷ l) j h = elim (ℕ-discrete x (2 ^ w - 1)) [
-    | yes e ↦ elim j as (λ i. j ≡ i → nth (x ∷ l) i ≡ 2 ^ w - 1) [ zero ↦ λ q. e | suc i ↦ λ q. full-word l i (omega (arith, rw (eq-eqb x (2 ^ w - 1) e) at h)) ] refl
-    | no e ↦ absurd (omega (arith, rw (ne-eqb x (2 ^ w - 1) e) at h))
-  ]
+  full-word (x ∷ l) zero h = elim (bool-cases (eqb x (2 ^ w - 1))) [ inl e ↦ eqb-true _ _ e | inr e ↦ absurd (omega (arith, rw e at h)) ]
+  full-word (x ∷ l) (suc j) h = elim (bool-cases (eqb x (2 ^ w - 1))) [ inl e ↦ full-word l j (omega (arith, rw e at h)) | inr e ↦ absurd (omega (arith, rw e at h)) ]
 
   -- a word of w bits that are all set
   pub ones-bit : (x j : ℕ) → x + 1 ≡ 2 ^ w → j < w → testBit x j ≡ true
