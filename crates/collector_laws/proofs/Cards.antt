@@ -1,6 +1,6 @@
 -- The lowest card in state 1, as a walk from card 0 on finds it.
 use mathlib.Core.Path.{_≡_, refl, sym, _∙_}
-use mathlib.Core.Bool.{Bool, true, false, and-false}
+use mathlib.Core.Bool.{Bool, and-false}
 use mathlib.Core.List.{List}
 use Prim.Native.Nat.{ℕ, zero, suc, _+_, _-_, _<_, _≤_}
 use native.Mathlib.Nat.{zero-add, suc-add}
@@ -11,27 +11,13 @@ use borrow.Author.Tests.{eq-eqb, ne-eqb}
 use Rattle.model.specs.Base.{best, lowest}
 use Rattle.model.specs.Image.{Image, imageOf, image, state}
 use Rattle.model.specs.Collect.{lowestDirty}
-use Rattle.model.specs.Cases.{ok}
-use Rattle.model.specs.Examples.{at}
 
 -- ---- the lowest number that passes
 
-module _ (ok : ℕ → Bool) where
-  lowest-more : (n : ℕ) → lowest ok n ≡ 0 → ok n ≡ false → lowest ok (suc n) ≡ 0
-  unfolding lowest best
-  lowest-more n e f = rw (e, f, best)
-
-  lowest-here : (n : ℕ) → lowest ok n ≡ 0 → ok n ≡ true → lowest ok (suc n) ≡ suc n
-  unfolding lowest best
-  lowest-here n e f = rw (e, f, best)
-
-  lowest-stays : (n p : ℕ) → lowest ok n ≡ suc p → lowest ok (suc n) ≡ suc p
-  unfolding lowest best
-  lowest-stays n p e = rw (e, and-false (ok n), best)
-
-  lowest-on : (d n p : ℕ) → lowest ok n ≡ suc p → lowest ok (d + n) ≡ suc p
-  lowest-on zero n p e = rw (zero-add n) e
-  lowest-on (suc d) n p e = rw (suc-add d n) (lowest-stays (d + n) p (lowest-on d n p e))
+lowest-on : (ok : ℕ → Bool) (d n p : ℕ) → lowest ok n ≡ suc p → lowest ok (d + n) ≡ suc p
+unfolding lowest best
+lowest-on ok zero n p e = rw (zero-add n) e
+lowest-on ok (suc d) n p e = rw (suc-add d n, lowest-on ok d n p e, and-false (ok (d + n)), best)
 
 -- ---- the walk over the cards
 
@@ -50,11 +36,12 @@ module _ (w k : ℕ) (ws : List ℕ) (c : ℕ) (o : NoDirty (imageOf w k ws) c) 
 
   module _ (x : ℕ) (e : x ≡ state (imageOf w k ws) c) where
     pub dirty-more : (x ≡ 1 → ⊥) → NoDirty (imageOf w k ws) (c + 1)
-    dirty-more ne = record { none = rw (add-one c) (lowest-more _ c (o .none) (ne-eqb _ 1 (λ q. ne (e ∙ q)))) }
+    unfolding lowest best
+    dirty-more ne = record { none = rw (add-one c, o .none, ne-eqb (state (imageOf w k ws) c) 1 (λ q. ne (e ∙ q)), best) }
 
     pub dirty-found : x ≡ 1 → c < k → c + 1 ≡ lowestDirty (imageOf w k ws)
-    unfolding lowestDirty imageOf image
+    unfolding lowestDirty lowest best imageOf image
     dirty-found q h =
         let d : k - suc c + suc c ≡ k = omega arith in
-        let r = lowest-on _ (k - suc c) (suc c) c (lowest-here _ c (o .none) (eq-eqb _ 1 (sym e ∙ q))) in
+        let r = lowest-on (λ d. eqb (state (imageOf w k ws) d) 1) (k - suc c) (suc c) c (rw (o .none, eq-eqb (state (imageOf w k ws) c) 1 (sym e ∙ q), best)) in
         add-one c ∙ sym (rw d at r)

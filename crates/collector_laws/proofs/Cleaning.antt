@@ -1,68 +1,43 @@
 -- The lines of clean, each way out as the code finds it.
 use mathlib.Core.Path.{_≡_, refl, sym, ap, _∙_}
-use mathlib.Core.Bool.{Bool, true, false}
-use mathlib.Core.List.{List, [], _∷_}
+use mathlib.Core.Bool.{true}
+use mathlib.Core.List.{List}
 use Prim.Native.Nat.{ℕ, zero, suc, _+_, _*_, _-_, _≤_, _<_}
 use native.Mathlib.Omega.{arith}
 use lib.Dec.{eqb}
-use lib.ListN.{getD}
 use borrow.Author.Tests.{eq-eqb, ne-eqb}
 use Rattle.model.specs.Base.{first, lowest}
-use Rattle.model.specs.Image.{Image, imageOf, image, marked, hand, handCard, nextGranule, setState, withCards}
-use Rattle.model.specs.Collect.{traceHand, putCard, takeObject, nextMarked, cleanTo, cleanCard, lowestDirty, takeCard, cleanLine, cleanStep}
-use Rattle.model.proofs.Laws.{best-ok}
-use Rattle.theory.specs.Lines.{CardInHand, Lines}
+use Rattle.model.specs.Image.{Image, imageOf, image, marked, hand, handCard, setState, withCards}
+use Rattle.model.specs.Collect.{traceHand, takeObject, nextMarked, cleanTo, cleanCard, lowestDirty, takeCard, cleanLine, cleanStep}
+use Rattle.model.proofs.Laws.{best-ok, bool-cases}
+use Rattle.theory.specs.Lines.{Lines}
 use Rattle.theory.proofs.steps.Cleaning.{card-in-hand}
 use Rattle.request_laws.specs.Answer.{done}
 use Rattle.image_laws.specs.Sized.{Sized}
 use Rattle.tracers_laws.specs.Tracer.{Tracer, tracerAt, cardTaken, granuleMovesOn, cardLetGo, withTracer}
 use Rattle.tracers_laws.proofs.Tracer.{tracers-long, card-taken-written, granule-written, let-go-written}
 use Rattle.collector_laws.specs.Outcome.{doneUnless}
-use Rattle.collector_laws.proofs.Tracing.{read-hand}
-use Rattle.model.specs.Examples.{at}
-
--- ---- the state that was read
-
-module _ (m : Image) (t : ℕ) (x : Tracer) (e : x ≡ tracerAt m t) where
-  read-card : x .card ≡ handCard m t
-  unfolding tracerAt
-  read-card = ap (λ (y : Tracer). y .card) e
-
-  read-granule : x .granule ≡ nextGranule m t
-  unfolding tracerAt
-  read-granule = ap (λ (y : Tracer). y .granule) e
+use Rattle.collector_laws.proofs.Tracing.{read, hand-empty}
+use mathlib.Core.Logic.{inl, inr}
 
 -- ---- the card in hand
 
 next-below : (m : Image) (d g : ℕ) → nextMarked m d g ≤ g + d
 unfolding nextMarked
 next-below m zero g = omega arith
-next-below m (suc d) g = go (next-below m d (suc g)) (marked m g)
-  where
-    go : nextMarked m d (suc g) ≤ suc g + d → (b : Bool) → (elim b [ true ↦ suc g | false ↦ nextMarked m d (suc g) ]) ≤ g + suc d
-    go h true = omega arith
-    go h false = omega arith
-
-to-object : (m : Image) (t g : ℕ) → (g ≡ 0 → ⊥) → takeObject (putCard m t (handCard m t) (suc (g - 1))) t (g - 1) ≡ cleanTo m t g
-unfolding cleanTo
-to-object m t zero z = absurd (z refl)
-to-object m t (suc g) z = let p : suc g - 1 ≡ g = omega arith in rw p
+next-below m (suc d) g = elim (bool-cases (marked m g)) [ inl e ↦ rw (e, nextMarked) (omega arith) | inr e ↦ rw (e, nextMarked) (omega (arith, next-below m d (suc g))) ]
 
 module _ (w k : ℕ) (ws : List ℕ) (o : Lines (imageOf w k ws)) (t : ℕ) (h : t < 8) (x : Tracer) (e : x ≡ tracerAt (imageOf w k ws) t) (z : 0 < x .card) where
-  in-hand : CardInHand (imageOf w k ws) (x .card) (x .granule)
-  in-hand = rw (read-card (imageOf w k ws) t x e, read-granule (imageOf w k ws) t x e) (card-in-hand (imageOf w k ws) o t h (λ q. omega (arith, read-card (imageOf w k ws) t x e)))
-
   in-range : (x .card ≤ k) × (64 * x .card ≤ x .granule + 64) × (x .granule ≤ 64 * x .card)
-  unfolding imageOf image
-  in-range = (in-hand .0, omega (arith, in-hand .2), in-hand .3)
+  unfolding imageOf image tracerAt
+  in-range = rw e (let c = card-in-hand (imageOf w k ws) o t h (λ q. omega (arith, read (imageOf w k ws) t x e)) in (c .0, omega (arith, c .2), c .3))
 
   module _ (c : ℕ) (a : c ≡ x .card) where
     pub card-in : c ≤ k
     card-in = rw a (in-range .0)
 
-    module _ (n : ℕ) (b : n ≡ x .granule) where
-      pub card-from : 64 * c ≤ n + 64
-      card-from = rw (a, b) (in-range .1)
+    pub card-from : (n : ℕ) → n ≡ x .granule → 64 * c ≤ n + 64
+    card-from n b = rw (a, b) (in-range .1)
 
   module _ (g : ℕ) (f : g ≡ nextMarked (imageOf w k ws) (64 * x .card - x .granule) (x .granule)) where
     pub next-in : g ≤ 64 * k
@@ -73,14 +48,17 @@ module _ (w k : ℕ) (ws : List ℕ) (o : Lines (imageOf w k ws)) (t : ℕ) (h :
 
     cleaned : cleanTo (imageOf w k ws) t g ≡ cleanCard (imageOf w k ws) t
     unfolding cleanCard
-    cleaned = rw (← read-card (imageOf w k ws) t x e, ← read-granule (imageOf w k ws) t x e, ← f)
+    cleaned = rw (← read (imageOf w k ws) t x e .its-card, ← read (imageOf w k ws) t x e .its-granule, ← f)
 
     pub card-let-go : g ≡ 0 → (y : Tracer) (n : Image) → y ≡ cardLetGo x → n ≡ withTracer (imageOf w k ws) t y → n ≡ cleanCard (imageOf w k ws) t
     unfolding cleanTo
     card-let-go q y n r s = s ∙ (rw (r, e) (let-go-written (imageOf w k ws) t h (o .tracers-ok .sized)) ∙ rw q at cleaned)
 
     pub card-object : (g ≡ 0 → ⊥) → (y : Tracer) (n n′ : Image) → y ≡ granuleMovesOn x (g - 1) → n ≡ withTracer (imageOf w k ws) t y → n′ ≡ takeObject n t (g - 1) → n′ ≡ cleanCard (imageOf w k ws) t
-    card-object u y n n′ r s i = i ∙ (rw (s, r, e, granule-written (imageOf w k ws) t h (o .tracers-ok .sized) (g - 1)) (to-object (imageOf w k ws) t g u) ∙ cleaned)
+    unfolding cleanTo
+    card-object u y n n′ r s i =
+        let p : suc (g - 1) ≡ g = omega arith in
+        i ∙ (rw (s, r, e, granule-written (imageOf w k ws) t h (o .tracers-ok .sized) (g - 1)) (ap (cleanTo (imageOf w k ws) t) p) ∙ cleaned)
 
 -- ---- a card taken
 
@@ -95,35 +73,24 @@ card-taken w k ws z t c h n₁ n₂ x y f e q r = r ∙ rw (q, e, f) (card-taken
 
 -- ---- the lines
 
-module _ (m : Image) (t : ℕ) where
-  abbrev lines-of : List Image
-  lines-of = m ∷ traceHand m t ∷ cleanCard m t ∷ takeCard m t (lowestDirty m - 1) ∷ []
+module _ (m : Image) (t : ℕ) (x : Tracer) (e : x ≡ tracerAt m t) where
+  pub clean-hand-line : (x .hand ≡ 0 → ⊥) → (n : Image) → n ≡ traceHand m t → done 0 0 n ≡ doneUnless (eqb (cleanLine m t) 0) m (cleanStep m t)
+  unfolding doneUnless cleanStep cleanLine first
+  clean-hand-line z n f = rw (ne-eqb (hand m t) 0 (λ q. z (read m t x e .its-hand ∙ q)), f)
 
-  by-line : (l : ℕ) (n : Image) → cleanLine m t ≡ suc l → n ≡ getD lines-of (suc l) m → done 0 0 n ≡ doneUnless (eqb (cleanLine m t) 0) m (cleanStep m t)
-  unfolding doneUnless cleanStep
-  by-line l n e f = rw (e, ne-eqb (suc l) 0 (λ z. omega arith), f)
+  module _ (z : x .hand ≡ 0) where
+    pub clean-card-line : (x .card ≡ 0 → ⊥) → (n : Image) → n ≡ cleanCard m t → done 0 0 n ≡ doneUnless (eqb (cleanLine m t) 0) m (cleanStep m t)
+    unfolding doneUnless cleanStep cleanLine first
+    clean-card-line u n f = rw (hand-empty m t x e z, ne-eqb (handCard m t) 0 (λ q. u (read m t x e .its-card ∙ q)), f)
 
-  module _ (x : Tracer) (e : x ≡ tracerAt m t) where
-    pub clean-hand-line : (x .hand ≡ 0 → ⊥) → (n : Image) → n ≡ traceHand m t → done 0 0 n ≡ doneUnless (eqb (cleanLine m t) 0) m (cleanStep m t)
-    unfolding cleanLine first
-    clean-hand-line z n f = by-line 0 n (rw (ne-eqb (hand m t) 0 (λ q. z (read-hand m t x e ∙ q)))) f
+    module _ (u : x .card ≡ 0) (c : ℕ) (g : c ≡ lowestDirty m) where
+      no-card : eqb (handCard m t) 0 ≡ true
+      no-card = eq-eqb (handCard m t) 0 (sym (read m t x e .its-card) ∙ u)
 
-    module _ (z : x .hand ≡ 0) where
-      empty : eqb (hand m t) 0 ≡ true
-      empty = eq-eqb (hand m t) 0 (sym (read-hand m t x e) ∙ z)
+      pub clean-dirty-line : (c ≡ 0 → ⊥) → (n : Image) → n ≡ takeCard m t (c - 1) → done 0 0 n ≡ doneUnless (eqb (cleanLine m t) 0) m (cleanStep m t)
+      unfolding doneUnless cleanStep cleanLine first
+      clean-dirty-line w n f = rw (hand-empty m t x e z, no-card, ← g, ne-eqb c 0 w, f)
 
-      pub clean-card-line : (x .card ≡ 0 → ⊥) → (n : Image) → n ≡ cleanCard m t → done 0 0 n ≡ doneUnless (eqb (cleanLine m t) 0) m (cleanStep m t)
-      unfolding cleanLine first
-      clean-card-line u n f = by-line 1 n (rw (empty, ne-eqb (handCard m t) 0 (λ q. u (read-card m t x e ∙ q)))) f
-
-      module _ (u : x .card ≡ 0) (c : ℕ) (g : c ≡ lowestDirty m) where
-        no-card : eqb (handCard m t) 0 ≡ true
-        no-card = eq-eqb (handCard m t) 0 (sym (read-card m t x e) ∙ u)
-
-        pub clean-dirty-line : (c ≡ 0 → ⊥) → (n : Image) → n ≡ takeCard m t (c - 1) → done 0 0 n ≡ doneUnless (eqb (cleanLine m t) 0) m (cleanStep m t)
-        unfolding cleanLine first
-        clean-dirty-line w n f = by-line 2 n (rw (empty, no-card, ← g, ne-eqb c 0 w)) (f ∙ rw g)
-
-        pub clean-no-line : c ≡ 0 → done 11 0 m ≡ doneUnless (eqb (cleanLine m t) 0) m (cleanStep m t)
-        unfolding doneUnless cleanLine first
-        clean-no-line w = rw (empty, no-card, ← g, eq-eqb c 0 w)
+      pub clean-no-line : c ≡ 0 → done 11 0 m ≡ doneUnless (eqb (cleanLine m t) 0) m (cleanStep m t)
+      unfolding doneUnless cleanLine first
+      clean-no-line w = rw (hand-empty m t x e z, no-card, ← g, eq-eqb c 0 w)

@@ -19,13 +19,9 @@ use Rattle.tracers_laws.proofs.Tracer.{tracers-long, link-done-written, object-
 -- ---- a link of an object
 
 module _ (w k : ℕ) (ws : List ℕ) (o : Lines (imageOf w k ws)) (g : ℕ) (s : Start (imageOf w k ws) g) where
-  object : ObjectAt (imageOf w k ws) g
-  unfolding isStart
-  object = object-at (imageOf w k ws) (heap-filled-of o) g (s .1)
-
   pub link-in : (i : ℕ) → i < links (imageOf w k ws) g → 4 * g + (2 + i) < 256 * k
-  unfolding granules imageOf image
-  link-in i h = omega (arith, object .links-in, object .in-heap)
+  unfolding isStart granules imageOf image
+  link-in i h = let b : ObjectAt (imageOf w k ws) g = object-at (imageOf w k ws) (heap-filled-of o) g (s .1) in omega (arith, b .links-in, b .in-heap)
 
   pub link-ok : (i a : ℕ) → i < links (imageOf w k ws) g → a ≡ word (imageOf w k ws) g (2 + i) → NilOr (Start (imageOf w k ws)) a
   unfolding link
@@ -34,10 +30,6 @@ module _ (w k : ℕ) (ws : List ℕ) (o : Lines (imageOf w k ws)) (g : ℕ) (s :
 -- ---- the object in hand
 
 module _ (w k : ℕ) (ws : List ℕ) (o : Lines (imageOf w k ws)) (t : ℕ) (h : t < 8) (p : 0 < hand (imageOf w k ws) t) (x : Tracer) (e : x ≡ tracerAt (imageOf w k ws) t) where
-  in-hand : Start (imageOf w k ws) (x .hand)
-  unfolding tracerAt marked
-  in-hand = rw e (o .marks-ok .on-starts (hand (imageOf w k ws) t) (in-hand-ok (imageOf w k ws) o t h (λ z. omega arith) .0))
-
   next-in-hand : x .link < links (imageOf w k ws) (x .hand)
   unfolding tracerAt
   next-in-hand = rw e (in-hand-ok (imageOf w k ws) o t h (λ z. omega arith) .1)
@@ -45,15 +37,15 @@ module _ (w k : ℕ) (ws : List ℕ) (o : Lines (imageOf w k ws)) (t : ℕ) (h :
   -- object g in hand at link i, as the code has read them
   module _ (g : ℕ) (a : g ≡ x .hand) where
     pub hand-start : Start (imageOf w k ws) g
-    hand-start = rw a in-hand
+    unfolding tracerAt marked
+    hand-start = rw (a, e) (o .marks-ok .on-starts (hand (imageOf w k ws) t) (in-hand-ok (imageOf w k ws) o t h (λ z. omega arith) .0))
 
     pub hand-below : 4 * g + 1 < 256 * k
     unfolding imageOf image
     hand-below = omega (arith, hand-start .0)
 
-    module _ (i : ℕ) (b : i ≡ x .link) where
-      pub hand-link : i < links (imageOf w k ws) g
-      hand-link = rw (b, a) next-in-hand
+    pub hand-link : (i : ℕ) → i ≡ x .link → i < links (imageOf w k ws) g
+    hand-link i b = rw (b, a) next-in-hand
 
   -- its link reached, which leaves hand and next link
   module _ (n₁ : Image) (r : n₁ ≡ reach (imageOf w k ws) t (link (imageOf w k ws) (x .hand) (x .link))) (n : ℕ) (f : n ≡ word (imageOf w k ws) (x .hand) 1) where
@@ -61,21 +53,15 @@ module _ (w k : ℕ) (ws : List ℕ) (o : Lines (imageOf w k ws)) (t : ℕ) (h :
     unfolding tracerAt
     reached = rw r (reach-does (imageOf w k ws) o t (link (imageOf w k ws) (x .hand) (x .link)) h (rw e (in-hand-ok (imageOf w k ws) o t h (λ z. omega arith) .2)))
 
-    hand-same : hand n₁ t ≡ hand (imageOf w k ws) t
-    unfolding hand
-    hand-same = reached .tracer-same t 2 (omega arith) (omega arith)
-
-    link-same : nextLink n₁ t ≡ nextLink (imageOf w k ws) t
-    unfolding nextLink
-    link-same = reached .tracer-same t 3 (omega arith) (omega arith)
-
     pub hand-next : nextLink n₁ t < n
-    unfolding tracerAt links
-    hand-next = rw (link-same, f, e) (rw e at next-in-hand)
+    unfolding tracerAt links nextLink
+    hand-next = rw (reached .tracer-same t 3 (omega arith) (omega arith), f, e) (rw e at next-in-hand)
 
     pub hand-traced : (n₂ : Image) → n₂ ≡ withTracer n₁ t (linkDone (tracerAt n₁ t) n) → n₂ ≡ traceHand (imageOf w k ws) t
-    unfolding traceHand tracerAt links
-    hand-traced n₂ b = b ∙ (link-done-written n₁ t h (reached .lines .tracers-ok .sized) n ∙ rw (hand-same, link-same, f, r, e))
+    unfolding traceHand tracerAt links hand nextLink
+    hand-traced n₂ b =
+        let same = reached .tracer-same t in
+        b ∙ (link-done-written n₁ t h (reached .lines .tracers-ok .sized) n ∙ rw (same 2 (omega arith) (omega arith), same 3 (omega arith) (omega arith), f, r, e))
 
 -- a tracer read, moved on and written
 pub moved-on : (m n : Image) (t c : ℕ) (x y : Tracer) → x ≡ tracerAt m t → y ≡ linkDone x c → n ≡ withTracer m t y → n ≡ withTracer m t (linkDone (tracerAt m t) c)

@@ -1,26 +1,27 @@
 -- The choice of a packet by a walk is the model's `best`; the packets that tracers hold, as bits.
 use mathlib.Core.Path.{_≡_, refl, sym, ap, _∙_}
-use mathlib.Core.Bool.{Bool, true, false, not, cond, _&&_, _||_, and-true, or-false, or-true}
+use mathlib.Core.Bool.{Bool, true, false, not, cond, _&&_, _||_, and-true, and-false, or-false, or-true, or-assoc}
 use mathlib.Core.List.{[], _∷_}
 use Prim.Native.Nat.{ℕ, zero, suc, _+_, _≤_, _^_, _*_, _-_, _%_, _<_}
 use native.Mathlib.Omega.{arith}
 use native.Mathlib.Decide.{ℕ-discrete}
 use lib.Dec.{ltb, eqb, lit<, leb}
 use borrow.Author.Tests.{ltb-true, lt-ltb, eq-eqb, ne-eqb}
-use Rattle.model.specs.Base.{best, every, any, some, testBit, withBit, nth}
+use Rattle.model.specs.Base.{best, every, any, some, testBit, nth}
 use Rattle.model.specs.Image.{Image, count, input, output}
 use Rattle.model.specs.Collect.{held, emptiest, hasEntries, fullest}
-use Rattle.model.proofs.Laws.{best-ok, every-use, false≢}
+use Rattle.model.proofs.Laws.{bool-cases, best-ok, every-use}
 use Rattle.model.proofs.Bits.{withBit-same, withBit-other}
 use Rattle.collector_laws.specs.Pool.{choice, chosenBy, heldWith, heldSet, lacksSpace}
 use Rattle.collector_laws.specs.declared.Choice.{Choice}
 use native.Mathlib.Numerals.{add-one}
-use native.Mathlib.Nat.{zero-div, one-mul}
+use native.Mathlib.Nat.{one-mul}
 use Rattle.image_laws.proofs.Masks.{or-pow}
 use lib.Bits.{bitOr}
 use lib.Pow.{shl-exact}
 use Rattle.theory.specs.Lines.{HeldOk}
-use Rattle.theory.specs.Fields.{bound}
+use Rattle.image_laws.proofs.Bits.{zero-bit}
+use mathlib.Core.Logic.{inl, inr}
 
 -- ---- the choice, for any order
 
@@ -36,28 +37,25 @@ module _ (less : ℕ → ℕ → Bool) (key : ℕ → ℕ) (free : ℕ → Bool)
   at-best zero = record { packet = 0; entries = bound }
   at-best (suc q) = record { packet = suc q; entries = key q }
 
-  first : (n : ℕ) (f l : Bool) → chosenBy (f && l) n (key n) (at-best 0) ≡ at-best (cond (every (f ∷ l ∷ [])) (suc n) 0)
-  unfolding chosenBy every
-  first n true true = refl
-  first n true false = refl
-  first n false l = refl
-
-  later : (n q : ℕ) (f l x : Bool) → (x ≡ true → l ≡ true) → chosenBy (f && x) n (key n) (at-best (suc q)) ≡ at-best (cond (every (f ∷ l ∷ []) && x) (suc n) (suc q))
-  unfolding chosenBy every
-  later n q false l x h = refl
-  later n q true true true h = refl
-  later n q true true false h = refl
-  later n q true false true h = false≢ (h refl)
-  later n q true false false h = refl
+  chosen : (n q : ℕ) (b c : Bool) → b ≡ c → chosenBy b n (key n) (at-best q) ≡ at-best (cond c (suc n) q)
+  unfolding chosenBy
+  chosen n q b true e = rw e
+  chosen n q b false e = rw e
 
   pub choice-best : ((a b : ℕ) → less a b ≡ true → less b bound ≡ true → less a bound ≡ true) → (n : ℕ) → choice less key free bound n ≡ at-best (best better suits n)
-  unfolding choice best
+  unfolding choice best every
   choice-best trans zero = refl
   choice-best trans (suc n) = rw (choice-best trans n) (go (best better suits n) refl)
     where
       go : (b : ℕ) → best better suits n ≡ b → chosenBy (free n && less (key n) (at-best b .entries)) n (key n) (at-best b) ≡ at-best (elim b [ zero ↦ cond (suits n) (suc n) 0 | suc q ↦ cond (suits n && better n q) (suc n) (suc q) ])
-      go zero e = first n (free n) (less (key n) bound)
-      go (suc q) e = later n q (free n) (less (key n) bound) (less (key n) (key q)) (λ x. trans (key n) (key q) x (every-use _ (best-ok better suits n q e .1) 1))
+      go zero e = chosen n 0 (free n && less (key n) bound) (suits n) (simp and-true)
+      go (suc q) e = chosen n (suc q) (free n && better n q) (suits n && better n q) (elim (bool-cases (less (key n) (key q))) [
+        | inl x ↦ rw (x, trans (key n) (key q) x (every-use (free q ∷ less (key q) bound ∷ []) (best-ok better suits n q e .1) 1)) (simp and-true)
+        | inr x ↦ rw x (simp and-false)
+      ])
+
+  choice-packet : ((a b : ℕ) → less a b ≡ true → less b bound ≡ true → less a bound ≡ true) → (n : ℕ) → choice less key free bound n .packet ≡ best better suits n
+  choice-packet trans n = rw (choice-best trans n) (elim (best better suits n) as (λ b. at-best b .packet ≡ b) [ zero ↦ refl | suc q ↦ refl ])
 
   -- one turn of the walk
   pub choice-more : (n x : ℕ) (f : Bool) (c d : Choice) → c ≡ choice less key free bound n → f ≡ free n → x ≡ key n → d ≡ chosenBy (f && less x (c .entries)) n x c → d ≡ choice less key free bound (n + 1)
@@ -103,43 +101,22 @@ module _ (m : Image) (x : ℕ) where
   unfolding lacksSpace some
   present n ne e = rw (ne-eqb x 0 ne, e) (sym (or-false (leb 30 (count m (x - 1)))))
 
--- ---- the choices of the pool
-
-packet-best : (less : ℕ → ℕ → Bool) (key : ℕ → ℕ) (free : ℕ → Bool) (bound b : ℕ) → (at-best less key free bound b) .packet ≡ b
-packet-best less key free bound zero = refl
-packet-best less key free bound (suc q) = refl
-
 -- ---- the packets that tracers hold
-
-zero-bit : (j : ℕ) → testBit 0 j ≡ false
-unfolding testBit
-zero-bit j = rw (zero-div (2 ^ j))
 
 held-with : (s x p : ℕ) → testBit (heldWith s x) p ≡ (testBit s p || eqb x (suc p))
 unfolding heldWith
 held-with s zero p = rw (ne-eqb 0 (suc p) (λ e. omega arith)) (sym (or-false (testBit s p)))
-held-with s (suc q) p = go (ℕ-discrete p q)
-  where
-    go : Dec (p ≡ q) → testBit (withBit s q) p ≡ (testBit s p || eqb (suc q) (suc p))
-    go (yes e) = rw (e, withBit-same s q, eq-eqb (suc q) (suc q) refl) (sym (or-true (testBit s q)))
-    go (no ne) = rw (withBit-other s p q ne, ne-eqb (suc q) (suc p) (λ e. ne (omega arith))) (sym (or-false (testBit s p)))
+held-with s (suc q) p = elim (ℕ-discrete p q) [
+  | yes e ↦ rw (e, withBit-same s q, eq-eqb (suc q) (suc q) refl) (sym (or-true (testBit s q)))
+  | no ne ↦ rw (withBit-other s p q ne, ne-eqb (suc q) (suc p) (λ e. ne (omega arith))) (sym (or-false (testBit s p)))
+]
 
-or-some : (a x y : Bool) → ((a || x) || y) ≡ (a || some (x ∷ y ∷ []))
-unfolding some
-or-some true x y = refl
-or-some false true y = refl
-or-some false false y = sym (or-false y)
-
--- tracer t holds packet p
-abbrev holder : Image → ℕ → ℕ → Bool
-holder m p t = some (eqb (input m t) (suc p) ∷ eqb (output m t) (suc p) ∷ [])
-
-held-set : (m : Image) (n p : ℕ) → testBit (heldSet m n) p ≡ any n (holder m p)
-unfolding heldSet any
-held-set m zero p = zero-bit p
+-- one of the first n tracers holds packet p
+held-set : (m : Image) (n p : ℕ) → testBit (heldSet m n) p ≡ any n (λ t. some (eqb (input m t) (suc p) ∷ eqb (output m t) (suc p) ∷ []))
+unfolding heldSet any some
+held-set m zero p = zero-bit 0 p refl
 held-set m (suc n) p =
-    held-with (heldWith (heldSet m n) (input m n)) (output m n) p
-    ∙ rw (held-with (heldSet m n) (input m n) p, held-set m n p) (or-some (any n (holder m p)) (eqb (input m n) (suc p)) (eqb (output m n) (suc p)))
+    rw (held-with (heldWith (heldSet m n) (input m n)) (output m n) p, held-with (heldSet m n) (input m n) p, held-set m n p) (simp (or-assoc, or-false))
 
 module _ (m : Image) (t : ℕ) where
   pub held-more : (s a b u r : ℕ) → s ≡ heldSet m t → a ≡ nth (m .tracers) (8 * t) → b ≡ nth (m .tracers) (8 * t + 1) → u ≡ heldWith s a → r ≡ heldWith u b → r ≡ heldSet m (t + 1)
@@ -173,10 +150,10 @@ pub emptiest-choice : (m : Image) (n : ℕ) (c : Choice) → c ≡ choice ltb (c
 unfolding emptiest
 emptiest-choice m n c e l h =
     let q : n ≡ 32 = omega arith in
-    rw (e, q, choice-best ltb (count m) (unheld m) 30 (λ a b x y. lt-ltb a 30 (omega (arith, ltb-true a b x, ltb-true b 30 y))) 32) (packet-best ltb (count m) (unheld m) 30 _)
+    rw (e, q) (choice-packet ltb (count m) (unheld m) 30 (λ a b x y. lt-ltb a 30 (omega (arith, ltb-true a b x, ltb-true b 30 y))) 32)
 
 pub fullest-choice : (m : Image) (n : ℕ) (c : Choice) → c ≡ choice greater (count m) (unheld m) 0 n → 32 ≤ n → n ≤ 32 → c .packet ≡ fullest m
 unfolding fullest
 fullest-choice m n c e l h =
     let q : n ≡ 32 = omega arith in
-    rw (e, q, choice-best greater (count m) (unheld m) 0 (λ a b x y. lt-ltb 0 a (omega (arith, ltb-true b a x, ltb-true 0 b y))) 32) (packet-best greater (count m) (unheld m) 0 _)
+    rw (e, q) (choice-packet greater (count m) (unheld m) 0 (λ a b x y. lt-ltb 0 a (omega (arith, ltb-true b a x, ltb-true 0 b y))) 32)

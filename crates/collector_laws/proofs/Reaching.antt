@@ -81,21 +81,13 @@ module _ (m : Image) (t g x : ℕ) (f : x ≡ nth (m .tracers) (8 * t + 1)) wher
 
 -- ---- reach
 
-taken-count : (m : Image) (t p : ℕ) → count m p < 30 → count (takeOutput m t) p < 30
-unfolding takeOutput setTracer withTracers count
-taken-count m t p h = h
-
 pub start-in : (w k : ℕ) (ws : List ℕ) (g : ℕ) → NilOr (Start (imageOf w k ws)) g → (g ≡ 0 → ⊥) → g < 64 * k
 unfolding imageOf image
 start-in w k ws g (inl e) z = absurd (z e)
 start-in w k ws g (inr s) z = s .0
 
 pub marked-lines : (m n : Image) (g : ℕ) → n ≡ setMark m g → Lines m → NilOr (Start m) g → (g ≡ 0 → ⊥) → Lines n
-marked-lines m n g f o s z = rw f (mark-lines o g (is-start s))
-  where
-    is-start : NilOr (Start m) g → Start m g
-    is-start (inl e) = absurd (z e)
-    is-start (inr s) = s
+marked-lines m n g f o s z = rw f (mark-lines o g (elim s [ inl e ↦ absurd (z e) | inr q ↦ q ]))
 
 module _ (m : Image) (t g : ℕ) where
   pub reach-nil : g ≡ 0 → m ≡ reach m t g
@@ -117,4 +109,5 @@ module _ (m : Image) (t g : ℕ) where
         taken-lines = rw i (take-lines (marked-lines m n₁ g f o s z) t h)
 
         pub taken-spare : Spare n₂ t
-        taken-spare = rw i (record { space = λ p e. let r = took (marked-lines m n₁ g f o s z) t p h e in (r .0, taken-count n₁ t p (r .1)) })
+        unfolding takeOutput setTracer withTracers count
+        taken-spare = rw i (record { space = λ p e. took (marked-lines m n₁ g f o s z) t p h e })

@@ -13,7 +13,6 @@ use Rattle.theory.specs.Lines.{NilOr, Start, Lines}
 use Rattle.theory.proofs.heap.Facts.{reg-value}
 use Rattle.theory.proofs.steps.Reaching.{ReachedOnce, reach-does}
 use Rattle.collector_laws.specs.Outcome.{doneUnless}
-use Rattle.model.specs.Examples.{at}
 use Rattle.request_laws.specs.Answer.{done}
 use lib.Dec.{eqb}
 use borrow.Author.Tests.{eq-eqb, ne-eqb}
@@ -37,21 +36,19 @@ module _ (m : Image) (t p r : ℕ) (n : Image) (o : Scanning m t p r n) where
     scan-reg = rw e (reg-value (o .lines) p r)
 
     module _ (ht : t < 8) (hp : p < 16) (hr : r < 16) (n′ : Image) (f : n′ ≡ reach n t g) where
-      reached : ReachedOnce n g (reach n t g)
-      reached = reach-does n (o .lines) t g ht scan-reg
-
-      next : reachAll n t (take (16 - r) (drop (16 * p + r) (m .regs))) ≡ reachAll n′ t (take (16 - (r + 1)) (drop (16 * p + (r + 1)) (m .regs)))
+      pub scan-more : Scanning m t p (r + 1) n′
       unfolding reachAll reg nth
-      next =
+      scan-more =
           let a : 16 - r ≡ suc (16 - (r + 1)) = omega arith in
           let b : suc (16 * p + r) ≡ 16 * p + (r + 1) = omega arith in
           let l : length (m .regs) ≡ 256 = ap length (sym (o .regs-same)) ∙ o .lines .regs-ok .sized in
-          let h : 16 * p + r < length (m .regs) = omega arith in
           let v : g ≡ getD (m .regs) (16 * p + r) 0 = e ∙ ap (λ (x : List ℕ). getD x (16 * p + r) 0) (o .regs-same) in
-          rw (a, drop-cons (m .regs) (16 * p + r) 0 h, b, ← v, f)
-
-      pub scan-more : Scanning m t p (r + 1) n′
-      scan-more = record { rest = sym next ∙ o .rest; lines = rw f (reached .lines); regs-same = ap (λ (x : Image). x .regs) f ∙ (reached .regs-same ∙ o .regs-same) }
+          let d : ReachedOnce n g (reach n t g) = reach-does n (o .lines) t g ht scan-reg in
+          rw f (record {
+            rest = rw (a, drop-cons (m .regs) (16 * p + r) 0 (omega arith), b, ← v) at (o .rest);
+            lines = d .lines;
+            regs-same = d .regs-same ∙ o .regs-same;
+          })
 
 -- ---- the scan
 

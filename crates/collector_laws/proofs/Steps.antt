@@ -11,23 +11,18 @@ use Rattle.request_laws.specs.Passed.{Passed}
 use Rattle.request_laws.proofs.Numbers.{number-10, number-11, number-0}
 use Prim.Native.Nat.{ℕ, _<_}
 use mathlib.Core.Path.{_≡_, refl, sym, _∙_}
-use mathlib.Core.Bool.{Bool, true, false}
+use mathlib.Core.Logic.{inl, inr}
+use mathlib.Core.Bool.{false}
+use Rattle.model.proofs.Laws.{bool-cases}
 use lib.Dec.{eqb}
 use borrow.Author.Tests.{lt-leb, eq-eqb, ne-eqb}
 use Rattle.model.specs.Steps as steps
 
 -- where numbers 3 to 9 do not apply, and nothing stays to be asked but the phase
 module _ {m : Image} {s : Step} {n : Kind} (q : Passed m s n) (o : noObject m s n ≡ false) (l : pastEnd m s n ≡ false) (z : badSize s n ≡ false) (r : noRoom m s n ≡ false) where
-  out-of-phase : wrongPhase m s n ≡ true → done 10 0 m ≡ step m s
-  out-of-phase = number-10 q o l z r
-
   in-phase : wrongPhase m s n ≡ false → (m′ : Image) → act m s n ≡ done 0 0 m′ → doneUnless (nothingToDo m s n) m m′ ≡ step m s
   unfolding doneUnless
-  in-phase h m′ f = go (nothingToDo m s n) refl
-    where
-      go : (b : Bool) → nothingToDo m s n ≡ b → doneUnless b m m′ ≡ step m s
-      go true e = number-11 q o l z r h e
-      go false e = sym f ∙ number-0 q o l z r h e
+  in-phase h m′ f = elim (bool-cases (nothingToDo m s n)) [ inl e ↦ rw e (number-11 q o l z r h e) | inr e ↦ rw e (sym f ∙ number-0 q o l z r h e) ]
 
 -- ---- the fields are in range
 
@@ -54,7 +49,7 @@ module _ (m : Image) where
 module _ (m : Image) (x : ℕ) (f : x ≡ running m) where
   pub begin-refused : x ≡ 1 → done 10 0 m ≡ step m (asked 9 0 0 0 0)
   unfolding rows-open steps-open
-  begin-refused e = out-of-phase (begin-passed m) refl refl refl refl (eq-eqb (running m) 1 (sym f ∙ e))
+  begin-refused e = number-10 (begin-passed m) refl refl refl refl (eq-eqb (running m) 1 (sym f ∙ e))
 
   pub begin-goes : (x ≡ 1 → ⊥) → (m₁ m₂ : Image) → m₁ ≡ withCards m (zeros (m .cards)) → m₂ ≡ withGeneral m₁ (put (m₁ .general) 0 1) → done 0 0 m₂ ≡ step m (asked 9 0 0 0 0)
   unfolding rows-open steps-open doneUnless beginCycle withCards
@@ -64,7 +59,7 @@ module _ (m : Image) (x : ℕ) (f : x ≡ running m) where
     module _ (p : ℕ) (l : p < 16) where
       pub scan-refused : x ≡ 0 → done 10 0 m ≡ step m (asked 10 t p 0 0)
       unfolding rows-open steps-open
-      scan-refused e = out-of-phase (scan-passed m t h p l) refl refl refl refl (eq-eqb (running m) 0 (sym f ∙ e))
+      scan-refused e = number-10 (scan-passed m t h p l) refl refl refl refl (eq-eqb (running m) 0 (sym f ∙ e))
 
       pub scan-goes : (x ≡ 0 → ⊥) → (d : steps.Done) → d ≡ doneUnless (eqb (scanned m p) 1) m (scanPlayer m t p) → d ≡ step m (asked 10 t p 0 0)
       unfolding asked rows-open steps-open
@@ -72,7 +67,7 @@ module _ (m : Image) (x : ℕ) (f : x ≡ running m) where
 
     pub trace-refused : x ≡ 0 → done 10 0 m ≡ step m (asked 11 t 0 0 0)
     unfolding rows-open steps-open
-    trace-refused e = out-of-phase (trace-passed m t h) refl refl refl refl (eq-eqb (running m) 0 (sym f ∙ e))
+    trace-refused e = number-10 (trace-passed m t h) refl refl refl refl (eq-eqb (running m) 0 (sym f ∙ e))
 
     pub trace-goes : (x ≡ 0 → ⊥) → (d : steps.Done) → d ≡ doneUnless (eqb (traceLine m t) 0) m (traceStep m t) → d ≡ step m (asked 11 t 0 0 0)
     unfolding asked rows-open steps-open
@@ -80,7 +75,7 @@ module _ (m : Image) (x : ℕ) (f : x ≡ running m) where
 
     pub clean-refused : x ≡ 0 → done 10 0 m ≡ step m (asked 12 t 0 0 0)
     unfolding rows-open steps-open
-    clean-refused e = out-of-phase (clean-passed m t h) refl refl refl refl (eq-eqb (running m) 0 (sym f ∙ e))
+    clean-refused e = number-10 (clean-passed m t h) refl refl refl refl (eq-eqb (running m) 0 (sym f ∙ e))
 
     pub clean-goes : (x ≡ 0 → ⊥) → (d : steps.Done) → d ≡ doneUnless (eqb (cleanLine m t) 0) m (cleanStep m t) → d ≡ step m (asked 12 t 0 0 0)
     unfolding asked rows-open steps-open

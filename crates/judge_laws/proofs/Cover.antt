@@ -1,8 +1,8 @@
 -- Cover, in the order in which the code asks.
-use mathlib.Core.Path.{_≡_, refl, sym, ap, _∙_}
-use mathlib.Core.Bool.{Bool, true, false, _&&_, _||_, and-true, and-assoc, or-false}
+use mathlib.Core.Path.{_≡_, sym, ap, _∙_}
+use mathlib.Core.Bool.{Bool, true, false, _&&_, _||_, and-true, and-assoc, or-false, or-assoc}
 use mathlib.Core.List.{List, [], _∷_}
-use Prim.Native.Nat.{ℕ, suc, _+_, _*_, _/_, _≤_, _<_, _^_, min}
+use Prim.Native.Nat.{ℕ, zero, suc, _+_, _*_, _/_, _≤_, _<_, _^_, min}
 use native.Mathlib.Numerals.{add-one}
 use native.Mathlib.Decide.{ℕ-discrete, decLt}
 use native.Mathlib.Omega.{arith}
@@ -13,7 +13,7 @@ use borrow.Author.Tests.{eq-eqb, ne-eqb, lt-ltb, le-ltb}
 use Rattle.model.specs.Base.{nth, all, any, every, some, implies, testBit, bit}
 use Rattle.model.specs.Image.{image, imageOf, word, marked, link, dirty, hand, nextLink, handCard, nextGranule, owed, Image, mostCards, links}
 use Rattle.model.specs.Undamaged.{linkToCome, granuleToCome, owedWith, covered, cover}
-use Rattle.model.proofs.Laws.{false≢, all-use, all-make, imp-make, some-make}
+use Rattle.model.proofs.Laws.{false≢, bool-cases, all-use, all-make, imp-make, some-make, some-use, some-nil, some-false}
 use Rattle.judge_laws.specs.Order.{handComes, cardComes, holds, owesHolding, nilOrMarked, plain, coming, late, objectCovered, Coverable}
 use Rattle.image_laws.specs.Bits.{withoutBit}
 use Rattle.image_laws.specs.Sized.{Sized}
@@ -29,42 +29,27 @@ use Rattle.soundness_laws.proofs.Marks.{by-words}
 use mathlib.Core.Logic.{_⊎_, inl, inr}
 use Rattle.image_laws.proofs.Lengths.{sized-width}
 
--- ---- seven lines in another order
-
-plain-some : (a b d e h c o : Bool) → some (a ∷ b ∷ []) ≡ true → some (a ∷ b ∷ d ∷ e ∷ h ∷ c ∷ o ∷ []) ≡ true
-unfolding some
-plain-some true b d e h c o q = refl
-plain-some false true d e h c o q = refl
-plain-some false false d e h c o q = false≢ q
-
-coming-some : (a b d e h c o : Bool) → some (d ∷ e ∷ c ∷ []) ≡ true → some (a ∷ b ∷ d ∷ e ∷ h ∷ c ∷ o ∷ []) ≡ true
-unfolding some
-coming-some true b d e h c o q = refl
-coming-some false true d e h c o q = refl
-coming-some false false true e h c o q = refl
-coming-some false false false true h c o q = refl
-coming-some false false false false true c o q = refl
-coming-some false false false false false true o q = refl
-coming-some false false false false false false o q = false≢ q
-
+-- seven lines in another order
 late-some : (a b d e h c o : Bool) → some (d ∷ e ∷ c ∷ []) ≡ false → some (some (a ∷ b ∷ []) ∷ h ∷ o ∷ []) ≡ some (a ∷ b ∷ d ∷ e ∷ h ∷ c ∷ o ∷ [])
 unfolding some
-late-some true b d e h c o q = refl
-late-some false true d e h c o q = refl
-late-some false false true e h c o q = false≢ (sym q)
-late-some false false false true h c o q = false≢ (sym q)
-late-some false false false false h true o q = false≢ (sym q)
-late-some false false false false h false o q = refl
+late-some a b d e h c o q =
+    rw (some-false (d ∷ e ∷ c ∷ []) q 0, some-false (d ∷ e ∷ c ∷ []) q 1, some-false (d ∷ e ∷ c ∷ []) q 2) (simp (or-assoc, or-false))
 
 -- ---- objects that are covered, marked or not
 
 pub object-plain : (m : Image) (g : ℕ) → all (links m g) (plain m g) ≡ true → objectCovered m g ≡ true
 unfolding objectCovered covered plain nilOrMarked
-object-plain m g e = imp-make (marked m g) _ (λ _. all-make (links m g) _ (λ i q. plain-some _ _ _ _ _ _ _ (all-use (links m g) _ e i q)))
+object-plain m g e =
+    imp-make (marked m g) _ (λ _. all-make (links m g) _ (λ i q.
+    elim (some-use _ _ (all-use (links m g) _ e i q)) [ inl u ↦ some-make _ 0 u | inr u ↦ elim (some-use _ _ u) [ inl v ↦ some-make _ 1 v | inr v ↦ some-nil v ] ]))
 
 object-coming : (m : Image) (g : ℕ) → coming m g ≡ true → objectCovered m g ≡ true
 unfolding objectCovered covered coming
-object-coming m g e = imp-make (marked m g) _ (λ _. all-make (links m g) _ (λ i q. coming-some _ _ _ _ _ _ _ e))
+object-coming m g e =
+    imp-make (marked m g) _ (λ _. all-make (links m g) _ (λ i q. elim (some-use _ _ e) [
+      | inl u ↦ some-make _ 2 u
+      | inr u ↦ elim (some-use _ _ u) [ inl v ↦ some-make _ 3 v | inr v ↦ elim (some-use _ _ v) [ inl x ↦ some-make _ 5 x | inr x ↦ some-nil x ] ]
+    ]))
 
 -- ---- the ways out of `object_covered`
 
@@ -88,11 +73,6 @@ module _ (m : Image) (g : ℕ) (mg : marked m g ≡ true) (n : ℕ) (en : n ≡ 
 unfoldable pub leftOk : ℕ → (ℕ → Bool) → ℕ → ℕ → ℕ → Bool
 leftOk w p i x j = implies (testBit x j) (atWord w p i j)
 
-twice : (a b : Bool) → implies a (implies a b) ≡ implies a b
-unfolding implies
-twice true b = refl
-twice false b = refl
-
 word-card : (w i j : ℕ) → (w ≡ 16) ⊎ (w ≡ 32) → j < w → (w * i + j) / 64 ≡ i / (64 / w)
 word-card w i j o = by-width (λ w. j < w → (w * i + j) / 64 ≡ i / (64 / w)) (λ h. omega arith) (λ h. omega arith) o
 
@@ -113,11 +93,11 @@ module _ (w k : ℕ) (l : List ℕ) (z : Sized w k l) (i x : ℕ) where
   word-dirty d e h = sym (all-make w _ (λ j q. object-coming (imageOf w k l) (w * i + j) (some-make _ 0 (rw (word-card w i j (sized-width z) q) (sym e ∙ h)))))
 
   pub taken-none : x < 2 ^ w → x ≡ nth (imageOf w k l .marks) i → Taken w k l i true x
-  unfolding leftOk wordwise atWord objectCovered
+  unfolding leftOk wordwise atWord objectCovered implies
   taken-none h e = record {
     small = h;
     are-marked = λ j h q. sym (mark-is e j h) ∙ q;
-    so-far = all-cong w _ _ (λ j h. rw (mark-is e j h) (twice (marked (imageOf w k l) (w * i + j)) _));
+    so-far = all-cong w _ _ (λ j h. rw (mark-is e j h) (elim (bool-cases (marked (imageOf w k l) (w * i + j))) [ inl t ↦ rw t | inr t ↦ rw t ]));
   }
 
   module _ (ok : Bool) (s : Taken w k l i ok x) where
@@ -126,12 +106,8 @@ module _ (w k : ℕ) (l : List ℕ) (z : Sized w k l) (i x : ℕ) where
     taken-end e = sym (and-true ok) ∙ (rw (all-make w (leftOk w (objectCovered (imageOf w k l)) i x) (λ j h. rw (zero-bit x j e))) at (s .so-far))
 
     module _ (nz : x ≡ 0 → ⊥) where
-      few : (w ≡ 16) ⊎ (w ≡ 32) → w ≤ 64
-      few (inl e) = omega arith
-      few (inr e) = omega arith
-
       low : Lowest w x (trailingZeros 64 x)
-      low = word-lowest w x (few (sized-width z)) (s .small) nz
+      low = word-lowest w x (by-width (λ v. v ≤ 64) (omega arith) (omega arith) (sized-width z)) (s .small) nz
 
       pub taken-low : trailingZeros 64 x < w
       taken-low = low .within
@@ -143,13 +119,6 @@ module _ (w k : ℕ) (l : List ℕ) (z : Sized w k l) (i x : ℕ) where
       pub taken-less : withoutBit x (trailingZeros 64 x) < x
       taken-less = withoutBit-less x _ (low .is-set)
 
-      still-marked : (j : ℕ) → j < w → testBit (withoutBit x (trailingZeros 64 x)) j ≡ true → marked (imageOf w k l) (w * i + j) ≡ true
-      still-marked j h q = go (ℕ-discrete j (trailingZeros 64 x))
-        where
-          go : Dec (j ≡ trailingZeros 64 x) → marked (imageOf w k l) (w * i + j) ≡ true
-          go (yes e) = false≢ (sym (withoutBit-same x (trailingZeros 64 x)) ∙ (rw e at q))
-          go (no e) = s .are-marked j h (sym (withoutBit-other x j (trailingZeros 64 x) e) ∙ q)
-
       taken-one : all w (leftOk w (objectCovered (imageOf w k l)) i x) ≡ (objectCovered (imageOf w k l) (w * i + trailingZeros 64 x) && all w (leftOk w (objectCovered (imageOf w k l)) i (withoutBit x (trailingZeros 64 x))))
       unfolding leftOk implies atWord
       taken-one =
@@ -159,7 +128,10 @@ module _ (w k : ℕ) (l : List ℕ) (z : Sized w k l) (i x : ℕ) where
       pub taken-more : (t : Bool) (x′ : ℕ) → t ≡ objectCovered (imageOf w k l) (w * i + trailingZeros 64 x) → x′ ≡ withoutBit x (trailingZeros 64 x) → Taken w k l i (ok && t) x′
       taken-more t x′ et ex = record {
         small = omega (arith, s .small, taken-less);
-        are-marked = λ j h q. still-marked j h (rw ex at q);
+        are-marked = λ j h q. elim (ℕ-discrete j (trailingZeros 64 x)) [
+          | yes e ↦ false≢ (sym (withoutBit-same x (trailingZeros 64 x)) ∙ rw (ex, e) at q)
+          | no e ↦ s .are-marked j h (sym (withoutBit-other x j (trailingZeros 64 x) e) ∙ rw ex at q)
+        ];
         so-far = rw (ex, et) (and-assoc ok _ _ ∙ (ap (λ b. ok && b) (sym taken-one) ∙ s .so-far));
       }
 
@@ -172,15 +144,13 @@ cover-end w k l r z e = by-words w k l (objectCovered (imageOf w k l)) r z e
 module _ (m : Image) where
   -- ---- one tracer, one player
 
-  module _ (g i t h n : ℕ) (eh : h ≡ nth (m .tracers) (8 * t + 2)) (en : n ≡ nth (m .tracers) (8 * t + 3)) where
-    pub hand-comes : (eqb h g && leb n i) ≡ handComes m g i t
-    unfolding handComes every hand nextLink
-    hand-comes = rw (← eh, ← en) (simp and-true)
+  pub hand-comes : (g i t h n : ℕ) → h ≡ nth (m .tracers) (8 * t + 2) → n ≡ nth (m .tracers) (8 * t + 3) → (eqb h g && leb n i) ≡ handComes m g i t
+  unfolding handComes every hand nextLink
+  hand-comes g i t h n eh en = rw (← eh, ← en) (simp and-true)
 
-  module _ (g t c n : ℕ) (ec : c ≡ nth (m .tracers) (8 * t + 4)) (en : n ≡ nth (m .tracers) (8 * t + 5)) where
-    pub card-comes : (eqb c (g / 64 + 1) && leb n g) ≡ cardComes m g t
-    unfolding cardComes every handCard nextGranule
-    card-comes = rw (← ec, ← en, add-one) (simp and-true)
+  pub card-comes : (g t c n : ℕ) → c ≡ nth (m .tracers) (8 * t + 4) → n ≡ nth (m .tracers) (8 * t + 5) → (eqb c (g / 64 + 1) && leb n g) ≡ cardComes m g t
+  unfolding cardComes every handCard nextGranule
+  card-comes g t c n ec en = rw (← ec, ← en, add-one) (simp and-true)
 
   module _ (g a p v : ℕ) (e : v ≡ owed m p) where
     pub owes-no : (v ≡ g / 64 + 1 → ⊥) → false ≡ owesHolding m g a p

@@ -2,13 +2,13 @@
 use mathlib.Core.Path.{_≡_, sym, _∙_}
 use mathlib.Core.Bool.{Bool, true, false, not, and-true}
 use mathlib.Core.List.{List, [], _∷_}
-use Prim.Native.Nat.{ℕ, suc, _*_, _<_}
+use Prim.Native.Nat.{ℕ, suc}
 use native.Mathlib.Decide.{ℕ-discrete}
 use native.Mathlib.Omega.{arith}
 use lib.ListN.{length}
 use borrow.Author.Tests.{eq-eqb, not-true, not-false}
 use Rattle.model.specs.Base.{every, implies, first}
-use Rattle.model.specs.Image.{imageOf, granules, marked, links, link, running}
+use Rattle.model.specs.Image.{imageOf, granules, link, running}
 use Rattle.model.specs.Undamaged.{idleOk, sound, cover, undamaged, judgeAt}
 use Rattle.model.proofs.Laws.{all-make, every-use, imp-use}
 use Rattle.image_laws.specs.Size.{extentOf}
@@ -26,48 +26,36 @@ use Rattle.theory.proofs.lines.Sizes.{fits-sizes}
 use Rattle.soundness_laws.proofs.Lines.{no-mark}
 use Rattle.soundness_laws.proofs.Packets.{all-packets, packed}
 
-module _ (w k : ℕ) (l : List ℕ) (z : Sized w k l) where
-  -- ---- what soundness gives
+-- ---- what soundness gives, and the ways out of `is_undamaged`
 
-  module _ (e : sound (imageOf w k l) ≡ true) where
-    o : Lines (imageOf w k l)
-    o = sound-use (imageOf w k l) (fits-sizes _ (image-fits z)) e .lines
+module _ (w k : ℕ) (l : List ℕ) (z : Sized w k l) (s : Bool) (e : s ≡ sound (imageOf w k l)) where
+  pub un-sound : not s ≡ true → false ≡ undamaged (imageOf w k l)
+  unfolding undamaged every
+  un-sound h = rw (← e, not-true s h)
 
-    d : Laid (imageOf w k l)
-    d = laid-of o
+  pub ready-of : not s ≡ false → Coverable k (imageOf w k l)
+  unfolding sound
+  ready-of h =
+      let t : sound (imageOf w k l) ≡ true = sym e ∙ not-false s h in
+      let o : Lines (imageOf w k l) = sound-use (imageOf w k l) (fits-sizes _ (image-fits z)) t .lines in
+      let d : Laid (imageOf w k l) = laid-of o in
+      record {
+        inside = λ g h q. omega (arith, d .inside g (d .marks-start g q), granules-image w k l);
+        to-starts = λ g q i. proper-of o .link-start g i (d .marks-start g q);
+        two-links = λ g q r. omega (arith, d .inside g (d .marks-start g q), d .apart g (suc g) (d .marks-start g q) (d .marks-start (suc g) r) (omega arith));
+        packed = packed w k l z (sym (all-packets w k l z) ∙ every-use _ t 8);
+      }
 
-    ready : Coverable k (imageOf w k l)
-    unfolding sound
-    ready = record {
-      inside = λ g h q. omega (arith, d .inside g (d .marks-start g q), granules-image w k l);
-      to-starts = λ g q i. proper-of o .link-start g i (d .marks-start g q);
-      two-links = λ g q r. omega (arith, d .inside g (d .marks-start g q), d .apart g (suc g) (d .marks-start g q) (d .marks-start (suc g) r) (omega arith));
-      packed = packed w k l z (sym (all-packets w k l z) ∙ every-use _ e 8);
-    }
+  pub un-cover : (r : Bool) → not s ≡ false → r ≡ cover (imageOf w k l) → r ≡ undamaged (imageOf w k l)
+  unfolding undamaged every
+  un-cover r h q = rw (← e, not-false s h, ← q) (sym (and-true r))
 
-  -- ---- the ways out of `is_undamaged`
-
-  module _ (s : Bool) (e : s ≡ sound (imageOf w k l)) where
-    pub un-sound : not s ≡ true → false ≡ undamaged (imageOf w k l)
-    unfolding undamaged every
-    un-sound h = rw (← e, not-true s h)
-
-    pub ready-of : not s ≡ false → Coverable k (imageOf w k l)
-    ready-of h = ready (sym e ∙ not-false s h)
-
-    pub un-cover : (r : Bool) → not s ≡ false → r ≡ cover (imageOf w k l) → r ≡ undamaged (imageOf w k l)
-    unfolding undamaged every
-    un-cover r h q = rw (← e, not-false s h, ← q) (sym (and-true r))
-
-    -- with no cycle nothing is marked
-    still : (v : ℕ) → v ≡ running (imageOf w k l) → v ≡ 0 → sound (imageOf w k l) ≡ true → cover (imageOf w k l) ≡ true
-    unfolding sound idleOk cover implies
-    still v ev h q =
-        let i = imp-use _ _ (every-use _ q 12) (eq-eqb _ 0 (sym ev ∙ h)) in
-        all-make (granules (imageOf w k l)) _ (λ g b. rw (no-mark w k l (every-use _ i 0) g))
-
-    pub un-still : (v : ℕ) → not s ≡ false → v ≡ running (imageOf w k l) → v ≡ 0 → true ≡ undamaged (imageOf w k l)
-    un-still v h ev y = un-cover true h (sym (still v ev y (sym e ∙ not-false s h)))
+  -- with no cycle nothing is marked
+  pub un-still : (v : ℕ) → not s ≡ false → v ≡ running (imageOf w k l) → v ≡ 0 → true ≡ undamaged (imageOf w k l)
+  unfolding sound idleOk cover implies
+  un-still v h ev y =
+      let i = imp-use _ _ (every-use _ (sym e ∙ not-false s h) 12) (eq-eqb _ 0 (sym ev ∙ y)) in
+      un-cover true h (sym (all-make (granules (imageOf w k l)) _ (λ g b. rw (no-mark w k l (every-use _ i 0) g))))
 
 -- ---- the ways out of `judge`
 

@@ -1,7 +1,7 @@
 -- Loops that test every number below n, as `all n p` or `any n p`; laws of these tests.
 use mathlib.Core.Path.{_≡_, refl, sym, _∙_}
 use mathlib.Core.Logic.{inl, inr}
-use mathlib.Core.Bool.{Bool, true, false, _&&_, _||_, and-true, and-assoc}
+use mathlib.Core.Bool.{Bool, true, false, _&&_, _||_, and-true, and-assoc, and-comm}
 use Prim.Native.Nat.{ℕ, zero, suc, _+_, _≤_, _<_, min, _-_}
 use native.Mathlib.Numerals.{add-one}
 use native.Mathlib.Nat.{add-zero, add-suc}
@@ -9,11 +9,13 @@ use native.Mathlib.Decide.{ℕ-discrete, decLt}
 use native.Mathlib.Omega.{arith}
 use lib.Dec.{ltb}
 use borrow.Author.Tests.{le-ltb, lt-ltb}
-use Rattle.model.specs.Base.{all, any, every}
+use lib.ListN.{take, drop}
+use Rattle.model.specs.Base.{nth, all, any, every}
+use Rattle.model.proofs.Entries.{nth-drop, nth-take}
 use Rattle.image_laws.proofs.Parts.{all-cong}
 use Rattle.model.proofs.Laws.{false≢, bool-cases, all-use}
 use Rattle.soundness_laws.specs.Tests.{onward}
-use mathlib.Core.List.{[], _∷_}
+use mathlib.Core.List.{List, [], _∷_}
 
 -- ---- `ok` says whether all below i pass
 
@@ -28,14 +30,11 @@ checked-none {n} = record { within = omega arith; so-far = refl }
 -- the first two at once
 pub first-two : (p : ℕ → Bool) (n : ℕ) (a b : Bool) → a ≡ p 0 → b ≡ p 1 → ((ltb n 1 || a) && (ltb n 2 || b)) ≡ all (min 2 n) p
 unfolding all
-first-two p n a b ea eb = rw (ea, eb) (go (decLt n 1) (decLt n 2))
-  where
-    go : Dec (n < 1) → Dec (n < 2) → ((ltb n 1 || p 0) && (ltb n 2 || p 1)) ≡ all (min 2 n) p
-    go (yes h) d = let e : n ≡ 0 = omega arith in rw e
-    go (no h) (yes d) = let e : n ≡ 1 = omega arith in rw e (and-true (p 0))
-    go (no h) (no d) =
-        let e : min 2 n ≡ 2 = omega arith in
-        rw (e, le-ltb n 1 (omega arith), le-ltb n 2 (omega arith))
+first-two p zero a b ea eb = refl
+first-two p (suc zero) a b ea eb = rw ea (and-true (p 0))
+first-two p (suc (suc n)) a b ea eb =
+    let e : min 2 (suc (suc n)) ≡ 2 = omega arith in
+    rw (e, ea, eb, le-ltb (suc (suc n)) 1 (omega arith), le-ltb (suc (suc n)) 2 (omega arith))
 
 pub after-two : (n : ℕ) (p : ℕ → Bool) (ok : Bool) (i : ℕ) → i ≡ min 2 n → ok ≡ all (min 2 n) p → Checked n p ok i
 after-two n p ok i h e = record { within = omega arith; so-far = rw (← h) at e }
@@ -95,6 +94,10 @@ sought-end n p found i s h = let e : i ≡ n = omega (arith, s .within) in rw e 
 
 -- ---- more tests
 
+-- word i of n that stand from a on
+pub nth-part : (n a : ℕ) (l : List ℕ) (i : ℕ) → i < n → nth (take n (drop a l)) i ≡ nth l (a + i)
+nth-part n a l i h = nth-take n (drop a l) i h ∙ nth-drop a l i
+
 pub all-append : (a b : ℕ) (p : ℕ → Bool) → all (a + b) p ≡ (all a p && all b (λ i. p (a + i)))
 unfolding all
 all-append a zero p = rw add-zero (sym (and-true (all a p)))
@@ -104,31 +107,19 @@ all-append a (suc b) p = rw (add-suc, all-append a b p) (and-assoc (all a p) _ _
 pub all-pick : (n : ℕ) (a b : ℕ → Bool) (j : ℕ) → j < n → ((i : ℕ) → (i ≡ j → ⊥) → a i ≡ b i) → b j ≡ true → all n a ≡ (a j && all n b)
 unfolding all
 all-pick zero a b j h f e = absurd (omega arith)
-all-pick (suc n) a b j h f e = go (ℕ-discrete n j) (λ l. all-pick n a b j l f e)
-  where
-    last : (x y : Bool) → (x && y) ≡ (y && (x && true))
-    last true true = refl
-    last true false = refl
-    last false true = refl
-    last false false = refl
-
-    go : Dec (n ≡ j) → (j < n → all n a ≡ (a j && all n b)) → (all n a && a n) ≡ (a j && (all n b && b n))
-    go (yes q) ih = rw (q, e, all-cong j a b (λ i l. f i (λ (z : i ≡ j). omega arith))) (last (all j b) (a j))
-    go (no q) ih = rw (ih (omega arith), f n q) (and-assoc (a j) (all n b) (b n))
+all-pick (suc n) a b j h f e = elim (ℕ-discrete n j) [
+  | yes q ↦ rw (q, e, all-cong j a b (λ i l. f i (λ (z : i ≡ j). omega arith)), and-true) (and-comm (all j b) (a j))
+  | no q ↦ rw (all-pick n a b j (omega arith) f e, f n q) (and-assoc (a j) (all n b) (b n))
+]
 
 -- below the end is no further condition, where none behind it passes
 pub test-inside : (p : ℕ → Bool) (n a : ℕ) → (n ≤ a → p a ≡ false) → every (ltb a n ∷ p a ∷ []) ≡ p a
 unfolding every
-test-inside p n a past = go (decLt a n)
-  where
-    go : Dec (a < n) → (ltb a n && (p a && true)) ≡ p a
-    go (yes h) = rw (lt-ltb a n h) (and-true (p a))
-    go (no h) = rw (le-ltb a n (omega arith), past (omega arith))
+test-inside p n a past = elim (decLt a n) [ yes h ↦ rw (lt-ltb a n h) (and-true (p a)) | no h ↦ rw (le-ltb a n (omega arith), past (omega arith)) ]
 
 -- the same where the test is made of a granule below the end
 pub clamped : (p : ℕ → Bool) (n a b : ℕ) (t : Bool) → (n ≤ a → p a ≡ false) → b ≡ min a (n - 1) → t ≡ p b → (ltb a n && t) ≡ p a
-clamped p n a b t past eb et = go (decLt a n)
-  where
-    go : Dec (a < n) → (ltb a n && t) ≡ p a
-    go (yes h) = let e : b ≡ a = omega arith in rw (lt-ltb a n h, et, e)
-    go (no h) = rw (le-ltb a n (omega arith), past (omega arith))
+clamped p n a b t past eb et = elim (decLt a n) [
+  | yes h ↦ let e : b ≡ a = omega arith in rw (lt-ltb a n h, et, e)
+  | no h ↦ rw (le-ltb a n (omega arith), past (omega arith))
+]

@@ -1,21 +1,22 @@
 -- The walk as a loop: pieces fill the heap, and the links of every object are nil or starts. Every start is an object.
 use mathlib.Core.Path.{_≡_, refl, sym, ap, _∙_}
 use mathlib.Core.Bool.{Bool, true, false, not, cond, _&&_, and-true, and-false, and-assoc}
-use mathlib.Core.List.{List, [], _∷_}
+use mathlib.Core.Logic.{inl, inr}
+use mathlib.Core.List.{List, _∷_}
 use Prim.Native.Nat.{ℕ, suc, _+_, _*_, _-_, _≤_, _<_}
 use native.Mathlib.Nat.{add-zero, zero-add}
 use native.Mathlib.Omega.{arith}
-use lib.Dec.{eqb, leb}
-use lib.ListN.{length, drop, drop-of-length-le, take}
+use lib.Dec.{eqb}
+use lib.ListN.{drop, drop-of-length-le, take}
 use lib.Seq.{drop-drop}
-use borrow.Author.Tests.{leb-true, not-true, not-false}
+use borrow.Author.Tests.{not-true, not-false}
 use Rattle.model.specs.Base.{nth, all, implies, every, zeroes}
 use Rattle.model.specs.Image.{image, imageOf, granules, word, isStart, links, firstRun, mostCards}
-use Rattle.model.specs.Undamaged.{piece, fill, filled, linksOk, zeroGranule}
-use Rattle.model.proofs.Laws.{false≢, and-split, all-use, all-make, every-use}
+use Rattle.model.specs.Undamaged.{bare, piece, fill, filled, linksOk, zeroGranule}
+use Rattle.model.proofs.Laws.{false≢, bool-cases, and-split, all-use, all-make, every-use}
 use Rattle.soundness_laws.specs.Tests.{startsIn, linkOk, objectOk, pieceOk, nextRun, LinksInside}
 use Rattle.soundness_laws.proofs.Checks.{all-append}
-use Rattle.soundness_laws.proofs.Pieces.{head-use, piece-split, tail-at, tail-long, head-is, bare-is, object-is}
+use Rattle.soundness_laws.proofs.Pieces.{head-use, piece-split, piece-size, tail-at, tail-long, head-is, object-is}
 use Rattle.soundness_laws.proofs.Starts.{notStart, clear, count-le, seen-more, seen-few}
 use Rattle.image_laws.specs.Sized.{Sized}
 use Rattle.image_laws.proofs.Parts.{all-first, zero-stretch}
@@ -24,14 +25,10 @@ use Rattle.image_laws.specs.Digits.{digit, startBit}
 
 -- ---- one turn of the model's walk
 
-fill-end : (st : ℕ → Bool) (n g next : ℕ) (run : Bool) → fill st (suc n) g [] next run ≡ eqb next 0
+fill-more : (st : ℕ → Bool) (n g s : ℕ) (ws : List ℕ) (next : ℕ) (run : Bool)
+    → fill st (suc n) g (s ∷ ws) next run ≡ (piece st g s ws next run (st g) && fill st n (g + s) (drop (4 * s) (s ∷ ws)) (cond (st g) next (nth ws 0)) (not (st g)))
 unfolding fill
-fill-end st n g next run = refl
-
-fill-more : (st : ℕ → Bool) (n g s : ℕ) (ws : List ℕ) (next : ℕ) (run t : Bool) → t ≡ piece st g s ws next run (st g)
-    → fill st (suc n) g (s ∷ ws) next run ≡ elim t [ false ↦ false | true ↦ fill st n (g + s) (drop (4 * s) (s ∷ ws)) (cond (st g) next (nth ws 0)) (not (st g)) ]
-unfolding fill
-fill-more st n g s ws next run t e = rw (← e, fill)
+fill-more st n g s ws next run = elim (bool-cases (piece st g s ws next run (st g))) [ inl e ↦ rw (e, fill) | inr e ↦ rw (e, fill) ]
 
 module _ (w k : ℕ) (l : List ℕ) where
   abbrev fillFrom : ℕ → ℕ → ℕ → Bool → Bool
@@ -50,83 +47,6 @@ module _ (w k : ℕ) (l : List ℕ) where
   heapLines = filled (imageOf w k l) && all (granules (imageOf w k l)) (linksOk (imageOf w k l))
 
   module _ (z : Sized w k l) where
-    past-end : (n g next : ℕ) (run : Bool) → 64 * k ≤ g → fillFrom (suc n) g next run ≡ eqb next 0
-    past-end n g next run h = rw (drop-of-length-le (imageOf w k l .heap) {i = 4 * g} (omega (arith, heap-words z))) (fill-end (isStart (imageOf w k l)) n g next run)
-
-    module _ (g next : ℕ) (run : Bool) (hg : g < 64 * k) where
-      next-is : cond (isStart (imageOf w k l) g) next (nth (drop (suc (4 * g)) (imageOf w k l .heap)) 0) ≡ nextRun (imageOf w k l) g next
-      unfolding nextRun
-      next-is = rw (tail-at w k l z g hg 0)
-
-      rest-is : drop (4 * word (imageOf w k l) g 0) (word (imageOf w k l) g 0 ∷ drop (suc (4 * g)) (imageOf w k l .heap)) ≡ drop (4 * (g + word (imageOf w k l) g 0)) (imageOf w k l .heap)
-      rest-is = let e : 4 * g + 4 * word (imageOf w k l) g 0 ≡ 4 * (g + word (imageOf w k l) g 0) = omega arith in rw (← (head-is w k l z g hg), drop-drop, e)
-
-      abbrev strict : Bool
-      strict = piece (isStart (imageOf w k l)) g (word (imageOf w k l) g 0) (drop (suc (4 * g)) (imageOf w k l .heap)) next run (isStart (imageOf w k l) g)
-
-      turn : (n : ℕ) (t : Bool) → t ≡ strict
-          → fillFrom (suc n) g next run ≡ elim t [ false ↦ false | true ↦ fillFrom n (g + word (imageOf w k l) g 0) (nextRun (imageOf w k l) g next) (not (isStart (imageOf w k l) g)) ]
-      turn n t e = rw (head-is w k l z g hg) (fill-more (isStart (imageOf w k l)) n g (word (imageOf w k l) g 0) _ next run t e ∙ same t)
-        where
-          same : (t : Bool)
-              → _≡_ {A = Bool} (elim t [ false ↦ false | true ↦ fill (isStart (imageOf w k l)) n (g + word (imageOf w k l) g 0) (drop (4 * word (imageOf w k l) g 0) (word (imageOf w k l) g 0 ∷ drop (suc (4 * g)) (imageOf w k l .heap))) (cond (isStart (imageOf w k l) g) next (nth (drop (suc (4 * g)) (imageOf w k l .heap)) 0)) (not (isStart (imageOf w k l) g)) ]) (elim t [ false ↦ false | true ↦ fillFrom n (g + word (imageOf w k l) g 0) (nextRun (imageOf w k l) g next) (not (isStart (imageOf w k l) g)) ])
-          same false = refl
-          same true = rw (rest-is, next-is)
-
-      -- the piece in order, and no start inside it
-      strict-is : strict ≡ (pieceOk (imageOf w k l) g next run && clear (imageOf w k l) (g + 1) (word (imageOf w k l) g 0 - 1))
-      unfolding pieceOk
-      strict-is = piece-split (isStart (imageOf w k l)) g (word (imageOf w k l) g 0) _ next run (isStart (imageOf w k l) g) ∙ rw (bare-is w k l z g hg (word (imageOf w k l) g 0))
-
-      by-pieces : (n : ℕ) → fillFrom (suc n) g next run ≡ ((pieceOk (imageOf w k l) g next run && clear (imageOf w k l) (g + 1) (word (imageOf w k l) g 0 - 1)) && fillFrom n (g + word (imageOf w k l) g 0) (nextRun (imageOf w k l) g next) (not (isStart (imageOf w k l) g)))
-      by-pieces n = turn n _ (sym strict-is) ∙ go (pieceOk (imageOf w k l) g next run && clear (imageOf w k l) (g + 1) (word (imageOf w k l) g 0 - 1))
-        where
-          go : (t : Bool) → elim t [ false ↦ false | true ↦ fillFrom n (g + word (imageOf w k l) g 0) (nextRun (imageOf w k l) g next) (not (isStart (imageOf w k l) g)) ] ≡ (t && fillFrom n (g + word (imageOf w k l) g 0) (nextRun (imageOf w k l) g next) (not (isStart (imageOf w k l) g)))
-          go true = refl
-          go false = refl
-
-      -- a piece that is in order is not empty, and lies inside
-      pub record PieceFits : Type 0 where
-        pub pos : 1 ≤ word (imageOf w k l) g 0
-        pub inside : g + word (imageOf w k l) g 0 ≤ 64 * k
-
-      pub fine : pieceOk (imageOf w k l) g next run ≡ true → PieceFits
-      unfolding pieceOk piece
-      fine e = go (isStart (imageOf w k l) g) e
-        where
-          s : ℕ
-          s = word (imageOf w k l) g 0
-
-          ws : List ℕ
-          ws = drop (suc (4 * g)) (imageOf w k l .heap)
-
-          make : leb 1 s ≡ true → leb (4 * s) (suc (length ws)) ≡ true → PieceFits
-          make a b =
-              let p : 1 ≤ s = leb-true _ _ a in
-              let q : 4 * s ≤ suc (length ws) = leb-true _ _ b in
-              record { pos = p; inside = omega (arith, tail-long w k l z g hg) }
-
-          go : (b : Bool) → piece (λ _. false) g s ws next run b ≡ true → PieceFits
-          go true e = make (every-use _ e 0) (every-use _ e 1)
-          go false e = make (every-use _ e 0) (every-use _ e 1)
-
-      pub piece-start : pieceOk (imageOf w k l) g next run ≡ true → isStart (imageOf w k l) g ≡ true → objectOk (imageOf w k l) g ≡ true
-      unfolding pieceOk objectOk piece
-      piece-start e q = rw q at e
-
-    -- an object that is in order has its links inside the heap
-    pub object-room : (g : ℕ) → g < 64 * k → objectOk (imageOf w k l) g ≡ true → 4 * g + 2 + links (imageOf w k l) g ≤ 256 * k
-    unfolding links
-    object-room g hg e =
-        let h = head-use k g (word (imageOf w k l) g 0) (word (imageOf w k l) g 1) (object-is w k l z g hg _ _ refl refl ∙ e) in
-        omega (arith, h .inside, h .links-in)
-
-    clear-use : (a n h : ℕ) → clear (imageOf w k l) a n ≡ true → a ≤ h → h < a + n → isStart (imageOf w k l) h ≡ false
-    unfolding clear notStart
-    clear-use a n h e p q =
-        let i : a + (h - a) ≡ h = omega arith in
-        rw i at (not-true (isStart (imageOf w k l) (a + (h - a))) (all-use n (notStart (imageOf w k l) a) e (h - a) (omega arith)))
-
     -- ---- the loop
 
     links-none : (h : ℕ) → isStart (imageOf w k l) h ≡ false → linksOk (imageOf w k l) h ≡ true
@@ -134,9 +54,12 @@ module _ (w k : ℕ) (l : List ℕ) where
     links-none h e = rw e
 
     links-more : (g s : ℕ) → 1 ≤ s → clear (imageOf w k l) (g + 1) (s - 1) ≡ true → all (g + s) (linksOk (imageOf w k l)) ≡ (all g (linksOk (imageOf w k l)) && linksOk (imageOf w k l) g)
+    unfolding clear notStart
     links-more g s p c =
         let e : suc (s - 1) ≡ s = omega arith in
-        let a : all (s - 1) (λ i. linksOk (imageOf w k l) (g + suc i)) ≡ true = all-make (s - 1) _ (λ i h. links-none (g + suc i) (clear-use (g + 1) (s - 1) (g + suc i) c (omega arith) (omega arith))) in
+        let a : all (s - 1) (λ i. linksOk (imageOf w k l) (g + suc i)) ≡ true = all-make (s - 1) _ (λ i h.
+        let q : g + 1 + i ≡ g + suc i = omega arith in
+        links-none (g + suc i) (rw q at (not-true (isStart (imageOf w k l) (g + 1 + i)) (all-use (s - 1) (notStart (imageOf w k l) (g + 1)) c i h)))) in
         all-append g s (linksOk (imageOf w k l))
         ∙ ap (λ b. all g (linksOk (imageOf w k l)) && b) ((rw e at (all-first (s - 1) (λ i. linksOk (imageOf w k l) (g + i)))) ∙ rw (a, add-zero) (and-true _))
 
@@ -152,68 +75,70 @@ module _ (w k : ℕ) (l : List ℕ) where
         -- a link that is neither nil nor a start
         pub w-link : (c : Bool) → c ≡ linksOk (imageOf w k l) g → not c ≡ true → false ≡ heapLines
         unfolding granules imageOf image
-        w-link c ec r = go (filled (imageOf w k l)) (all (granules (imageOf w k l)) (linksOk (imageOf w k l))) refl
-          where
-            go : (a b : Bool) → all (granules (imageOf w k l)) (linksOk (imageOf w k l)) ≡ b → false ≡ (a && b)
-            go false b e = refl
-            go true false e = refl
-            go true true e = false≢ (sym (sym ec ∙ not-true c r) ∙ all-use (granules (imageOf w k l)) (linksOk (imageOf w k l)) e g hg)
+        w-link c ec r = elim (bool-cases (all (granules (imageOf w k l)) (linksOk (imageOf w k l)))) [
+          | inl e ↦ false≢ (sym (sym ec ∙ not-true c r) ∙ all-use (granules (imageOf w k l)) (linksOk (imageOf w k l)) e g hg)
+          | inr e ↦ rw e (sym (and-false (filled (imageOf w k l))))
+        ]
 
         module _ (t : Bool) (e : t ≡ pieceOk (imageOf w k l) g next run) where
           abbrev rest : Bool
           rest = fillFrom (v .fuel - 1) (g + word (imageOf w k l) g 0) (nextRun (imageOf w k l) g next) (not (isStart (imageOf w k l) g))
 
           here : filled (imageOf w k l) ≡ (eqb seen (startsIn (imageOf w k l) 0 g) && ((t && clear (imageOf w k l) (g + 1) (word (imageOf w k l) g 0 - 1)) && rest))
+          unfolding pieceOk nextRun bare clear notStart
           here =
               let q : suc (v .fuel - 1) ≡ v .fuel = omega (arith, v .enough) in
-              v .same ∙ ap (λ b. eqb seen (startsIn (imageOf w k l) 0 g) && b) (rw (q, ← e) at (by-pieces g next run hg (v .fuel - 1)))
+              let s : 4 * g + 4 * word (imageOf w k l) g 0 ≡ 4 * (g + word (imageOf w k l) g 0) = omega arith in
+              let head = head-is w k l z g hg in
+              rw (← q, head, fill-more (isStart (imageOf w k l)), piece-split (isStart (imageOf w k l)), tail-at w k l z g hg 0, ← head, drop-drop, s, ← e) at (v .same)
 
           pub w-stop : not t ≡ true → false ≡ heapLines
           w-stop q = let h : filled (imageOf w k l) ≡ false = here ∙ rw (not-true t q) (and-false (eqb seen (startsIn (imageOf w k l) 0 g))) in rw h
 
           module _ (q : not t ≡ false) where
-            found : PieceFits g next run hg
-            found = fine g next run hg (sym e ∙ not-false t q)
+            -- a piece that is in order is not empty, and lies inside
+            found : (1 ≤ word (imageOf w k l) g 0) × (g + word (imageOf w k l) g 0 ≤ 64 * k)
+            unfolding pieceOk
+            found = let p = piece-size (λ _. false) g _ _ next run _ (sym e ∙ not-false t q) in (p .0, omega (arith, p .1, tail-long w k l z g hg))
 
+            -- an object that is in order has its links inside the heap
             pub w-room : LinksInside k (imageOf w k l) g
-            w-room = record { inside = λ h. object-room g hg (piece-start g next run hg (sym e ∙ not-false t q) h) }
+            unfolding links pieceOk objectOk piece
+            w-room = record {
+              inside = λ h.
+                  let r = head-use k g (word (imageOf w k l) g 0) (word (imageOf w k l) g 1) (object-is w k l z g hg _ _ refl refl ∙ rw h at (sym e ∙ not-false t q)) in
+                  omega (arith, r .inside, r .links-in);
+            }
 
             pub w-less : (s : ℕ) → s ≡ word (imageOf w k l) g 0 → 64 * k - (g + s) < 64 * k - g
-            w-less s es = omega (arith, found .pos, found .inside)
+            w-less s es = omega (arith, found)
 
             seen-is : eqb (seen + startBit (imageOf w k l) g) (startsIn (imageOf w k l) 0 (g + word (imageOf w k l) g 0)) ≡ (eqb seen (startsIn (imageOf w k l) 0 g) && clear (imageOf w k l) (g + 1) (word (imageOf w k l) g 0 - 1))
-            seen-is = seen-more (imageOf w k l) g (word (imageOf w k l) g 0) seen (found .pos) (v .few)
+            seen-is = seen-more (imageOf w k l) g (word (imageOf w k l) g 0) seen (found .0) (v .few)
 
             pub w-more : (s next′ seen′ : ℕ) (b c : Bool) → b ≡ isStart (imageOf w k l) g → c ≡ linksOk (imageOf w k l) g → not c ≡ false → seen′ ≡ seen + digit b → next′ ≡ nextRun (imageOf w k l) g next → s ≡ word (imageOf w k l) g 0 → HeapWalk (g + s) next′ (not b) seen′
-            w-more s next′ seen′ b c eb ec r eseen en es =
-                record {
-                  fuel = v .fuel - 1;
-                  inside = omega (arith, found .inside);
-                  enough = omega (arith, found .pos, v .enough);
-                  few = rw (eseen, eb, es) (seen-few (imageOf w k l) g (word (imageOf w k l) g 0) seen (found .pos) (v .few));
-                  same = rw (eseen, eb, es, en, seen-is) (here ∙ rw (not-false t q) (sym (and-assoc (eqb seen (startsIn (imageOf w k l) 0 g)) (clear (imageOf w k l) (g + 1) (word (imageOf w k l) g 0 - 1)) rest)));
-                  so-far = λ h. links (rw (eseen, eb, es) at h);
-                }
-              where
-                links : eqb (seen + startBit (imageOf w k l) g) (startsIn (imageOf w k l) 0 (g + word (imageOf w k l) g 0)) ≡ true → all (g + s) (linksOk (imageOf w k l)) ≡ true
-                links h =
-                    let p = and-split _ _ (sym seen-is ∙ h) in
-                    rw (es, links-more g (word (imageOf w k l) g 0) (found .pos) (p .1), v .so-far (p .0), ← ec, not-false c r)
+            w-more s next′ seen′ b c eb ec r eseen en es = record {
+              fuel = v .fuel - 1;
+              inside = omega (arith, found);
+              enough = omega (arith, found, v .enough);
+              few = rw (eseen, eb, es) (seen-few (imageOf w k l) g (word (imageOf w k l) g 0) seen (found .0) (v .few));
+              same = rw (eseen, eb, es, en, seen-is) (here ∙ rw (not-false t q) (sym (and-assoc (eqb seen (startsIn (imageOf w k l) 0 g)) (clear (imageOf w k l) (g + 1) (word (imageOf w k l) g 0 - 1)) rest)));
+              so-far = λ h.
+                  let p = and-split _ _ (sym seen-is ∙ rw (eseen, eb, es) at h) in
+                  rw (es, links-more g (word (imageOf w k l) g 0) (found .0) (p .1), v .so-far (p .0), ← ec, not-false c r);
+            }
 
       pub w-end : 64 * k ≤ g → (n : ℕ) → n ≡ startsIn (imageOf w k l) 0 (64 * k) → (eqb next 0 && eqb seen n) ≡ heapLines
-      unfolding granules imageOf image
+      unfolding granules imageOf image fill
       w-end h n en =
           let q : suc (v .fuel - 1) ≡ v .fuel = omega (arith, v .enough, v .inside) in
           let o : g ≡ 64 * k = omega (arith, v .inside) in
-          let f : filled (imageOf w k l) ≡ (eqb seen n && eqb next 0) = v .same ∙ rw (← (rw q at (past-end (v .fuel - 1) g next run h)), en, o) in
-          rw f (go (eqb seen n) refl)
-        where
-          go : (b : Bool) → eqb seen n ≡ b → (eqb next 0 && b) ≡ ((b && eqb next 0) && all (64 * k) (linksOk (imageOf w k l)))
-          go false e = and-false (eqb next 0)
-          go true e =
-              let o : g ≡ 64 * k = omega (arith, v .inside) in
-              let a : all (64 * k) (linksOk (imageOf w k l)) ≡ true = rw o at (v .so-far (rw (o, ← en) e)) in
-              rw a refl
+          let past = drop-of-length-le (imageOf w k l .heap) {i = 4 * g} (omega (arith, heap-words z)) in
+          let f : filled (imageOf w k l) ≡ (eqb seen n && eqb next 0) = rw (← q, past) at (v .same) ∙ rw (en, o) in
+          rw f (elim (bool-cases (eqb seen n)) [
+            | inl e ↦ let a : all (64 * k) (linksOk (imageOf w k l)) ≡ true = rw o at (v .so-far (rw (o, ← en) e)) in rw (e, a)
+            | inr e ↦ rw e (and-false (eqb next 0))
+          ])
 
 -- ---- the ways out of `object_links`, `first_unused` and `heap_ok`
 

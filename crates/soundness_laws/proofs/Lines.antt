@@ -1,6 +1,6 @@
 -- The lines together: with no cycle those on marks, packets and tracers follow from their words being 0; the ways out of a cycle's lines and of all lines.
 use Prim.Native.Nat.{ℕ, _+_, _*_, suc, _/_, zero, _%_}
-use Rattle.model.proofs.Laws.{all-make, every-use, every-cons, every-nil, zeroes-use}
+use Rattle.model.proofs.Laws.{bool-cases, all-make, every-use, every-cons, every-nil, zeroes-use}
 use Rattle.model.specs.Base.{nth, all, distinct, bit, every, implies, either, zeroes}
 use Rattle.model.specs.Image.{entries, entriesOf, count, entry, image, imageOf, granules, marked, hand, nextLink, handCard, nextGranule, running, owed, scanned}
 use Rattle.model.specs.Undamaged.{zeroGranule, filled, linksOk, regOk, cardOk, playerOk, generalOk, markOk, entryOk, handOk, handCardOk, tracerOk, heldAt, heldOnce, idleOk, sound}
@@ -8,6 +8,7 @@ use borrow.Author.Tests.{eq-eqb, ne-eqb, le-ltb, not-true, not-false}
 use lib.Dec.{leb}
 use lib.ListN.{take, drop}
 use mathlib.Core.Bool.{Bool, true, false, not, _&&_, and-true, and-assoc, and-false}
+use mathlib.Core.Logic.{inl, inr}
 use mathlib.Core.List.{List, []}
 use mathlib.Core.Path.{_≡_, refl, sym, _∙_}
 use native.Mathlib.Omega.{arith}
@@ -38,27 +39,19 @@ module _ (w k : ℕ) (l : List ℕ) where
   unfolding marked bit
   no-mark e g = zero-bit _ _ (zeroes-use (imageOf w k l .marks) e _)
 
-  module _ (z : (i : ℕ) → nth (imageOf w k l .packets) i ≡ 0) where
-    entry-idle : (p e : ℕ) → entryOkAt (imageOf w k l) p e ≡ true
-    unfolding entryOkAt entryOk count entry
-    entry-idle p e = rw (z (32 * p), z (32 * p + 2 + e), le-ltb e 0 (omega arith))
+  packet-idle : ((i : ℕ) → nth (imageOf w k l .packets) i ≡ 0) → Sized w k l → (p : ℕ) → packetOkAt (imageOf w k l) p ≡ true
+  unfolding every count entryOkAt entryOk entry
+  packet-idle z s p =
+      let entries = all-make 30 (entryOkAt (imageOf w k l) p) (λ e h. rw (z (32 * p), z (32 * p + 2 + e), le-ltb e 0 (omega arith))) in
+      rw (packet-is w k l s p, z (32 * p + 1), entries, z (32 * p))
 
-    packet-idle : (s : Sized w k l) (p : ℕ) → packetOkAt (imageOf w k l) p ≡ true
-    unfolding every count
-    packet-idle s p = rw (packet-is w k l s p, z (32 * p), z (32 * p + 1), all-make 30 (entryOkAt (imageOf w k l) p) (λ e h. entry-idle p e))
-
-  module _ (z : (i : ℕ) → nth (imageOf w k l .tracers) i ≡ 0) where
-    tracer-idle : (t : ℕ) → tracerOk (imageOf w k l) t ≡ true
-    unfolding tracerOk every handOk handCardOk either hand nextLink handCard nextGranule
-    tracer-idle t = simp z
-
-    held-idle : (x : ℕ) → heldOnce (imageOf w k l) x ≡ true
-    unfolding heldOnce heldAt either
-    held-idle x = rw (z (8 * (x / 2) + x % 2))
+  tracer-idle : ((i : ℕ) → nth (imageOf w k l .tracers) i ≡ 0) → (t : ℕ) → tracerOk (imageOf w k l) t ≡ true
+  unfolding tracerOk every handOk handCardOk either hand nextLink handCard nextGranule
+  tracer-idle z t = simp z
 
   module _ (s : Sized w k l) where
     pub idle-cycle : idle (imageOf w k l) ≡ true → cycleLines (imageOf w k l) ≡ true
-    unfolding idle cycleLines markOk implies entries distinct
+    unfolding idle cycleLines markOk implies entries distinct heldOnce heldAt either
     idle-cycle e =
         let p : (i : ℕ) → nth (imageOf w k l .packets) i ≡ 0 = zeroes-use (imageOf w k l .packets) (every-use _ e 1) in
         let t : (i : ℕ) → nth (imageOf w k l .tracers) i ≡ 0 = zeroes-use (imageOf w k l .tracers) (every-use _ e 2) in
@@ -66,7 +59,7 @@ module _ (w k : ℕ) (l : List ℕ) where
         (every-cons _ _ (all-packets w k l s ∙ all-make 32 (packetOkAt (imageOf w k l)) (λ i h. packet-idle p s i))
         (every-cons _ _ (rw (no-entries 32 (imageOf w k l .packets) p))
         (every-cons _ _ (all-make 8 _ (λ i h. tracer-idle t i))
-        (every-cons _ _ (all-make 16 _ (λ i h. held-idle t i)) every-nil))))
+        (every-cons _ _ (all-make 16 _ (λ x h. rw (t (8 * (x / 2) + x % 2)))) every-nil))))
 
     -- ---- the ways out of `cycle_ok`
 
@@ -96,20 +89,10 @@ module _ (w k : ℕ) (l : List ℕ) where
       sound-is = rw ea (simp (and-assoc, and-true))
 
       module _ (v : ℕ) (ev : v ≡ running (imageOf w k l)) where
-        idle-still : v ≡ 0 → idleOk (imageOf w k l) ≡ idle (imageOf w k l)
-        unfolding idleOk implies idle notScanned
-        idle-still h = rw (← ev, eq-eqb v 0 h)
-
-        idle-running : (v ≡ 0 → ⊥) → idleOk (imageOf w k l) ≡ true
-        unfolding idleOk implies
-        idle-running h = rw (← ev, ne-eqb v 0 h)
-
         pub sound-still : (i : Bool) → v ≡ 0 → i ≡ idle (imageOf w k l) → (a && i) ≡ sound (imageOf w k l)
-        sound-still i h q = rw (sound-is, idle-still h, ← q) (go i q)
-          where
-            go : (i : Bool) → i ≡ idle (imageOf w k l) → (a && i) ≡ (a && (cycleLines (imageOf w k l) && i))
-            go true q = rw (idle-cycle (sym q))
-            go false q = simp and-false
+        unfolding idleOk implies idle notScanned
+        sound-still i h q = rw (sound-is, ← ev, eq-eqb v 0 h, ← q) (elim (bool-cases i) [ inl e ↦ rw (e, idle-cycle (sym q ∙ e)) | inr e ↦ rw e (simp and-false) ])
 
         pub sound-cycle : (y : Bool) → (v ≡ 0 → ⊥) → y ≡ cycleLines (imageOf w k l) → (a && y) ≡ sound (imageOf w k l)
-        sound-cycle y h q = rw (sound-is, idle-running h, ← q) (simp and-true)
+        unfolding idleOk implies
+        sound-cycle y h q = rw (sound-is, ← ev, ne-eqb v 0 h, ← q) (simp and-true)

@@ -1,6 +1,6 @@
 -- Marks stand only on starts: the granules of a word at a time.
 use mathlib.Core.Path.{_≡_, refl, sym, ap, _∙_}
-use mathlib.Core.Bool.{Bool, _&&_, true}
+use mathlib.Core.Bool.{Bool, _&&_}
 use mathlib.Core.List.{List}
 use Prim.Native.Nat.{ℕ, zero, suc, _+_, _*_, _-_, _/_, _^_, _<_, min}
 use native.Mathlib.Nat.{mul-zero, mul-suc}
@@ -22,7 +22,7 @@ use Rattle.image_laws.proofs.Lengths.{sized-width}
 use Rattle.model.proofs.Laws.{same-test, imp-use, imp-make, all-use, all-make}
 use Rattle.image_laws.specs.Digits.{bitOf}
 use Rattle.image_laws.proofs.Words.{word-ext}
-use mathlib.Core.Logic.{_⊎_, inl, inr}
+use mathlib.Core.Logic.{inl, inr}
 use lib.Pow.{pow-pos}
 
 -- ---- by words
@@ -39,29 +39,23 @@ by-words w k l p r z e = e ∙ (rw (words-full w k (sized-width z)) at (sym (all
 
 -- ---- within a word
 
--- bit j of a is in b
-isIn : ℕ → ℕ → ℕ → Bool
-isIn a b j = implies (testBit a j) (testBit b j)
-
-sub-word : (n a b c : ℕ) → a < 2 ^ n → b + c + 1 ≡ 2 ^ n → eqb (bitAnd a c) 0 ≡ all n (isIn a b)
-unfolding isIn
+-- every bit of a is in b
+sub-word : (n a b c : ℕ) → a < 2 ^ n → b + c + 1 ≡ 2 ^ n → eqb (bitAnd a c) 0 ≡ all n (λ j. implies (testBit a j) (testBit b j))
 sub-word n a b c ha e =
     same-test _ _
-    (λ q. all-make n _ (λ j h. imp-make _ _ (λ t. on-digit _ (to j h (eqb-true _ _ q) (digit-on t)))))
-    (λ q. eq-eqb _ _ (word-ext n (bitAnd a c) 0 (omega (arith, and-le-l a c)) (pow-pos n) (λ j h. from j h (imp-use _ _ (all-use n _ q j h)) (digit-two (testBit a j)))))
-  where
-    to : (j : ℕ) → j < n → bitAnd a c ≡ 0 → bitOf a j ≡ 1 → bitOf b j ≡ 1
-    to j h q t = omega (arith, bit-and a c j, bit-not n b c j e h, ap (λ x. bitOf x j) q, bit-none j)
-
-    from : (j : ℕ) → j < n → (testBit a j ≡ true → testBit b j ≡ true) → (bitOf a j ≡ 0) ⊎ (bitOf a j ≡ 1) → bitOf (bitAnd a c) j ≡ bitOf 0 j
-    from j h f (inl t) = omega (arith, bit-and a c j, bit-none j)
-    from j h f (inr t) = omega (arith, bit-and a c j, bit-not n b c j e h, digit-on (f (on-digit _ t)), bit-none j)
+    (λ q. all-make n _ (λ j h. imp-make _ _ (λ t.
+    let o : bitOf (bitAnd a c) j ≡ bitOf 0 j = ap (λ x. bitOf x j) (eqb-true _ _ q) in
+    on-digit (testBit b j) (omega (arith, bit-and a c j, bit-not n b c j e h, digit-on t, bit-none j)))))
+    (λ q. eq-eqb _ _ (word-ext n (bitAnd a c) 0 (omega (arith, and-le-l a c)) (pow-pos n) (λ j h. elim (digit-two (testBit a j)) [
+      | inl t ↦ omega (arith, bit-and a c j, bit-none j)
+      | inr t ↦ omega (arith, bit-and a c j, bit-not n b c j e h, digit-on (imp-use _ _ (all-use n _ q j h) (on-digit _ t)), bit-none j)
+    ])))
 
 -- ---- a mark word against its start word
 
 pub mark-word : (w k : ℕ) (l : List ℕ) (i a b : ℕ) → a ≡ nth (imageOf w k l .marks) i → b ≡ nth (imageOf w k l .starts) i → a < 2 ^ w → b < 2 ^ w
     → eqb (bitAnd a (2 ^ w - 1 - b)) 0 ≡ wordwise w (markOk (imageOf w k l)) i
-unfolding wordwise atWord markOk marked isStart imageOf image isIn
+unfolding wordwise atWord markOk marked isStart imageOf image
 mark-word w k l i a b ea eb ha hb =
     sub-word w a b (2 ^ w - 1 - b) ha (omega arith)
     ∙ all-cong w _ _ (λ j q. rw (bit-at w (imageOf w k l .marks) i j q, bit-at w (imageOf w k l .starts) i j q, ea, eb))

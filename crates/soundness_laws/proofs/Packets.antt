@@ -1,12 +1,12 @@
 -- Packets by index: their lines, their entries packet after packet, and whether none is entered twice.
 use Prim.Native.Nat.{ℕ, _+_, _*_, _≤_, _<_, suc, _/_, zero, _-_}
-use Rattle.model.proofs.Entries.{nth-drop, nth-take}
-use Rattle.model.proofs.Laws.{all-use, every-use}
+use Rattle.model.proofs.Entries.{nth-drop, eachPiece-use, eachPiece-make}
+use Rattle.model.proofs.Laws.{same-test, all-make, all-use, every-use}
 use Rattle.model.specs.Base.{nth, all, eachPiece, bit, setBit, every, zeroes}
 use Rattle.model.specs.Image.{entries, entriesOf, count, entry, image, imageOf, granules, marked, mostCards}
 use Rattle.model.specs.Undamaged.{entryOk, packetOk}
 use borrow.Author.Tests.{leb-true, ltb-true, lt-ltb, le-ltb, le-leb, lt-leb}
-use lib.Dec.{eqb, leb, ltb}
+use lib.Dec.{eqb, leb}
 use lib.ListN.{length, getD, take, drop, length-take, length-drop}
 use lib.Seq.{drop-drop, take-suc, take-all}
 use mathlib.Core.Bool.{Bool, true, not, _&&_, and-true, and-assoc, false}
@@ -16,25 +16,14 @@ use native.Mathlib.Numerals.{add-one}
 use native.Mathlib.Omega.{arith}
 use Rattle.soundness_laws.specs.Sets.{setWords, packetEntries, AddedOnce}
 use Rattle.soundness_laws.specs.Tests.{packetOkAt, entryOkAt, Packed, entryMarked}
-use Rattle.soundness_laws.proofs.Checks.{test-inside, all-append}
+use Rattle.soundness_laws.proofs.Checks.{test-inside, all-append, nth-part}
 use Rattle.soundness_laws.proofs.Sets.{once-none, once-one, once-append}
 use Rattle.image_laws.specs.Sized.{Sized}
 use Rattle.image_laws.proofs.Bits.{mark-past}
-use Rattle.image_laws.proofs.Parts.{all-cong, all-none, all-first, zero-stretch}
+use Rattle.image_laws.proofs.Parts.{all-cong, zero-stretch}
 use Rattle.image_laws.proofs.Places.{word-in}
 use Rattle.image_laws.proofs.Sections.{granules-image}
-use Rattle.model.specs.Rows.{below}
 use Rattle.image_laws.proofs.Lengths.{sized-width, packets-words}
-
--- ---- pieces by index
-
-pub each-piece : (s n : ℕ) (p : List ℕ → Bool) (ws : List ℕ) → eachPiece s n p ws ≡ all n (λ i. p (take s (drop (s * i) ws)))
-unfolding eachPiece
-each-piece s zero p ws = all-none _
-each-piece s (suc n) p ws =
-    let z : s * 0 ≡ 0 = omega arith in
-    rw (each-piece s n p (drop s ws), all-first n (λ i. p (take s (drop (s * i) ws))), z)
-    (ap (λ b. p (take s ws) && b) (all-cong n _ _ (λ i h. let e : s + s * i ≡ s * suc i = omega arith in rw (drop-drop (s * i) s ws, e))))
 
 -- ---- entries packet after packet
 
@@ -58,30 +47,25 @@ module _ (w k : ℕ) (l : List ℕ) (z : Sized w k l) where
   unfolding entryOkAt entryOk entryMarked granules imageOf image
   entry-in p e h = rw (lt-ltb e (count (imageOf w k l) p) h) (test-inside (marked (imageOf w k l)) (64 * k) (entry (imageOf w k l) p e) (mark-past w k l z (entry (imageOf w k l) p e)))
 
-  entry-past : (p e : ℕ) → count (imageOf w k l) p ≤ e → entryOkAt (imageOf w k l) p e ≡ eqb (nth (imageOf w k l .packets) (32 * p + 2 + e)) 0
-  unfolding entryOkAt entryOk entry
-  entry-past p e h = rw (le-ltb e (count (imageOf w k l) p) h)
-
   -- the first n of 30 places hold the entries
   entries-split : (p n : ℕ) → p < 32 → n ≡ count (imageOf w k l) p → n ≤ 30 → all 30 (entryOkAt (imageOf w k l) p) ≡ (all n (entryMarked (imageOf w k l) p) && zeroes (take (30 - n) (drop (32 * p + 2 + n) (imageOf w k l .packets))))
+  unfolding entryOkAt entryOk entry
   entries-split p n hp en h =
       let s : n + (30 - n) ≡ 30 = omega arith in
       (rw s at (all-append n (30 - n) (entryOkAt (imageOf w k l) p)))
       ∙ rw (all-cong n _ _ (λ e q. entry-in p e (omega arith)), zero-stretch (imageOf w k l .packets) (32 * p + 2 + n) (30 - n) (omega (arith, packets-words z)))
-      (ap (λ b. all n (entryMarked (imageOf w k l) p) && b) (all-cong (30 - n) _ _ (λ i q. let y : 32 * p + 2 + (n + i) ≡ 32 * p + 2 + n + i = omega arith in entry-past p (n + i) (omega arith) ∙ rw y)))
-
-  -- word i of packet p
-  packet-nth : (p i : ℕ) → i < 32 → nth (take 32 (drop (32 * p) (imageOf w k l .packets))) i ≡ nth (imageOf w k l .packets) (32 * p + i)
-  packet-nth p i h = nth-take 32 (drop (32 * p) (imageOf w k l .packets)) i h ∙ nth-drop (32 * p) (imageOf w k l .packets) i
+      (ap (λ b. all n (entryMarked (imageOf w k l) p) && b) (all-cong (30 - n) _ _ (λ i q.
+      let y : 32 * p + 2 + (n + i) ≡ 32 * p + 2 + n + i = omega arith in
+      rw (le-ltb (n + i) (count (imageOf w k l) p) (omega arith), y))))
 
   pub packet-is : (p : ℕ) → packetOkAt (imageOf w k l) p ≡ every (leb (count (imageOf w k l) p) 30 ∷ eqb (nth (imageOf w k l .packets) (32 * p + 1)) 0 ∷ all 30 (entryOkAt (imageOf w k l) p) ∷ [])
   unfolding packetOkAt packetOk entryOkAt count entry every
   packet-is p =
       let o : 32 * p + 0 ≡ 32 * p = omega arith in
-      let c : nth (take 32 (drop (32 * p) (imageOf w k l .packets))) 0 ≡ nth (imageOf w k l .packets) (32 * p) = packet-nth p 0 (omega arith) ∙ ap (nth (imageOf w k l .packets)) o in
-      let b : all 30 (λ e. entryOk (imageOf w k l) (ltb e (nth (imageOf w k l .packets) (32 * p))) (nth (take 32 (drop (32 * p) (imageOf w k l .packets))) (2 + e))) ≡ all 30 (λ e. entryOk (imageOf w k l) (ltb e (nth (imageOf w k l .packets) (32 * p))) (nth (imageOf w k l .packets) (32 * p + 2 + e))) =
-      all-cong 30 _ _ (λ e h. let y : 32 * p + (2 + e) ≡ 32 * p + 2 + e = omega arith in rw (packet-nth p (2 + e) (omega arith), y)) in
-      rw (c, packet-nth p 1 (omega arith), b)
+      let ps : List ℕ = imageOf w k l .packets in
+      rw (nth-part 32 (32 * p) ps 0 (omega arith), o, nth-part 32 (32 * p) ps 1 (omega arith))
+      (ap (λ b. every (leb (nth ps (32 * p)) 30 ∷ eqb (nth ps (32 * p + 1)) 0 ∷ b ∷ []))
+      (all-cong 30 _ _ (λ e h. let y : 32 * p + (2 + e) ≡ 32 * p + 2 + e = omega arith in rw (nth-part 32 (32 * p) ps (2 + e) (omega arith), y))))
 
   module _ (p n : ℕ) (hp : p < 32) (en : n ≡ nth (imageOf w k l .packets) (32 * p)) where
     pub packet-many : 30 < n → false ≡ packetOkAt (imageOf w k l) p
@@ -103,19 +87,15 @@ module _ (w k : ℕ) (l : List ℕ) (z : Sized w k l) where
 
   pub all-packets : eachPiece 32 32 (packetOk (imageOf w k l)) (imageOf w k l .packets) ≡ all 32 (packetOkAt (imageOf w k l))
   unfolding packetOkAt
-  all-packets = each-piece 32 32 (packetOk (imageOf w k l)) (imageOf w k l .packets)
+  all-packets =
+      same-test _ _ (λ e. all-make 32 _ (eachPiece-use 32 32 (packetOk (imageOf w k l)) (imageOf w k l .packets) e))
+      (λ e. eachPiece-make 32 32 (packetOk (imageOf w k l)) (imageOf w k l .packets) (all-use 32 _ e))
 
   pub packed : all 32 (packetOkAt (imageOf w k l)) ≡ true → Packed (imageOf w k l)
-  packed h = record { counts = few; below = in-heap }
-    where
-      lines : (p : ℕ) → p < 32 → (i : ℕ) → getD (leb (count (imageOf w k l) p) 30 ∷ eqb (nth (imageOf w k l .packets) (32 * p + 1)) 0 ∷ all 30 (entryOkAt (imageOf w k l) p) ∷ []) i true ≡ true
-      lines p hp = every-use _ (sym (packet-is p) ∙ all-use 32 (packetOkAt (imageOf w k l)) h p hp)
-
-      few : (p : ℕ) → p < 32 → count (imageOf w k l) p ≤ 30
-      few p hp = leb-true _ _ (lines p hp 0)
-
-      in-heap : (p e : ℕ) → p < 32 → e < count (imageOf w k l) p → entry (imageOf w k l) p e < granules (imageOf w k l)
-      in-heap p e hp he = below-end p e he (all-use 30 (entryOkAt (imageOf w k l) p) (lines p hp 2) e (omega (arith, few p hp)))
+  packed h =
+      let ok = all-use 32 (packetOkAt (imageOf w k l)) h in
+      let few : (p : ℕ) → p < 32 → count (imageOf w k l) p ≤ 30 = λ p hp. leb-true _ _ (every-use _ (sym (packet-is p) ∙ ok p hp) 0) in
+      record { counts = few; below = λ p e hp he. below-end p e he (all-use 30 _ (every-use _ (sym (packet-is p) ∙ ok p hp) 2) e (omega (arith, few p hp))) }
 
 -- ---- the entries of a packet, none of them twice
 
@@ -128,10 +108,6 @@ module _ (w k : ℕ) (l : List ℕ) (z : Sized w k l) (packed : Packed (imageOf 
   unfolding packetEntries
   entries-length = omega (arith, length-take (count (imageOf w k l) p) (drop (32 * p + 2) (imageOf w k l .packets)), length-drop (32 * p + 2) (imageOf w k l .packets), packets-words z, packed .counts p hp)
 
-  entries-nth : (e : ℕ) → e < count (imageOf w k l) p → getD (packetEntries (imageOf w k l) p) e 0 ≡ nth (imageOf w k l .packets) (32 * p + 2 + e)
-  unfolding packetEntries nth
-  entries-nth e h = nth-take (count (imageOf w k l) p) (drop (32 * p + 2) (imageOf w k l .packets)) e h ∙ nth-drop (32 * p + 2) (imageOf w k l .packets) e
-
 -- `after` holds the granules of the first e of the n entries of l besides those of `before`
 pub record EntriesSearched (w : ℕ) (l : List ℕ) (n : ℕ) (before : List ℕ) (ok : Bool) (e : ℕ) (after : List ℕ) : Type 0 where
   pub within : e ≤ n
@@ -142,22 +118,19 @@ pub a-none : {w : ℕ} {l : List ℕ} {n : ℕ} {before : List ℕ} → length b
 a-none h = record { within = omega arith; long = h; so-far = once-none }
 
 module _ (w k : ℕ) (l : List ℕ) (z : Sized w k l) (packed : Packed (imageOf w k l)) (p : ℕ) (hp : p < 32) (before seen : List ℕ) (n e x : ℕ) (ok : Bool) (a : EntriesSearched w (packetEntries (imageOf w k l) p) n before ok e seen) (h : e < n) (en : n ≡ nth (imageOf w k l .packets) (32 * p)) (ex : x ≡ nth (imageOf w k l .packets) (32 * p + 2 + e)) where
-  a-count : e < count (imageOf w k l) p
-  unfolding count
-  a-count = omega arith
-
   pub a-place : x / w < length seen
-  unfolding entry
+  unfolding entry count
   a-place =
-      let b : x < 64 * mostCards w = omega (arith, packed .below p e hp a-count, granules-image w k l, z .high) in
+      let b : x < 64 * mostCards w = omega (arith, packed .below p e hp (omega arith), granules-image w k l, z .high) in
       rw (a .long) (word-in w (mostCards w) (sized-width z) x b)
 
   pub a-more : (t : Bool) (seen′ : List ℕ) → t ≡ not (bit w seen x) → seen′ ≡ setBit w seen x → EntriesSearched w (packetEntries (imageOf w k l) p) n before (ok && t) (e + 1) seen′
+  unfolding packetEntries count nth
   a-more t seen′ et es =
       let o : AddedOnce w seen (x ∷ []) t seen′ = rw (et, es) (once-one w seen x a-place) in
-      let y : getD (packetEntries (imageOf w k l) p) e 0 ≡ x = entries-nth w k l z packed p hp e a-count ∙ sym ex in
+      let y : getD (packetEntries (imageOf w k l) p) e 0 ≡ x = nth-part (count (imageOf w k l) p) (32 * p + 2) (imageOf w k l .packets) e (omega arith) ∙ sym ex in
       let g : take (suc e) (packetEntries (imageOf w k l) p) ≡ take e (packetEntries (imageOf w k l) p) ++ (x ∷ []) =
-      rw (take-suc (packetEntries (imageOf w k l) p) e 0 (omega (arith, a-count, entries-length w k l z packed p hp)), y) in
+      rw (take-suc (packetEntries (imageOf w k l) p) e 0 (omega (arith, entries-length w k l z packed p hp)), y) in
       rw add-one (record { within = omega arith; long = o .same-length ∙ a .long; so-far = rw g (once-append (a .so-far) o) })
 
 pub a-end : (w k : ℕ) (l : List ℕ) (z : Sized w k l) (packed : Packed (imageOf w k l)) (p : ℕ) (hp : p < 32) (before seen : List ℕ) (n e : ℕ) (ok : Bool)
@@ -170,10 +143,6 @@ a-end w k l z packed p hp before seen n e ok a h en =
 -- ---- packet after packet
 
 module _ (w k : ℕ) (l : List ℕ) where
-  packet-more : (p : ℕ) → entriesOf (suc p) (imageOf w k l .packets) ≡ entriesOf p (imageOf w k l .packets) ++ packetEntries (imageOf w k l) p
-  unfolding packetEntries count
-  packet-more p = entries-more p (imageOf w k l .packets)
-
   pub record PacketsSearched (before : List ℕ) (ok : Bool) (p : ℕ) (after : List ℕ) : Type 0 where
     pub within : p ≤ 32
     pub long : length after ≡ setWords w
@@ -184,8 +153,9 @@ module _ (w k : ℕ) (l : List ℕ) where
   p-none before h = record { within = omega arith; long = h; so-far = once-none }
 
   pub p-more : (before seen seen′ : List ℕ) (p : ℕ) (ok t : Bool) → PacketsSearched before ok p seen → p < 32 → AddedOnce w seen (packetEntries (imageOf w k l) p) t seen′ → PacketsSearched before (ok && t) (p + 1) seen′
+  unfolding packetEntries count
   p-more before seen seen′ p ok t a h o =
-      rw add-one (record { within = omega arith; long = o .same-length ∙ a .long; so-far = rw (packet-more p) (once-append (a .so-far) o) })
+      rw add-one (record { within = omega arith; long = o .same-length ∙ a .long; so-far = rw (entries-more p (imageOf w k l .packets)) (once-append (a .so-far) o) })
 
   pub p-end : (before seen : List ℕ) (p : ℕ) (ok : Bool) → PacketsSearched before ok p seen → 32 ≤ p → AddedOnce w before (entries (imageOf w k l)) ok seen
   unfolding entries

@@ -1,20 +1,19 @@
 -- The pieces of the heap, objects and runs, by index.
-use mathlib.Core.Path.{_≡_, refl, sym, ap, _∙_}
-use mathlib.Core.Bool.{Bool, true, false, not, _&&_, and-true, and-false}
-use mathlib.Core.List.{List, [], _∷_}
+use mathlib.Core.Path.{_≡_, refl, sym, _∙_}
+use mathlib.Core.Bool.{Bool, true, false, not, _&&_, and-assoc, and-comm}
+use mathlib.Core.List.{List, _∷_}
 use Prim.Native.Nat.{ℕ, suc, _+_, _*_, _-_, _≤_, _<_}
 use native.Mathlib.Omega.{arith}
 use lib.Dec.{eqb, leb}
 use lib.ListN.{length, take, drop, length-drop}
 use lib.Seq.{drop-cons}
-use borrow.Author.Tests.{leb-true, eqb-true, le-leb, eq-eqb, not-true, not-false}
+use borrow.Author.Tests.{leb-true, le-leb, not-true, not-false}
 use Rattle.model.specs.Base.{nth, all, every, zeroes}
 use Rattle.model.specs.Image.{word, isStart, imageOf}
 use Rattle.model.specs.Undamaged.{bare, piece}
 use Rattle.model.proofs.Laws.{all-make, and-split, and-join, every-use, every-cons, every-nil, same-test}
 use Rattle.model.proofs.Entries.{nth-drop}
 use Rattle.soundness_laws.specs.Tests.{objectOk, runOk, pieceOk, nextRun}
-use Rattle.soundness_laws.proofs.Starts.{notStart, clear}
 use Rattle.image_laws.specs.Sized.{Sized}
 use Rattle.image_laws.proofs.Parts.{all-cong, zero-stretch}
 use Rattle.image_laws.proofs.Lengths.{heap-words}
@@ -40,21 +39,15 @@ head-use k g s n h =
 pub head-make : (k g s n : ℕ) → Head k g s n → headOk k g s n ≡ true
 head-make k g s n h = and-join _ _ (and-join _ _ (and-join _ _ (le-leb _ _ (h .pos)) (le-leb _ _ (h .few))) (le-leb _ _ (h .inside))) (le-leb _ _ (h .links-in))
 
-record RunHead (k g next : ℕ) (run : Bool) (s : ℕ) : Type 0 where
-  pub apart : run ≡ false
-  pub here : g ≡ next
-  pub pos : 1 ≤ s
-  pub inside : g + s ≤ 64 * k
-
 abbrev pub runHeadOk : ℕ → ℕ → ℕ → Bool → ℕ → Bool
 runHeadOk k g next run s = ((not run && eqb g next) && leb 1 s) && leb (g + s) (64 * k)
 
-run-use : (k g next : ℕ) (run : Bool) (s : ℕ) → runHeadOk k g next run s ≡ true → RunHead k g next run s
+run-use : (k g next : ℕ) (run : Bool) (s : ℕ) → runHeadOk k g next run s ≡ true → (not run ≡ true) × (eqb g next ≡ true) × (1 ≤ s) × (g + s ≤ 64 * k)
 run-use k g next run s h =
     let a = and-split _ _ h in
     let b = and-split _ _ (a .0) in
     let c = and-split (not run) _ (b .0) in
-    record { apart = not-true run (c .0); here = eqb-true _ _ (c .1); pos = leb-true _ _ (b .1); inside = leb-true _ _ (a .1) }
+    (c .0, c .1, leb-true _ _ (b .1), leb-true _ _ (a .1))
 
 -- ---- starts inside a piece, apart from its other lines
 
@@ -62,16 +55,15 @@ bare-nowhere : (g s : ℕ) → bare (λ _. false) g s ≡ true
 unfolding bare
 bare-nowhere g s = all-make (s - 1) _ (λ i h. refl)
 
-apart : (a b x c : Bool) → (a && (b && (x && c))) ≡ ((a && (b && (true && c))) && x)
-apart true true true c = sym (and-true c)
-apart true true false c = sym (and-false c)
-apart true false x c = refl
-apart false b x c = refl
-
 pub piece-split : (st : ℕ → Bool) (g s : ℕ) (ws : List ℕ) (next : ℕ) (run b : Bool) → piece st g s ws next run b ≡ (piece (λ _. false) g s ws next run b && bare st g s)
 unfolding piece every
-piece-split st g s ws next run true = rw (bare-nowhere g s) (apart (leb 1 s) (leb (4 * s) (suc (length ws))) (bare st g s) _)
-piece-split st g s ws next run false = rw (bare-nowhere g s) (apart (leb 1 s) (leb (4 * s) (suc (length ws))) (bare st g s) _)
+piece-split st g s ws next run true = rw (bare-nowhere g s, and-comm (bare st g s)) (simp and-assoc)
+piece-split st g s ws next run false = rw (bare-nowhere g s, and-comm (bare st g s)) (simp and-assoc)
+
+pub piece-size : (st : ℕ → Bool) (g s : ℕ) (ws : List ℕ) (next : ℕ) (run b : Bool) → piece st g s ws next run b ≡ true → (1 ≤ s) × (4 * s ≤ suc (length ws))
+unfolding piece
+piece-size st g s ws next run true e = (leb-true _ _ (every-use _ e 0), leb-true _ _ (every-use _ e 1))
+piece-size st g s ws next run false e = (leb-true _ _ (every-use _ e 0), leb-true _ _ (every-use _ e 1))
 
 -- ---- pieces by index
 
@@ -87,35 +79,23 @@ module _ (w k : ℕ) (l : List ℕ) (z : Sized w k l) (g : ℕ) (hg : g < 64 * k
   unfolding word nth
   head-is = let e : 4 * g + 0 ≡ 4 * g = omega arith in rw e (drop-cons (imageOf w k l .heap) (4 * g) 0 (omega (arith, heap-words z)))
 
-  pub bare-is : (s : ℕ) → bare (isStart (imageOf w k l)) g s ≡ clear (imageOf w k l) (g + 1) (s - 1)
-  unfolding bare clear notStart
-  bare-is s = refl
-
   pub object-is : (s n : ℕ) → s ≡ word (imageOf w k l) g 0 → n ≡ word (imageOf w k l) g 1 → headOk k g s n ≡ objectOk (imageOf w k l) g
   unfolding objectOk piece
-  object-is s n es en = rw (← es) (same-test _ _ from to)
-    where
-      ws : List ℕ
-      ws = drop (suc (4 * g)) (imageOf w k l .heap)
-
-      to : every (leb 1 s ∷ leb (4 * s) (suc (length ws)) ∷ bare (λ _. false) g s ∷ leb s 1024 ∷ leb (nth ws 0) (4 * s - 2) ∷ []) ≡ true → headOk k g s n ≡ true
-      to e =
-          let a : 1 ≤ s = leb-true _ _ (every-use _ e 0) in
-          let b : 4 * s ≤ suc (length ws) = leb-true _ _ (every-use _ e 1) in
-          let c : s ≤ 1024 = leb-true _ _ (every-use _ e 3) in
-          let d : nth ws 0 ≤ 4 * s - 2 = leb-true _ _ (every-use _ e 4) in
-          let t : nth ws 0 ≡ n = tail-at 0 ∙ sym en in
-          head-make k g s n (record { pos = a; few = c; inside = omega (arith, tail-long); links-in = omega arith })
-
-      from : headOk k g s n ≡ true → every (leb 1 s ∷ leb (4 * s) (suc (length ws)) ∷ bare (λ _. false) g s ∷ leb s 1024 ∷ leb (nth ws 0) (4 * s - 2) ∷ []) ≡ true
-      from e =
-          let h = head-use k g s n e in
-          let t : nth ws 0 ≡ n = tail-at 0 ∙ sym en in
-          every-cons _ _ (le-leb _ _ (h .pos))
-          (every-cons _ _ (le-leb (4 * s) (suc (length ws)) (omega (arith, h .inside, tail-long)))
-          (every-cons _ _ (bare-nowhere g s)
-          (every-cons _ _ (le-leb _ _ (h .few))
-          (every-cons _ _ (le-leb (nth ws 0) (4 * s - 2) (omega (arith, h .links-in))) every-nil))))
+  object-is s n es en =
+      let ws : List ℕ = drop (suc (4 * g)) (imageOf w k l .heap) in
+      let t : nth ws 0 ≡ n = tail-at 0 ∙ sym en in
+      rw (← es) (same-test _ _
+      (λ e.
+      let h = head-use k g s n e in
+      every-cons _ _ (le-leb _ _ (h .pos))
+      (every-cons _ _ (le-leb (4 * s) (suc (length ws)) (omega (arith, h .inside, tail-long)))
+      (every-cons _ _ (bare-nowhere g s)
+      (every-cons _ _ (le-leb _ _ (h .few))
+      (every-cons _ _ (le-leb (nth ws 0) (4 * s - 2) (omega (arith, h .links-in))) every-nil)))))
+      (λ e.
+      let a : (1 ≤ s) × (4 * s ≤ suc (length ws)) = piece-size (λ _. false) g s ws 0 false true e in
+      let d : nth ws 0 ≤ 4 * s - 2 = leb-true _ _ (every-use _ e 4) in
+      head-make k g s n (record { pos = a .0; few = leb-true _ _ (every-use _ e 3); inside = omega (arith, tail-long); links-in = omega arith })))
 
   -- the words behind a run's two, as they stand in the heap
   tail-zero : (s : ℕ) → 1 ≤ s → g + s ≤ 64 * k → all (4 * s - 2) (λ i. eqb (nth (drop (suc (4 * g)) (imageOf w k l .heap)) (suc i)) 0) ≡ zeroes (take (4 * s - 2) (drop (4 * g + 2) (imageOf w k l .heap)))
@@ -129,34 +109,23 @@ module _ (w k : ℕ) (l : List ℕ) (z : Sized w k l) (g : ℕ) (hg : g < 64 * k
   module _ (next : ℕ) (run : Bool) (s : ℕ) (es : s ≡ word (imageOf w k l) g 0) where
     run-is : runOk (imageOf w k l) g next run ≡ (runHeadOk k g next run s && zeroes (take (4 * s - 2) (drop (4 * g + 2) (imageOf w k l .heap))))
     unfolding runOk piece
-    run-is = rw (← es) (same-test _ _ to from)
-      where
-        ws : List ℕ
-        ws = drop (suc (4 * g)) (imageOf w k l .heap)
-
-        to : every (leb 1 s ∷ leb (4 * s) (suc (length ws)) ∷ bare (λ _. false) g s ∷ not run ∷ eqb g next ∷ all (4 * s - 2) (λ i. eqb (nth ws (suc i)) 0) ∷ []) ≡ true
-            → (runHeadOk k g next run s && zeroes (take (4 * s - 2) (drop (4 * g + 2) (imageOf w k l .heap)))) ≡ true
-        to e =
-            let a : 1 ≤ s = leb-true _ _ (every-use _ e 0) in
-            let b : 4 * s ≤ suc (length ws) = leb-true _ _ (every-use _ e 1) in
-            let i : g + s ≤ 64 * k = omega (arith, tail-long) in
-            and-join _ _ (and-join _ _ (and-join _ _ (and-join _ _ (every-use _ e 3) (every-use _ e 4)) (le-leb _ _ a)) (le-leb _ _ i))
-            (sym (tail-zero s a i) ∙ every-use _ e 5)
-
-        from : (runHeadOk k g next run s && zeroes (take (4 * s - 2) (drop (4 * g + 2) (imageOf w k l .heap)))) ≡ true
-            → every (leb 1 s ∷ leb (4 * s) (suc (length ws)) ∷ bare (λ _. false) g s ∷ not run ∷ eqb g next ∷ all (4 * s - 2) (λ i. eqb (nth ws (suc i)) 0) ∷ []) ≡ true
-        from e =
-            let a = and-split _ _ e in
-            let h = run-use k g next run s (a .0) in
-            every-cons _ _ (le-leb _ _ (h .pos))
-            (every-cons _ _ (le-leb (4 * s) (suc (length ws)) (omega (arith, h .inside, tail-long)))
-            (every-cons _ _ (bare-nowhere g s)
-            (every-cons _ _ (ap not (h .apart))
-            (every-cons _ _ (eq-eqb _ _ (h .here))
-            (every-cons _ _ (tail-zero s (h .pos) (h .inside) ∙ a .1) every-nil)))))
+    run-is =
+        let ws : List ℕ = drop (suc (4 * g)) (imageOf w k l .heap) in
+        rw (← es) (same-test _ _
+        (λ e.
+        let a : (1 ≤ s) × (4 * s ≤ suc (length ws)) = piece-size (λ _. false) g s ws next run false e in
+        let i : g + s ≤ 64 * k = omega (arith, tail-long) in
+        and-join _ _ (and-join _ _ (and-join _ _ (and-join _ _ (every-use _ e 3) (every-use _ e 4)) (le-leb _ _ (a .0))) (le-leb _ _ i))
+        (sym (tail-zero s (a .0) i) ∙ every-use _ e 5))
+        (λ e.
+        let a = and-split _ _ e in
+        let h = run-use k g next run s (a .0) in
+        every-cons _ _ (le-leb _ _ (h .2))
+        (every-cons _ _ (le-leb (4 * s) (suc (length ws)) (omega (arith, h .3, tail-long)))
+        (every-cons _ _ (bare-nowhere g s) (every-cons _ _ (h .0) (every-cons _ _ (h .1) (every-cons _ _ (tail-zero s (h .2) (h .3) ∙ a .1) every-nil)))))))
 
     pub run-fits : not (runHeadOk k g next run s) ≡ false → (1 ≤ s) × (g + s ≤ 64 * k)
-    run-fits h = let r = run-use k g next run s (not-false _ h) in (r .pos, r .inside)
+    run-fits h = let r = run-use k g next run s (not-false _ h) in (r .2, r .3)
 
     pub run-no : not (runHeadOk k g next run s) ≡ true → false ≡ runOk (imageOf w k l) g next run
     run-no h = rw (run-is, not-true (runHeadOk k g next run s) h)

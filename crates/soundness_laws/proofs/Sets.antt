@@ -1,18 +1,19 @@
 -- Sets of granules as bits: the values that a link may name; no granule entered twice, by the set of those seen.
 use mathlib.Core.Path.{_≡_, refl, sym, ap, _∙_}
 use mathlib.Core.Bool.{Bool, true, false, not, _&&_, _||_, and-true, and-assoc, and-false, or-true, or-false, or-assoc}
+use mathlib.Core.Logic.{inl, inr}
 use mathlib.Core.List.{List, [], _∷_, _++_, append-assoc, append-nil}
 use Prim.Native.Nat.{ℕ, zero, suc, _+_, _*_, _-_, _/_, _<_, _%_, _^_, _≤_, min}
 use native.Mathlib.Decide.{ℕ-discrete, decLt}
 use native.Mathlib.Omega.{arith}
 use lib.Dec.{eqb}
 use lib.ListN.{length, getD, replicate, length-replicate}
-use borrow.Author.Tests.{eq-eqb, ne-eqb, ltb-true, leb-true}
+use borrow.Author.Tests.{eq-eqb, ne-eqb, eqb-true, ltb-true, leb-true}
 use Rattle.model.specs.Base.{nth, all, elem, distinct, bit, setBit, put, either, testBit, withBit}
 use Rattle.model.specs.Image.{Image, regsAt, sections, entries, image, imageOf, granules, isStart}
 use Rattle.model.specs.Undamaged.{entered, nilOrStart, regOk}
 use Rattle.image_laws.specs.Compare.{noMore, atMost}
-use Rattle.model.proofs.Laws.{either-no, every-use, all-use, all-make, length-put, nth-replicate, nth-put-same, nth-put-other}
+use Rattle.model.proofs.Laws.{bool-cases, either-no, every-use, all-use, all-make, length-put, nth-replicate, nth-put-same, nth-put-other}
 use Rattle.model.proofs.Bits.{setBit-same, setBit-other, bit-zeros}
 use Rattle.soundness_laws.specs.Sets.{Targets, fullAnd, fullWords, lastFull, setWords, noneIn, AddedOnce, EnteredSet}
 use Rattle.image_laws.specs.Sized.{Sized}
@@ -39,17 +40,15 @@ module _ (w k : ℕ) (l : List ℕ) (z : Sized w k l) where
   t-none set e = record { within = omega arith; long = rw e (length-replicate {A = ℕ} 4096 0); copied = λ j q. absurd (omega arith); rest = λ j q. rw e (nth-replicate 4096 j) }
 
   pub t-more : (set : List ℕ) (i v n : ℕ) → Copied w k l set i → n ≡ min (64 * k / w) 4096 → i < n → v ≡ nth (imageOf w k l .starts) i → Copied w k l (put set i v) (i + 1)
-  t-more set i v n c en h e =
-      record {
-        within = omega arith;
-        long = length-put set i v ∙ c .long;
-        copied = λ j q. first j q (ℕ-discrete j i);
-        rest = λ j q. nth-put-other set i j v (λ o. absurd (omega arith)) ∙ c .rest j (omega arith);
-      }
-    where
-      first : (j : ℕ) → j < i + 1 → Dec (j ≡ i) → nth (put set i v) j ≡ nth (imageOf w k l .starts) j
-      first j q (yes o) = rw o (nth-put-same set i v (omega (arith, c .long)) ∙ e)
-      first j q (no o) = nth-put-other set i j v o ∙ c .copied j (omega arith)
+  t-more set i v n c en h e = record {
+    within = omega arith;
+    long = length-put set i v ∙ c .long;
+    copied = λ j q. elim (ℕ-discrete j i) [
+      | yes o ↦ rw o (nth-put-same set i v (omega (arith, c .long)) ∙ e)
+      | no o ↦ nth-put-other set i j v o ∙ c .copied j (omega arith)
+    ];
+    rest = λ j q. nth-put-other set i j v (λ o. absurd (omega arith)) ∙ c .rest j (omega arith);
+  }
 
   pub t-place : (set : List ℕ) (i j : ℕ) → Copied w k l set i → j < 4096 → j < length set
   t-place set i j c h = omega (arith, c .long)
@@ -57,16 +56,9 @@ module _ (w k : ℕ) (l : List ℕ) (z : Sized w k l) where
   pub t-same : (set was : List ℕ) (i v : ℕ) → Copied w k l set i → was ≡ replicate 4096 0 → length (put set 0 v) ≡ length was
   t-same set was i v c e = rw (length-put set 0 v, e, length-replicate {A = ℕ} 4096 0) (c .long)
 
-  nil-or-start : (a : ℕ) → (eqb a 0 || isStart (imageOf w k l) a) ≡ nilOrStart (imageOf w k l) a
-  unfolding nilOrStart either granules imageOf image
-  nil-or-start a = rw (test-inside (isStart (imageOf w k l)) (64 * k) a (start-past w k l z a)) (go (eqb a 0))
-    where
-      go : (b : Bool) → (b || isStart (imageOf w k l) a) ≡ either b true (isStart (imageOf w k l) a)
-      go true = refl
-      go false = refl
-
   start-not-nil : (a : ℕ) → (a ≡ 0 → ⊥) → isStart (imageOf w k l) a ≡ nilOrStart (imageOf w k l) a
-  start-not-nil a h = sym (ap (λ b. b || isStart (imageOf w k l) a) (ne-eqb a 0 h)) ∙ nil-or-start a
+  unfolding nilOrStart either granules imageOf image
+  start-not-nil a h = rw (ne-eqb a 0 h) (sym (test-inside (isStart (imageOf w k l)) (64 * k) a (start-past w k l z a)))
 
   copy-is : (set : List ℕ) (i a : ℕ) → Copied w k l set i → min (64 * k / w) 4096 ≤ i → a / w < 4096 → Dec (a / w < i) → bit w set a ≡ isStart (imageOf w k l) a
   unfolding bit isStart testBit imageOf image
@@ -77,15 +69,16 @@ module _ (w k : ℕ) (l : List ℕ) (z : Sized w k l) where
       (sym (start-past w k l z a (omega (arith, words-full w k (sized-width z), div-mul-le-self a w, mul-comm w (a / w)))))
 
   pub t-end : (set : List ℕ) (i v n : ℕ) → Copied w k l set i → n ≡ min (64 * k / w) 4096 → n ≤ i → v ≡ withBit (nth set 0) 0 → Targets w (imageOf w k l) (put set 0 v)
-  unfolding setBit
-  t-end set i v n c en h e = record { long = length-put set 0 v ∙ c .long; bits = λ a q. rw e (go a q (ℕ-discrete a 0)) }
-    where
-      zeroth : put set 0 (withBit (nth set 0) 0) ≡ setBit w set 0
-      zeroth = rw (zero-div w, zero-mod w)
-
-      go : (a : ℕ) → a / w < 4096 → Dec (a ≡ 0) → bit w (put set 0 (withBit (nth set 0) 0)) a ≡ nilOrStart (imageOf w k l) a
-      go a q (yes o) = rw (zeroth, o) (setBit-same w set 0 (rw (zero-div w) (omega (arith, c .long))) ∙ nil-or-start 0)
-      go a q (no o) = rw zeroth (setBit-other w set 0 a o ∙ (copy-is set i a c (omega arith) q (decLt (a / w) i) ∙ start-not-nil a o))
+  unfolding setBit nilOrStart either
+  t-end set i v n c en h e =
+      let zeroth : put set 0 v ≡ setBit w set 0 = rw (e, zero-div w, zero-mod w) in
+      record {
+        long = length-put set 0 v ∙ c .long;
+        bits = λ a q. rw zeroth (elim (ℕ-discrete a 0) [
+          | yes o ↦ rw o (setBit-same w set 0 (rw (zero-div w) (omega (arith, c .long))))
+          | no o ↦ setBit-other w set 0 a o ∙ (copy-is set i a c (omega arith) q (decLt (a / w) i) ∙ start-not-nil a o)
+        ]);
+      }
 
   -- ---- the ways out of `is_target`
 
@@ -93,14 +86,11 @@ module _ (w k : ℕ) (l : List ℕ) (z : Sized w k l) where
     pub target-bit : (r : Bool) → a / w < 4096 → r ≡ bit w set a → r ≡ nilOrStart (imageOf w k l) a
     target-bit r h e = e ∙ t .bits a h
 
-    not-nil : 4096 ≤ a / w → a ≡ 0 → ⊥
-    not-nil h e = omega (arith, rw e at h, zero-div w)
-
     pub target-start : (r : Bool) → 4096 ≤ a / w → r ≡ isStart (imageOf w k l) a → r ≡ nilOrStart (imageOf w k l) a
-    target-start r h e = e ∙ start-not-nil a (not-nil h)
+    target-start r h e = e ∙ start-not-nil a (λ q. omega (arith, rw q at h, zero-div w))
 
     pub target-past : 4096 ≤ a / w → 64 * k ≤ a → false ≡ nilOrStart (imageOf w k l) a
-    target-past h p = sym (start-past w k l z a p) ∙ start-not-nil a (not-nil h)
+    target-past h p = sym (start-past w k l z a p) ∙ start-not-nil a (λ q. omega (arith, rw q at h, zero-div w))
 
 pub target-word : (m : Image) (a v : ℕ) (r : Bool) → v ≡ a → r ≡ nilOrStart m v → r ≡ nilOrStart m a
 target-word m a v r e q = q ∙ ap (nilOrStart m) e
@@ -130,11 +120,7 @@ module _ (w : ℕ) where
 
   module _ (set : List ℕ) (i : ℕ) (f : FullUpto w set i) where
     pub full-more : i < length set → nth set i ≡ 2 ^ w - 1 → FullUpto w set (i + 1)
-    full-more h e = record { within = omega arith; full = λ j q. go j q (ℕ-discrete j i) }
-      where
-        go : (j : ℕ) → j < i + 1 → Dec (j ≡ i) → nth set j ≡ 2 ^ w - 1
-        go j q (yes o) = rw o e
-        go j q (no o) = f .full j (omega arith)
+    full-more h e = record { within = omega arith; full = λ j q. elim (ℕ-discrete j i) [ yes o ↦ rw o e | no o ↦ f .full j (omega arith) ] }
 
     pub full-stop : (nth set i ≡ 2 ^ w - 1 → ⊥) → i ≡ fullWords w set
     full-stop s = full-is set i f (λ h. s)
@@ -145,44 +131,35 @@ module _ (w : ℕ) where
   pub full-few : (set : List ℕ) → fullWords w set ≤ length set
   unfolding fullWords fullAnd
   full-few [] = omega arith
-  full-few (x ∷ l) = go (eqb x (2 ^ w - 1)) (full-few l)
-    where
-      go : (b : Bool) → fullWords w l ≤ length l → fullAnd b (fullWords w l) ≤ length (x ∷ l)
-      go true h = omega arith
-      go false h = omega arith
+  full-few (x ∷ l) = elim (eqb x (2 ^ w - 1)) as (λ b. fullAnd b (fullWords w l) ≤ length (x ∷ l)) [ true ↦ omega (arith, full-few l) | false ↦ omega arith ]
 
   full-word : (set : List ℕ) (j : ℕ) → j < fullWords w set → nth set j ≡ 2 ^ w - 1
   unfolding fullWords fullAnd nth
   full-word [] j h = absurd (omega arith)
-  full-word (x ∷ l) j h = go j (ℕ-discrete x (2 ^ w - 1)) h (full-word l)
-    where
-      go : (j : ℕ) → Dec (x ≡ 2 ^ w - 1) → j < fullAnd (eqb x (2 ^ w - 1)) (fullWords w l) → ((i : ℕ) → i < fullWords w l → nth l i ≡ 2 ^ w - 1) → nth (x ∷ l) j ≡ 2 ^ w - 1
-      go zero (yes e) h ih = e
-      go (suc j) (yes e) h ih = ih j (omega (arith, rw (eq-eqb x (2 ^ w - 1) e) at h))
-      go j (no e) h ih = absurd (omega (arith, rw (ne-eqb x (2 ^ w - 1) e) at h))
+  full-word (x ∷ l) zero h = elim (bool-cases (eqb x (2 ^ w - 1))) [ inl e ↦ eqb-true _ _ e | inr e ↦ absurd (omega (arith, rw e at h)) ]
+  full-word (x ∷ l) (suc j) h = elim (bool-cases (eqb x (2 ^ w - 1))) [ inl e ↦ full-word l j (omega (arith, rw e at h)) | inr e ↦ absurd (omega (arith, rw e at h)) ]
 
-  ones-bit : (j : ℕ) → j < w → testBit (2 ^ w - 1) j ≡ true
-  ones-bit j h = on-digit _ (omega (arith, bit-not w 0 (2 ^ w - 1) j (omega (arith, pow-pos w)) h, bit-none j))
+  -- a word of w bits that are all set
+  pub ones-bit : (x j : ℕ) → x + 1 ≡ 2 ^ w → j < w → testBit x j ≡ true
+  ones-bit x j e h = on-digit (testBit x j) (omega (arith, bit-not w 0 x j (omega arith) h, bit-none j))
 
   pub full-place : (set : List ℕ) (g : ℕ) → g < w * fullWords w set → g / w < fullWords w set
   full-place set g h = div-lt-iff-lt-mul (some-width w (fullWords w set) g h) .1 (rw (mul-comm (fullWords w set) w) h)
 
   full-bit : (set : List ℕ) (g : ℕ) → g < w * fullWords w set → bit w set g ≡ true
   unfolding bit
-  full-bit set g h = rw (full-word set (g / w) (full-place set g h)) (ones-bit (g % w) (mod-lt g (some-width w (fullWords w set) g h)))
+  full-bit set g h =
+      rw (full-word set (g / w) (full-place set g h)) (ones-bit (2 ^ w - 1) (g % w) (omega (arith, pow-pos w)) (mod-lt g (some-width w (fullWords w set) g h)))
 
 -- ---- what the full words of the targets tell: their values are nil or starts
 
 module _ (w k : ℕ) (l : List ℕ) (z : Sized w k l) (set : List ℕ) (t : Targets w (imageOf w k l) set) where
   pub low-target : (a : ℕ) → a ≤ lastFull w set → nilOrStart (imageOf w k l) a ≡ true
   unfolding nilOrStart either
-  low-target a h = go (ℕ-discrete a 0)
-    where
-      go : Dec (a ≡ 0) → nilOrStart (imageOf w k l) a ≡ true
-      go (yes e) = rw e refl
-      go (no e) =
-          let q : a < w * fullWords w set = omega arith in
-          sym (t .bits a (omega (arith, full-place w set a q, full-few w set, t .long))) ∙ full-bit w set a q
+  low-target a h = elim (ℕ-discrete a 0) [
+    | yes e ↦ rw e
+    | no e ↦ let q : a < w * fullWords w set = omega arith in sym (t .bits a (omega (arith, full-place w set a q, full-few w set, t .long))) ∙ full-bit w set a q
+  ]
 
   pub full-start : (a : ℕ) → 1 ≤ a → a < w * fullWords w set → (a < 64 * k) × (isStart (imageOf w k l) a ≡ true)
   unfolding nilOrStart granules imageOf image
@@ -191,11 +168,10 @@ module _ (w k : ℕ) (l : List ℕ) (z : Sized w k l) (set : List ℕ) (t : Targ
       (ltb-true _ _ (every-use _ e 0), every-use _ e 1)
 
   pub full-inside : w * fullWords w set ≤ 64 * k
-  full-inside = go (decLt 1 (w * fullWords w set))
-    where
-      go : Dec (1 < w * fullWords w set) → w * fullWords w set ≤ 64 * k
-      go (yes h) = omega (arith, full-start (w * fullWords w set - 1) (omega arith) (omega arith) .0)
-      go (no h) = omega (arith, z .low)
+  full-inside = elim (decLt 1 (w * fullWords w set)) [
+    | yes h ↦ omega (arith, full-start (w * fullWords w set - 1) (omega arith) (omega arith) .0)
+    | no h ↦ omega (arith, z .low)
+  ]
 
   regs-words : length (imageOf w k l .regs) ≡ 256
   unfolding sections imageOf image
@@ -209,60 +185,41 @@ module _ (w k : ℕ) (l : List ℕ) (z : Sized w k l) (set : List ℕ) (t : Targ
   -- the first of them holds more
   pub high-reg : (top x : ℕ) → x ≡ nth (imageOf w k l .regs) 0 → top < x → false ≡ atMost top (imageOf w k l .regs)
   unfolding atMost noMore
-  high-reg top x e h = go (all (length (imageOf w k l .regs)) (noMore top (imageOf w k l .regs))) refl
-    where
-      go : (b : Bool) → all (length (imageOf w k l .regs)) (noMore top (imageOf w k l .regs)) ≡ b → false ≡ b
-      go false q = refl
-      go true q = absurd (omega (arith, leb-true (nth (imageOf w k l .regs) 0) top (all-use _ _ q 0 (omega (arith, regs-words)))))
+  high-reg top x e h = elim (bool-cases (all (length (imageOf w k l .regs)) (noMore top (imageOf w k l .regs)))) [
+    | inl q ↦ absurd (omega (arith, leb-true (nth (imageOf w k l .regs) 0) top (all-use _ _ q 0 (omega (arith, regs-words)))))
+    | inr q ↦ sym q
+  ]
 
 -- ---- no granule twice, by the set of those seen
 
 eqb-sym : (x y : ℕ) → eqb x y ≡ eqb y x
-eqb-sym x y = go (ℕ-discrete x y)
-  where
-    go : Dec (x ≡ y) → eqb x y ≡ eqb y x
-    go (yes e) = rw e refl
-    go (no e) = rw (ne-eqb x y e, ne-eqb y x (λ q. e (sym q)))
+eqb-sym x y = elim (ℕ-discrete x y) [ yes e ↦ rw e | no e ↦ rw (ne-eqb x y e, ne-eqb y x (λ q. e (sym q))) ]
 
 -- one more granule in the set
 bit-more : (w : ℕ) (seen : List ℕ) (x g : ℕ) → x / w < length seen → bit w (setBit w seen x) g ≡ (bit w seen g || eqb g x)
-bit-more w seen x g h = go (ℕ-discrete g x)
-  where
-    go : Dec (g ≡ x) → bit w (setBit w seen x) g ≡ (bit w seen g || eqb g x)
-    go (yes e) = rw (e, setBit-same w seen x h, eq-eqb x x refl) (sym (or-true (bit w seen x)))
-    go (no e) = rw (setBit-other w seen x g e, ne-eqb g x e) (sym (or-false (bit w seen g)))
+bit-more w seen x g h = elim (ℕ-discrete g x) [
+  | yes e ↦ rw (e, setBit-same w seen x h, eq-eqb x x refl) (sym (or-true (bit w seen x)))
+  | no e ↦ rw (setBit-other w seen x g e, ne-eqb g x e) (sym (or-false (bit w seen g)))
+]
 
 none-more : (w : ℕ) (seen : List ℕ) (x : ℕ) (l : List ℕ) → x / w < length seen → noneIn w (setBit w seen x) l ≡ (noneIn w seen l && not (elem x l))
 unfolding noneIn elem
 none-more w seen x [] h = refl
-none-more w seen x (y ∷ l) h = rw (none-more w seen x l h, bit-more w seen x y h, eqb-sym x y) (go (bit w seen y) (eqb y x) (noneIn w seen l) (elem x l))
-  where
-    go : (a b c d : Bool) → (not (a || b) && (c && not d)) ≡ ((not a && c) && not (b || d))
-    go true b c d = refl
-    go false true c d = sym (and-false c)
-    go false false c d = refl
+none-more w seen x (y ∷ l) h =
+    rw (none-more w seen x l h, bit-more w seen x y h, eqb-sym x y)
+    (elim (bool-cases (bit w seen y)) [ inl e ↦ rw e | inr e ↦ elim (bool-cases (eqb y x)) [ inl f ↦ rw (e, f) (sym (and-false (noneIn w seen l))) | inr f ↦ rw (e, f) ] ])
 
 pub once-none : {w : ℕ} {before : List ℕ} → AddedOnce w before [] true before
 unfolding elem
 once-none = record { same-length = refl; once = λ rest. refl; holds = λ g. sym (or-false _) }
 
-length-setBit : (w : ℕ) (ws : List ℕ) (g : ℕ) → length (setBit w ws g) ≡ length ws
-unfolding setBit
-length-setBit w ws g = length-put ws _ _
-
 pub once-one : (w : ℕ) (seen : List ℕ) (x : ℕ) → x / w < length seen → AddedOnce w seen (x ∷ []) (not (bit w seen x)) (setBit w seen x)
-unfolding noneIn distinct elem
-once-one w seen x h =
-    record {
-      same-length = length-setBit w seen x;
-      once = λ rest. rw (none-more w seen x rest h) (swap (not (bit w seen x)) (noneIn w seen rest) (not (elem x rest)) (distinct rest));
-      holds = λ g. rw (or-false (eqb g x)) (bit-more w seen x g h);
-    }
-  where
-    swap : (a b c d : Bool) → ((a && b) && (c && d)) ≡ (a && ((b && c) && d))
-    swap true true c d = refl
-    swap true false c d = refl
-    swap false b c d = refl
+unfolding noneIn distinct elem setBit
+once-one w seen x h = record {
+  same-length = length-put seen _ _;
+  once = λ rest. rw (none-more w seen x rest h) (simp and-assoc);
+  holds = λ g. rw (or-false (eqb g x)) (bit-more w seen x g h);
+}
 
 elem-append : (g : ℕ) (l r : List ℕ) → elem g (l ++ r) ≡ (elem g l || elem g r)
 unfolding elem
@@ -270,12 +227,11 @@ elem-append g [] r = refl
 elem-append g (x ∷ l) r = rw (elem-append g l r) (sym (or-assoc (eqb g x) _ _))
 
 pub once-append : {w : ℕ} {a b c l r : List ℕ} {s t : Bool} → AddedOnce w a l s b → AddedOnce w b r t c → AddedOnce w a (l ++ r) (s && t) c
-once-append {w} {a} {b} {c} {l} {r} {s} {t} p q =
-    record {
-      same-length = q .same-length ∙ p .same-length;
-      once = λ rest. rw (append-assoc l r rest) (p .once (r ++ rest) ∙ rw (q .once rest) (sym (and-assoc s t _)));
-      holds = λ g. q .holds g ∙ rw (p .holds g, elem-append g l r) (or-assoc (bit w a g) (elem g l) (elem g r));
-    }
+once-append {w} {a} {b} {c} {l} {r} {s} {t} p q = record {
+  same-length = q .same-length ∙ p .same-length;
+  once = λ rest. rw (append-assoc l r rest) (p .once (r ++ rest) ∙ rw (q .once rest) (sym (and-assoc s t _)));
+  holds = λ g. q .holds g ∙ rw (p .holds g, elem-append g l r) (or-assoc (bit w a g) (elem g l) (elem g r));
+}
 
 none-zeros : (w n : ℕ) (l : List ℕ) → noneIn w (replicate n 0) l ≡ true
 unfolding noneIn

@@ -1,6 +1,6 @@
 -- Objects of one granule, side by side: the tests that find them, and the walk's turns that they stand for.
-use mathlib.Core.Path.{_≡_, refl, sym, subst, _∙_, ap}
-use mathlib.Core.Bool.{Bool, true, false, _&&_, and-true, and-assoc}
+use mathlib.Core.Path.{_≡_, refl, sym, _∙_, ap}
+use mathlib.Core.Bool.{Bool, true, false, _&&_, and-true, and-assoc, or-true}
 use mathlib.Core.List.{List, [], _∷_}
 use Prim.Native.Nat.{ℕ, zero, suc, _+_, _*_, _-_, _/_, _%_, _≤_, _<_, min}
 use native.Mathlib.Nat.{add-zero, mul-suc, mul-le-mul-left, mod-lt, div-add-mod}
@@ -8,13 +8,11 @@ use native.Mathlib.Numerals.{add-one}
 use native.Mathlib.Decide.{ℕ-discrete, decLt}
 use native.Mathlib.Omega.{arith}
 use lib.Dec.{eqb, leb}
-use lib.ListN.{length, take, drop, length-drop}
-use lib.Seq.{length-take-le}
+use lib.ListN.{length, take, drop, length-take, length-drop}
 use borrow.Author.Tests.{leb-true, eqb-true, le-leb, eq-eqb}
 use Rattle.model.specs.Base.{nth, all, every}
 use Rattle.model.specs.Image.{Image, imageOf, word, isStart, links, link, firstRun}
-use Rattle.model.proofs.Laws.{all-use, all-make, every-use, every-cons, every-nil, length-put, nth-put-same, nth-put-other}
-use Rattle.model.proofs.Entries.{nth-drop, nth-take}
+use Rattle.model.proofs.Laws.{all-use, every-use, every-cons, every-nil, length-put, nth-put-same, nth-put-other}
 use Rattle.image_laws.specs.Sized.{Sized}
 use Rattle.image_laws.specs.Compare.{between, within}
 use Rattle.image_laws.specs.Digits.{digit}
@@ -22,7 +20,7 @@ use Rattle.image_laws.proofs.Lengths.{heap-words}
 use Rattle.soundness_laws.specs.Tests.{linkOk, objectOk, onward}
 use Rattle.soundness_laws.specs.Sets.{Targets, fullWords, lastFull}
 use Rattle.soundness_laws.specs.Small.{smallAt, SmallFrom, SmallUpto, leastAt, mostAt, Bounds, putFour}
-use Rattle.soundness_laws.proofs.Checks.{from-use}
+use Rattle.soundness_laws.proofs.Checks.{from-use, first-two, nth-part}
 use Rattle.soundness_laws.proofs.Sets.{some-width, low-target, full-place, full-start, full-inside}
 use Rattle.soundness_laws.proofs.Pieces.{head-make, object-is, piece-object, next-of-object}
 use Rattle.soundness_laws.proofs.Heap.{HeapWalk, w-start, w-more, links-object}
@@ -48,19 +46,18 @@ module _ (l : List ℕ) (o a b c d : ℕ) where
       ∙ (nth-put-other _ (o + 1) q b (λ e. h (omega arith) (omega arith))
       ∙ nth-put-other l o q a (λ e. h (omega arith) (omega arith))))
 
-  module _ (h : o + 4 ≤ length l) where
-    four-at : (j : ℕ) → j < 4 → nth (putFour l o a b c d) (o + j) ≡ nth (a ∷ b ∷ c ∷ d ∷ []) j
-    unfolding putFour nth
-    four-at zero q =
-        rw (add-zero o)
-        (nth-put-other _ (o + 3) o d (λ e. absurd (omega arith))
-        ∙ (nth-put-other _ (o + 2) o c (λ e. absurd (omega arith)) ∙ (nth-put-other _ (o + 1) o b (λ e. absurd (omega arith)) ∙ nth-put-same l o a (omega arith))))
-    four-at (suc zero) q =
-        nth-put-other _ (o + 3) (o + 1) d (λ e. absurd (omega arith))
-        ∙ (nth-put-other _ (o + 2) (o + 1) c (λ e. absurd (omega arith)) ∙ nth-put-same _ (o + 1) b (simp length-put (omega arith)))
-    four-at (suc (suc zero)) q = nth-put-other _ (o + 3) (o + 2) d (λ e. absurd (omega arith)) ∙ nth-put-same _ (o + 2) c (simp length-put (omega arith))
-    four-at (suc (suc (suc zero))) q = nth-put-same _ (o + 3) d (simp length-put (omega arith))
-    four-at (suc (suc (suc (suc j)))) q = absurd (omega arith)
+  four-at : o + 4 ≤ length l → (j : ℕ) → j < 4 → nth (putFour l o a b c d) (o + j) ≡ nth (a ∷ b ∷ c ∷ d ∷ []) j
+  unfolding putFour nth
+  four-at h zero q =
+      rw (add-zero o)
+      (nth-put-other _ (o + 3) o d (λ e. absurd (omega arith))
+      ∙ (nth-put-other _ (o + 2) o c (λ e. absurd (omega arith)) ∙ (nth-put-other _ (o + 1) o b (λ e. absurd (omega arith)) ∙ nth-put-same l o a (omega arith))))
+  four-at h (suc zero) q =
+      nth-put-other _ (o + 3) (o + 1) d (λ e. absurd (omega arith))
+      ∙ (nth-put-other _ (o + 2) (o + 1) c (λ e. absurd (omega arith)) ∙ nth-put-same _ (o + 1) b (simp length-put (omega arith)))
+  four-at h (suc (suc zero)) q = nth-put-other _ (o + 3) (o + 2) d (λ e. absurd (omega arith)) ∙ nth-put-same _ (o + 2) c (simp length-put (omega arith))
+  four-at h (suc (suc (suc zero))) q = nth-put-same _ (o + 3) d (simp length-put (omega arith))
+  four-at h (suc (suc (suc (suc j)))) q = absurd (omega arith)
 
 module _ (w top : ℕ) (l : List ℕ) where
   pub bounds-none : length l ≡ 8 * w → Bounds w top 0 l
@@ -70,29 +67,21 @@ module _ (w top : ℕ) (l : List ℕ) where
     pub bounds-more : n < w → Bounds w top (n + 1) (putFour (putFour l (4 * n) 1 0 0 0) (4 * w + 4 * n) 1 2 top top)
     unfolding leastAt mostAt
     bounds-more s =
+        let r : List ℕ = putFour l (4 * n) 1 0 0 0 in
+        let long : length r ≡ 8 * w = four-length l (4 * n) 1 0 0 0 ∙ b .long in
+        let last = four-other r (4 * w + 4 * n) 1 2 top top in
         record {
           within = omega arith;
-          long = four-length (putFour l (4 * n) 1 0 0 0) (4 * w + 4 * n) 1 2 top top ∙ first-length;
-          least = λ i j h q. least i j h q (ℕ-discrete i n);
-          most = λ i j h q. most i j h q (ℕ-discrete i n);
+          long = four-length r (4 * w + 4 * n) 1 2 top top ∙ long;
+          least = λ i j h q. last (4 * i + j) (λ x y. omega arith) ∙ elim (ℕ-discrete i n) [
+            | yes e ↦ rw e (four-at l (4 * n) 1 0 0 0 (omega (arith, b .long)) j q)
+            | no e ↦ four-other l (4 * n) 1 0 0 0 (4 * i + j) (λ x y. omega arith) ∙ b .least i j (omega arith) q
+          ];
+          most = λ i j h q. elim (ℕ-discrete i n) [
+            | yes e ↦ rw e (four-at r (4 * w + 4 * n) 1 2 top top (omega arith) j q)
+            | no e ↦ last (4 * w + 4 * i + j) (λ x y. omega arith) ∙ (four-other l (4 * n) 1 0 0 0 (4 * w + 4 * i + j) (λ x y. omega arith) ∙ b .most i j (omega arith) q)
+          ];
         }
-      where
-        first-length : length (putFour l (4 * n) 1 0 0 0) ≡ 8 * w
-        first-length = four-length l (4 * n) 1 0 0 0 ∙ b .long
-
-        least : (i j : ℕ) → i < n + 1 → j < 4 → Dec (i ≡ n) → nth (putFour (putFour l (4 * n) 1 0 0 0) (4 * w + 4 * n) 1 2 top top) (4 * i + j) ≡ nth (1 ∷ 0 ∷ 0 ∷ 0 ∷ []) j
-        least i j h q (yes e) =
-            four-other (putFour l (4 * n) 1 0 0 0) (4 * w + 4 * n) 1 2 top top (4 * i + j) (λ x y. omega arith)
-            ∙ rw e (four-at l (4 * n) 1 0 0 0 (omega (arith, b .long)) j q)
-        least i j h q (no e) =
-            four-other (putFour l (4 * n) 1 0 0 0) (4 * w + 4 * n) 1 2 top top (4 * i + j) (λ x y. omega arith)
-            ∙ (four-other l (4 * n) 1 0 0 0 (4 * i + j) (λ x y. omega arith) ∙ b .least i j (omega arith) q)
-
-        most : (i j : ℕ) → i < n + 1 → j < 4 → Dec (i ≡ n) → nth (putFour (putFour l (4 * n) 1 0 0 0) (4 * w + 4 * n) 1 2 top top) (4 * w + 4 * i + j) ≡ nth (1 ∷ 2 ∷ top ∷ top ∷ []) j
-        most i j h q (yes e) = rw e (four-at (putFour l (4 * n) 1 0 0 0) (4 * w + 4 * n) 1 2 top top (omega (arith, first-length)) j q)
-        most i j h q (no e) =
-            four-other (putFour l (4 * n) 1 0 0 0) (4 * w + 4 * n) 1 2 top top (4 * w + 4 * i + j) (λ x y. omega arith)
-            ∙ (four-other l (4 * n) 1 0 0 0 (4 * w + 4 * i + j) (λ x y. omega arith) ∙ b .most i j (omega arith) q)
 
     pub bounds-end : w ≤ n → Bounds w top w l
     bounds-end h = let e : n ≡ w = omega (arith, b .within) in rw e at b
@@ -118,52 +107,35 @@ module _ (w k : ℕ) (l set bs : List ℕ) (z : Sized w k l) (t : Targets w (ima
 
     -- they are as many as the bounds that they are held to
     pub word-fits : (4 * (a - c + w) - 4 * a ≤ length lows) × (4 * (a - c + w) - 4 * a ≤ length highs)
-    word-fits =
-        let p : length lows ≡ 4 * w - 4 * c = length-take-le (4 * w - 4 * c) (drop (4 * c) bs) (simp length-drop (omega (arith, b .long))) in
-        let q : length highs ≡ 8 * w - (4 * w + 4 * c) = length-take-le (8 * w - (4 * w + 4 * c)) (drop (4 * w + 4 * c) bs) (simp length-drop (omega (arith, b .long))) in
-        (omega arith, omega arith)
+    word-fits = (simp (length-take, length-drop) (omega (arith, b .long)), simp (length-take, length-drop) (omega (arith, b .long)))
 
     module _ (h : within lows highs words ≡ true) (d : ℕ) (hd : c + d < w) where
       word-between : (j : ℕ) → j < 4 → (leastAt j ≤ word (imageOf w k l) (a + d) j) × (word (imageOf w k l) (a + d) j ≤ mostAt (lastFull w set) j)
       unfolding within between word
       word-between j q =
-          let above : nth lows (4 * d + j) ≤ nth words (4 * d + j) = leb-true _ _ (every-use _ e 0) in
-          let below : nth words (4 * d + j) ≤ nth highs (4 * d + j) = leb-true _ _ (every-use _ e 1) in
-          (omega (arith, low, this), omega (arith, high, this))
-        where
-          long : length words ≡ 4 * (a - c + w) - 4 * a
-          long = length-take-le (4 * (a - c + w) - 4 * a) (drop (4 * a) (imageOf w k l .heap)) (simp length-drop (omega (arith, heap-words z)))
-
-          e : every (leb (nth lows (4 * d + j)) (nth words (4 * d + j)) ∷ leb (nth words (4 * d + j)) (nth highs (4 * d + j)) ∷ []) ≡ true
-          e = all-use (length words) _ h (4 * d + j) (rw long (omega arith))
-
-          low : nth lows (4 * d + j) ≡ leastAt j
-          low =
-              let p : 4 * c + (4 * d + j) ≡ 4 * (c + d) + j = omega arith in
-              nth-take (4 * w - 4 * c) (drop (4 * c) bs) (4 * d + j) (omega arith) ∙ (nth-drop (4 * c) bs (4 * d + j) ∙ rw p (b .least (c + d) j hd q))
-
-          high : nth highs (4 * d + j) ≡ mostAt (lastFull w set) j
-          high =
-              let p : 4 * w + 4 * c + (4 * d + j) ≡ 4 * w + 4 * (c + d) + j = omega arith in
-              nth-take (8 * w - (4 * w + 4 * c)) (drop (4 * w + 4 * c) bs) (4 * d + j) (omega arith) ∙ (nth-drop (4 * w + 4 * c) bs (4 * d + j) ∙ rw p (b .most (c + d) j hd q))
-
-          this : nth words (4 * d + j) ≡ nth (imageOf w k l .heap) (4 * (a + d) + j)
-          this =
-              let p : 4 * a + (4 * d + j) ≡ 4 * (a + d) + j = omega arith in
-              nth-take (4 * (a - c + w) - 4 * a) (drop (4 * a) (imageOf w k l .heap)) (4 * d + j) (omega arith) ∙ (nth-drop (4 * a) (imageOf w k l .heap) (4 * d + j) ∙ rw p refl)
+          let this : 4 * a + (4 * d + j) ≡ 4 * (a + d) + j = omega arith in
+          let low : 4 * c + (4 * d + j) ≡ 4 * (c + d) + j = omega arith in
+          let high : 4 * w + 4 * c + (4 * d + j) ≡ 4 * w + 4 * (c + d) + j = omega arith in
+          let long : 4 * d + j < length words = simp (length-take, length-drop) (omega (arith, heap-words z)) in
+          let p = nth-part (4 * (a - c + w) - 4 * a) (4 * a) (imageOf w k l .heap) (4 * d + j) (omega arith) in
+          let e = rw (p, this) at (all-use (length words) _ h (4 * d + j) long) in
+          let above : nth lows (4 * d + j) ≤ nth (imageOf w k l .heap) (4 * (a + d) + j) = leb-true _ _ (every-use _ e 0) in
+          let below : nth (imageOf w k l .heap) (4 * (a + d) + j) ≤ nth highs (4 * d + j) = leb-true _ _ (every-use _ e 1) in
+          let least : nth lows (4 * d + j) ≡ leastAt j = nth-part (4 * w - 4 * c) (4 * c) bs (4 * d + j) (omega arith) ∙ rw low (b .least (c + d) j hd q) in
+          let most : nth highs (4 * d + j) ≡ mostAt (lastFull w set) j =
+          nth-part (8 * w - (4 * w + 4 * c)) (4 * w + 4 * c) bs (4 * d + j) (omega arith) ∙ rw high (b .most (c + d) j hd q) in
+          (omega arith, omega arith)
 
       bounded-small : smallAt (imageOf w k l) (a + d) ≡ true
       unfolding smallAt leastAt mostAt nth links linkOk link
       bounded-small =
           let one : (1 ≤ word (imageOf w k l) (a + d) 0) × (word (imageOf w k l) (a + d) 0 ≤ 1) = word-between 0 (omega arith) in
           let few : word (imageOf w k l) (a + d) 1 ≤ 2 = word-between 1 (omega arith) .1 in
+          let first : linkOk (imageOf w k l) (a + d) 0 ≡ true = low-target w k l z set t _ (word-between 2 (omega arith) .1) in
+          let last : linkOk (imageOf w k l) (a + d) 1 ≡ true = low-target w k l z set t _ (word-between 3 (omega arith) .1) in
           every-cons _ _ (eq-eqb (word (imageOf w k l) (a + d) 0) 1 (omega arith))
-          (every-cons _ _ (le-leb _ _ few) (every-cons _ _ (all-make _ _ (λ i q. link-low i (omega arith))) every-nil))
-        where
-          link-low : (i : ℕ) → i < 2 → linkOk (imageOf w k l) (a + d) i ≡ true
-          link-low zero q = low-target w k l z set t _ (word-between 2 (omega arith) .1)
-          link-low (suc zero) q = low-target w k l z set t _ (word-between 3 (omega arith) .1)
-          link-low (suc (suc i)) q = absurd (omega arith)
+          (every-cons _ _ (le-leb _ _ few)
+          (every-cons _ _ (sym (first-two (linkOk (imageOf w k l) (a + d)) _ true true (sym first) (sym last)) ∙ simp or-true) every-nil))
 
     pub word-small : (r : Bool) → r ≡ within lows highs words → r ≡ true → SmallFrom (imageOf w k l) a (a - c + w)
     word-small r e h = record { small = λ g p q. let o : a + (g - a) ≡ g = omega arith in rw o at (bounded-small (sym e ∙ h) (g - a) (omega arith)) }
@@ -171,31 +143,23 @@ module _ (w k : ℕ) (l set bs : List ℕ) (z : Sized w k l) (t : Targets w (ima
 -- ---- bit words one after the other
 
 module _ (w k : ℕ) (l set : List ℕ) (z : Sized w k l) (t : Targets w (imageOf w k l) set) where
-  -- the bit word of granule a ends among those that are full
-  word-end : (a : ℕ) → a < w * fullWords w set → (a % w < w) × ((a % w ≤ a) × (a - a % w + w ≤ w * fullWords w set))
-  word-end a h =
-      let m : w * (a / w + 1) ≤ w * fullWords w set = mul-le-mul-left w (omega (arith, full-place w set a h)) in
-      let s : w * (a / w + 1) ≡ w * (a / w) + w = rw (add-one (a / w)) (mul-suc w (a / w)) in
-      let e : w * (a / w) + a % w ≡ a = div-add-mod a w in
-      (mod-lt a (some-width w (fullWords w set) a h), (omega arith, omega arith))
-
   pub upto-none : SmallUpto k (imageOf w k l) 1
   upto-none = record { low = omega arith; high = omega (arith, z .low); starts = λ g p q. absurd (omega arith); objects = record { small = λ g p q. absurd (omega arith) } }
 
-  module _ (a : ℕ) (u : SmallUpto k (imageOf w k l) a) (h : a < w * fullWords w set) where
-    pub upto-more : SmallFrom (imageOf w k l) a (a - a % w + w) → SmallUpto k (imageOf w k l) (a - a % w + w)
-    upto-more f =
-        let e = word-end a h in
-        record {
-          low = omega (arith, u .low, e .0, e .1 .0);
-          high = omega (arith, full-inside w k l z set t, e .1 .1);
-          starts = λ g p q. full-start w k l z set t g p (omega (arith, e .1 .1)) .1;
-          objects = record { small = λ g p q. go g p q (decLt g a) };
-        }
-      where
-        go : (g : ℕ) → 1 ≤ g → g < a - a % w + w → Dec (g < a) → smallAt (imageOf w k l) g ≡ true
-        go g p q (yes r) = u .objects .small g p r
-        go g p q (no r) = f .small g (omega arith) q
+  -- the bit word of granule a ends among those that are full
+  pub upto-more : (a : ℕ) → SmallUpto k (imageOf w k l) a → a < w * fullWords w set
+      → SmallFrom (imageOf w k l) a (a - a % w + w) → SmallUpto k (imageOf w k l) (a - a % w + w)
+  upto-more a u h f =
+      let m : w * (a / w + 1) ≤ w * fullWords w set = mul-le-mul-left w (omega (arith, full-place w set a h)) in
+      let s : w * (a / w + 1) ≡ w * (a / w) + w = rw (add-one (a / w)) (mul-suc w (a / w)) in
+      let e : w * (a / w) + a % w ≡ a = div-add-mod a w in
+      let r : a % w < w = mod-lt a (some-width w (fullWords w set) a h) in
+      record {
+        low = omega (arith, u .low);
+        high = omega (arith, full-inside w k l z set t);
+        starts = λ g p q. full-start w k l z set t g p (omega arith) .1;
+        objects = record { small = λ g p q. elim (decLt g a) [ yes r ↦ u .objects .small g p r | no r ↦ f .small g (omega arith) q ] };
+      }
 
 -- ---- the walk goes over them
 
@@ -219,6 +183,4 @@ module _ (w k : ℕ) (l : List ℕ) (z : Sized w k l) where
         rw e (one-turn (n + 1) first n (turns n shorter) (omega (arith, u .high)) (u .starts (n + 1) (omega arith) (omega arith)) (u .objects .small (n + 1) (omega arith) (omega arith)))
 
     pub w-from : (from : ℕ) → SmallUpto k (imageOf w k l) from → HeapWalk w k l from first false (from - 1)
-    w-from from u =
-        let e : from - 1 + 1 ≡ from = omega (arith, u .low) in
-        subst (λ (g : ℕ). HeapWalk w k l g first false (from - 1)) e (turns (from - 1) (subst (λ (g : ℕ). SmallUpto k (imageOf w k l) g) (sym e) u))
+    w-from from u = let e : from - 1 + 1 ≡ from = omega (arith, u .low) in rw e at (turns (from - 1) (rw e u))

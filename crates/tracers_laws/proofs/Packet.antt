@@ -1,25 +1,22 @@
 -- A packet read from the image and written back: what push and pop by value do to the image.
 use mathlib.Core.Path.{_≡_, refl, sym, ap, _∙_}
 use mathlib.Core.List.{List, [], _∷_, _++_}
-use Prim.Native.Nat.{ℕ, suc, _+_, _*_, _-_, _≤_, _<_}
+use Prim.Native.Nat.{ℕ, suc, _+_, _*_, _-_, _<_}
 use native.Mathlib.Nat.{add-zero}
+use native.Mathlib.Numerals.{add-one, add-two}
 use native.Mathlib.Omega.{arith}
 use lib.ListN.{length, set, take, drop, getD}
 use lib.Seq.{drop-cons, drop-drop, take-take, getD-take, getD-drop}
 use borrow.Rule.Slice.PartMut.{midOf, putMid}
 use Rattle.model.specs.Base.{nth, put}
-use Rattle.model.specs.Image.{Image, place, lengths, sections, split, imageOf, image, packetsAt, count, entry, withPackets}
+use Rattle.model.specs.Image.{Image, place, lengths, split, imageOf, image, packetsAt, count, entry, withPackets}
 use Rattle.model.specs.Collect.{append, pop}
 use Rattle.image_laws.specs.Sized.{Sized}
 use Rattle.image_laws.proofs.Split.{split-part}
-use Rattle.image_laws.proofs.Sections.{image-fits}
+use Rattle.image_laws.proofs.Lengths.{packets-words}
 use Rattle.image_laws.proofs.Clearing.{mid-section}
 use Rattle.tracers_laws.specs.Packet.{Packet, Tidy, LastOff, packetAt, withEntry, withoutLast, wordsOf, withPacket}
 use Rattle.tracers_laws.proofs.Writes.{writes, write}
-
-packets-long : {w k : ℕ} {ws : List ℕ} → Sized w k ws → length (imageOf w k ws .packets) ≡ 1024
-unfolding sections imageOf image
-packets-long z = ap (λ (l : List ℕ). getD l packetsAt 0) (image-fits z .section-lengths)
 
 -- ---- read and written
 
@@ -43,14 +40,6 @@ module _ (w k : ℕ) (ws : List ℕ) (z : Sized w k ws) (p : ℕ) (h : p < 32) (
 
 -- ---- what push and pop do
 
--- the words of a packet whose word between is zero
-mid-words : (l : List ℕ) (o : ℕ) → o + 32 ≤ length l → nth l (o + 1) ≡ 0 → midOf o 32 l ≡ nth l o ∷ 0 ∷ take 30 (drop (o + 2) l)
-unfolding nth
-mid-words l o h e =
-    let s : suc o ≡ o + 1 = omega arith in
-    let t : suc (suc o) ≡ o + 2 = omega arith in
-    rw (drop-cons l o 0 (omega arith), drop-cons l (suc o) 0 (omega arith), s, e) (ap (λ (j : ℕ). getD l o 0 ∷ 0 ∷ take 30 (drop j l)) t)
-
 -- an entry and the count written
 one-more : (l e : List ℕ) (o i v c d : ℕ) → midOf o 32 l ≡ c ∷ 0 ∷ e → i < 30 → take o l ++ ((d ∷ 0 ∷ set e i v) ++ drop (o + 32) l) ≡ put (put l (o + 2 + i) v) o d
 unfolding put
@@ -60,8 +49,10 @@ one-more l e o i v c d m h =
 
 module _ (m : Image) (p : ℕ) (h : p < 32) (l : length (m .packets) ≡ 1024) (t : Tidy m p) where
   its-words : midOf (32 * p) 32 (m .packets) ≡ count m p ∷ 0 ∷ take 30 (drop (32 * p + 2) (m .packets))
-  unfolding count
-  its-words = mid-words (m .packets) (32 * p) (omega arith) (t .gap)
+  unfolding count nth
+  its-words =
+      let g : getD (m .packets) (suc (32 * p)) 0 ≡ 0 = rw add-one at (t .gap) in
+      rw (drop-cons (m .packets) (32 * p) 0 (omega arith), drop-cons (m .packets) (suc (32 * p)) 0 (omega arith), g, add-two)
 
   -- "appended to the output packet"
   pub entry-on : (g : ℕ) → count m p < 30 → withPacket m p (withEntry (packetAt m p) g) ≡ append m p g
@@ -95,10 +86,10 @@ popped-count q r e = ap (λ (x : Packet). x .count) e
 
 module _ (w k : ℕ) (ws : List ℕ) (z : Sized w k ws) (p : ℕ) (h : p < 32) (t : Tidy (imageOf w k ws) p) (q r : Packet) (e : q ≡ packetAt (imageOf w k ws) p) (n : Image) (f : n ≡ withPacket (imageOf w k ws) p r) where
   pub append-done : (g : ℕ) → r ≡ withEntry q g → count (imageOf w k ws) p < 30 → n ≡ append (imageOf w k ws) p g
-  append-done g s c = f ∙ rw (s, e) (entry-on (imageOf w k ws) p h (packets-long z) t g c)
+  append-done g s c = f ∙ rw (s, e) (entry-on (imageOf w k ws) p h (packets-words z) t g c)
 
   pub pop-done : (g : ℕ) → g ≡ nth (q .entries) (q .count - 1) → r ≡ withoutLast q → 0 < count (imageOf w k ws) p → LastOff (imageOf w k ws) p g n
   pop-done g l s c = record {
-    is-last = l ∙ rw (packet-count (imageOf w k ws) p q e, e) (last-entry (imageOf w k ws) p h (packets-long z) t c);
-    is-left = f ∙ rw (s, e) (last-off (imageOf w k ws) p h (packets-long z) t c);
+    is-last = l ∙ rw (packet-count (imageOf w k ws) p q e, e) (last-entry (imageOf w k ws) p h (packets-words z) t c);
+    is-left = f ∙ rw (s, e) (last-off (imageOf w k ws) p h (packets-words z) t c);
   }

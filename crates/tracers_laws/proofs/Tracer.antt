@@ -1,16 +1,19 @@
 -- A tracer read from the image and written back: what its next states by value do to the image.
 use mathlib.Core.Path.{_≡_, refl, sym, ap, _∙_}
-use mathlib.Core.Bool.{Bool, true, false, cond}
+use mathlib.Core.Bool.{cond}
 use mathlib.Core.List.{List, [], _∷_}
 use Prim.Native.Nat.{ℕ, zero, suc, _+_, _*_, _≤_, _<_}
 use native.Mathlib.Omega.{arith}
+use native.Mathlib.Nat.{add-zero, add-suc, suc-add}
 use native.Mathlib.Numerals.{add-one}
+use mathlib.Core.Logic.{inl, inr}
+use Rattle.model.proofs.Laws.{bool-cases}
 use lib.Dec.{ltb}
 use lib.ListN.{length, getD}
 use lib.Seq.{drop-cons}
 use borrow.Rule.Slice.PartMut.{midOf, putMid}
 use borrow.Author.Tests.{lt-ltb, le-ltb}
-use Rattle.model.specs.Base.{nth, put}
+use Rattle.model.specs.Base.{nth, put, table}
 use Rattle.model.specs.Image.{Image, sections, imageOf, image, tracersAt, input, output, hand, nextLink, handCard, nextGranule, setTracer, withTracers}
 use Rattle.image_laws.specs.Sized.{Sized}
 use Rattle.image_laws.proofs.Sections.{image-fits}
@@ -27,24 +30,11 @@ abbrev six : List ℕ → ℕ → List ℕ
 six l o = nth l o ∷ nth l (o + 1) ∷ nth l (o + 2) ∷ nth l (o + 3) ∷ nth l (o + 4) ∷ nth l (o + 5) ∷ []
 
 -- n words from o on, one by one
-from : List ℕ → ℕ → ℕ → List ℕ
-from l o zero = []
-from l o (suc n) = nth l o ∷ from l (suc o) n
-
-mid-from : (n : ℕ) (l : List ℕ) (o : ℕ) → o + n ≤ length l → midOf o n l ≡ from l o n
-unfolding nth from
-mid-from zero l o h = refl
-mid-from (suc n) l o h = rw (drop-cons l o 0 (omega arith)) (ap (λ r. getD l o 0 ∷ r) (mid-from n l (suc o) (omega arith)))
-
-mid-six : (l : List ℕ) (o : ℕ) → o + 6 ≤ length l → midOf o 6 l ≡ six l o
-unfolding from
-mid-six l o h =
-    let a : suc o ≡ o + 1 = omega arith in
-    let b : suc (suc o) ≡ o + 2 = omega arith in
-    let c : suc (suc (suc o)) ≡ o + 3 = omega arith in
-    let d : suc (suc (suc (suc o))) ≡ o + 4 = omega arith in
-    let e : suc (suc (suc (suc (suc o)))) ≡ o + 5 = omega arith in
-    rw (e, d, c, b, a) at (mid-from 6 l o h)
+mid-table : (n : ℕ) (l : List ℕ) (o : ℕ) → o + n ≤ length l → midOf o n l ≡ table n (λ i. nth l (o + i))
+unfolding nth table
+mid-table zero l o h = refl
+mid-table (suc n) l o h =
+    rw (drop-cons l o 0 (omega arith)) (simp (add-zero, add-suc) (ap (λ r. getD l o 0 ∷ r) (simp suc-add at (mid-table n l (suc o) (omega arith)))))
 
 -- the six words of a state written, then r
 abbrev words-then : Tracer → List Write → List Write
@@ -55,9 +45,10 @@ words-below x r b = (omega arith, (omega arith, (omega arith, (omega arith, (ome
 
 -- Writes that leave the same six words leave the same list.
 same-writes : (l : List ℕ) (o : ℕ) (r s : List Write) → o + 6 ≤ length l → Below 6 r → Below 6 s → inStretch (six l o) r ≡ inStretch (six l o) s → inList o l r ≡ inList o l s
+unfolding table
 same-writes l o r s h b c q =
-    let mid : (u : List Write) → putMid o 6 l (inStretch (midOf o 6 l) u) ≡ putMid o 6 l (inStretch (six l o) u) = λ u. ap (λ x. putMid o 6 l (inStretch x u)) (mid-six l o h) in
-    sym (writes o 6 l r b) ∙ (mid r ∙ (ap (putMid o 6 l) q ∙ (sym (mid s) ∙ writes o 6 l s c)))
+    let mid : midOf o 6 l ≡ six l o = rw (add-zero o) at (mid-table 6 l o h) in
+    sym (rw mid at (writes o 6 l r b)) ∙ (ap (putMid o 6 l) q ∙ rw mid at (writes o 6 l s c))
 
 -- ---- read and written
 
@@ -103,11 +94,11 @@ module _ (m : Image) (t : ℕ) (h : t < 8) (l : length (m .tracers) ≡ 64) wher
 
   pub link-done-written : (n : ℕ) → withTracer m t (linkDone (tracerAt m t) n) ≡ cond (ltb (suc (nextLink m t)) n) (putHand m t (hand m t) (suc (nextLink m t))) (putHand m t 0 0)
   unfolding linkDone putHand tracer-open
-  link-done-written n = rw (← add-one (nextLink m t)) (go (ltb (nextLink m t + 1) n))
-    where
-      go : (b : Bool) → withTracer m t (cond b (atNextLink (tracerAt m t)) (handEmpty (tracerAt m t))) ≡ cond b (putHand m t (hand m t) (nextLink m t + 1)) (putHand m t 0 0)
-      go true = by-writes _ (write 2 (hand m t) ∷ write 3 (nextLink m t + 1) ∷ []) (omega arith, (omega arith, tt)) refl
-      go false = by-writes _ (write 2 0 ∷ write 3 0 ∷ []) (omega arith, (omega arith, tt)) refl
+  link-done-written n =
+      rw (← add-one (nextLink m t)) (elim (bool-cases (ltb (nextLink m t + 1) n)) [
+        | inl e ↦ rw e (by-writes _ (write 2 (hand m t) ∷ write 3 (nextLink m t + 1) ∷ []) (omega arith, (omega arith, tt)) refl)
+        | inr e ↦ rw e (by-writes _ (write 2 0 ∷ write 3 0 ∷ []) (omega arith, (omega arith, tt)) refl)
+      ])
 
   pub object-written : (g : ℕ) → withTracer m t (objectInHand (tracerAt m t) g) ≡ putHand m t g 0
   unfolding objectInHand putHand tracer-open
