@@ -3,12 +3,11 @@ use mathlib.Core.Path.{_≡_, sym, _∙_}
 use mathlib.Core.Bool.{Bool, true, false, not, and-true}
 use mathlib.Core.List.{List, [], _∷_}
 use Prim.Native.Nat.{ℕ, suc}
-use native.Mathlib.Decide.{ℕ-discrete}
 use native.Mathlib.Omega.{arith}
 use lib.ListN.{length}
 use borrow.Author.Tests.{eq-eqb, not-true, not-false}
 use Rattle.model.specs.Base.{every, implies, first}
-use Rattle.model.specs.Image.{imageOf, granules, link, running}
+use Rattle.model.specs.Image.{imageOf, granules, running}
 use Rattle.model.specs.Undamaged.{idleOk, sound, cover, undamaged, judgeAt}
 use Rattle.model.proofs.Laws.{all-make, every-use, imp-use}
 use Rattle.image_laws.specs.Size.{extentOf}
@@ -20,7 +19,7 @@ use Rattle.image_laws.proofs.Sections.{image-fits, granules-image}
 use Rattle.image_laws.proofs.Size.{misfit-fits, cards-fits, cards-sized, cards-parts}
 use Rattle.theory.specs.Heap.{Laid}
 use Rattle.theory.specs.Lines.{Lines}
-use Rattle.theory.proofs.heap.Facts.{heap-filled-of, laid-of, proper-of}
+use Rattle.theory.proofs.heap.Facts.{laid-of, proper-of}
 use Rattle.theory.proofs.lines.Judged.{sound-use}
 use Rattle.theory.proofs.lines.Sizes.{fits-sizes}
 use Rattle.soundness_laws.proofs.Lines.{no-mark}

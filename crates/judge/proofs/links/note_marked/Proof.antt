@@ -1,5 +1,4 @@
 use Prim.Native.Nat.{_*_, _-_, _/_}
-use native.Mathlib.Omega.{arith}
 use borrow.Author.Needs.{needs}
 use Rattle.model.specs.Base.{nth, put}
 use Rattle.model.proofs.Laws.{length-put}
