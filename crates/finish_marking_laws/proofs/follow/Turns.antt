@@ -109,7 +109,7 @@ module _ {k : ℕ} {m₀ m : Image} {N : ℕ → Type 0} {h g : ℕ} (hg : g < 6
   settle-last = record {
     marking = record {
       world = t .marking .world;
-      grown = grown-settle k m₀ (p .image) (setStart (p .image) g) g (t .marking .grown) s (start-shape k (p .image) g (t .marking .grown .shape)) (start-frame (p .image) g .0) (start-frame (p .image) g .2) (t .pending g q) (t .all);
+      grown = grown-settle k m₀ (p .image) (setStart (p .image) g) g (t .marking .grown) (start-shape k (p .image) g (t .marking .grown .shape)) (start-frame (p .image) g .0) (start-frame (p .image) g .2) s (t .pending g q) (t .all);
       listed = record {
         list = rw (start-frame (p .image) g .1) (t .marking .listed .list);
         holds = λ a o. rw (start-frame (p .image) g .1) (t .marking .listed .holds a (settle-pending (p .image) (setStart (p .image) g) g s a o));
