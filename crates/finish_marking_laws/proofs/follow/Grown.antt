@@ -1,7 +1,7 @@
 -- What a marking makes of an image (`Grown`), kept by every step on the way.
 use Rattle.model.specs.Base.{nth}
 use mathlib.Core.Path.{_≡_, refl, sym, ap, _∙_}
-use mathlib.Core.Logic.{_⊎_, inl, inr}
+use mathlib.Core.Logic.{_⊎_, inl, inr, ⊎-elim}
 use Prim.Native.Nat.{ℕ, _*_, _<_, _≤_, _+_}
 use native.Mathlib.Omega.{arith}
 use native.Mathlib.Decide.{ℕ-discrete}
@@ -72,10 +72,7 @@ grown-cards k m₀ m c v w = search (length-put, _∙_)
 -- ---- the links of a pending object lead to what is found
 
 pub links-found : (k : ℕ) (m₀ m : Image) (g i : ℕ) → Grown k m₀ m → Pending m g → i < links m₀ g → (link m₀ g i ≡ 0 → ⊥) → Reach m₀ (link m₀ g i)
-links-found k m₀ m g i w q l nz = go (digit-two (marked m₀ g)) (digit-two (isStart m₀ g)) (w .only g (q .is-marked))
-  where
-    go : (markBit m₀ g ≡ 0) ⊎ (markBit m₀ g ≡ 1) → (startBit m₀ g ≡ 0) ⊎ (startBit m₀ g ≡ 1) → (markBit m₀ g ≡ 1) ⊎ Reach m₀ g → Reach m₀ (link m₀ g i)
-    go (inr em) (inr es) o = absurd (let z = w .stay g em es in omega (arith, q .bare, z))
-    go (inr em) (inl es) o = seed g i (record { is-marked = em; bare = es }) l refl nz
-    go (inl em) es (inl o) = absurd (omega arith)
-    go (inl em) es (inr o) = follow g i o em l refl nz
+links-found k m₀ m g i w q l nz = elim (digit-two (marked m₀ g)) [
+  | inl em ↦ ⊎-elim (λ o. absurd (omega arith)) (λ o. follow g i o em l refl nz) (w .only g (q .is-marked))
+  | inr em ↦ ⊎-elim (λ es. seed g i (record { is-marked = em; bare = es }) l refl nz) (λ es. absurd (omega (arith, q .bare, w .stay g em es))) (digit-two (isStart m₀ g))
+]

@@ -12,7 +12,7 @@ use Rattle.finish_marking_laws.specs.Follow.{cardWord, Pending, Headed, 
 use Rattle.finish_marking_laws.specs.Marking.{Grown, Marking, sum, weight, onList, workLeft}
 use Rattle.finish_marking_laws.proofs.follow.Bits.{Pended, pended, pend-shape, pend-frame}
 use Rattle.finish_marking_laws.proofs.follow.Grown.{pend-grow, grown-pend, grown-cards}
-use Rattle.finish_marking_laws.proofs.follow.Measure.{weights-pend, list-on}
+use Rattle.finish_marking_laws.proofs.follow.Measure.{weights-pend, cards-change}
 use Rattle.finish_marking_laws.proofs.follow.Visits.{Visit, visit-cases, past, on, new}
 use Rattle.finish_marking_laws.proofs.follow.Worklist.{later-low, push}
 use Rattle.image_laws.specs.Bits.{clearStart}
@@ -34,18 +34,6 @@ pend-keeps {a = a} p g q = elim (ℕ-discrete g a) [
   | yes e ↦ rw e (record { is-marked = p .mark; bare = p .start })
   | no n ↦ record { is-marked = p .marks g n ∙ q .is-marked; bare = p .starts g n ∙ q .bare }
 ]
-
-pub card-weights : (k : ℕ) (m : Image) (c v : ℕ) → sum (64 * k) (weight (setState m c v)) ≡ sum (64 * k) (weight m)
-unfolding setState withCards marked isStart weight
-card-weights k m c v = refl
-
-pend-list : (k : ℕ) (m : Image) (a : ℕ) → sum k (onList (pend m a)) ≡ sum k (onList m)
-unfolding pend clearStart setMark withStarts withMarks onList
-pend-list k m a = refl
-
-card-bits : (m m' : Image) (a c v : ℕ) → Pended m m' a → Pended m (setState m' c v) a
-unfolding setState withCards marked isStart
-card-bits m m' a c v p = search
 
 -- the list with a card whose object became pending
 module _ {m : Image} (m' : Image) {N : ℕ → Type 0} {h l a : ℕ} (t : Listed m N h l) (p : Pended m m' a) (ec : m' .cards ≡ m .cards) where
@@ -71,33 +59,29 @@ module _ {k : ℕ} {m₀ m : Image} {N : ℕ → Type 0} {h l : ℕ} (a : ℕ) (
     grown = grown-pend k m₀ m (pend m a) a (w .grown) (pend-shape k m a (w .grown .shape)) (pend-frame m a .0) (pend-frame m a .2) bits (f n .2) u (f n .0)
 
   visit-any : {p : Headed} → Visit m l a p → Visited k m₀ m N h a p
-  unfolding workLeft
+  unfolding workLeft pend clearStart setMark withStarts withMarks setState withCards marked isStart weight onList
   visit-any (past e) = record { marking = w; now-marked = λ n. ⊎-elim (λ z. absurd (n z)) (λ z. z) e; grow = λ g. omega arith; pending = λ g q. q; less = omega arith }
   visit-any (on n u o) =
       let p : Pended m (pend m a) a = bits n u in
       record {
-        marking = record { world = w .world; grown = grown n u; listed = listed-on (pend m a) (w .listed) p (pend-frame m a .1) o };
+        marking = record { world = w .world; grown = grown n u; listed = listed-on (pend m a) (w .listed) p refl o };
         now-marked = λ _. p .mark;
         grow = pend-grow p;
         pending = pend-keeps p;
-        less = rw (pend-list k m a) (omega (arith, weights-pend (64 * k) m (pend m a) a (f n .1) p u));
+        less = omega (arith, weights-pend (64 * k) m (pend m a) a (f n .1) p u);
       }
   visit-any (new n u z) =
       let p : Pended m (pend m a) a = bits n u in
-      let p' : Pended m (setState (pend m a) (a / 64) l) a = card-bits m (pend m a) a (a / 64) l p in
-      let hc : a / 64 < k = omega (arith, f n .1) in
       record {
         marking = record {
           world = w .world;
           grown = grown-cards k m₀ (pend m a) (a / 64) l (grown n u);
-          listed = listed-new (pend m a) (w .listed) p (pend-frame m a .1) (omega (arith, w .grown .shape .cards)) z;
+          listed = listed-new (pend m a) (w .listed) p refl (omega (arith, f n .1, w .grown .shape .cards)) z;
         };
-        now-marked = λ _. p' .mark;
-        grow = pend-grow p';
-        pending = pend-keeps p';
-        less =
-            rw (card-weights k (pend m a) (a / 64) l, list-on k (pend m a) (a / 64) l hc (rw (pend-frame m a .1) (w .grown .shape .cards)) (rw (pend-frame m a .1) z) (later-low (w .listed .list)), pend-list k m a)
-            (omega (arith, weights-pend (64 * k) m (pend m a) a (f n .1) p u));
+        now-marked = λ _. p .mark;
+        grow = pend-grow p;
+        pending = λ g q. let o = pend-keeps p g q in record { is-marked = o .is-marked; bare = o .bare };
+        less = omega (arith, cards-change k (pend m a) (a / 64) l (omega (arith, f n .1)) (w .grown .shape .cards), later-low (w .listed .list), weights-pend (64 * k) m (pend m a) a (f n .1) p u);
       }
 
   pub visit-keeps : Visited k m₀ m N h a (visited m l a)
