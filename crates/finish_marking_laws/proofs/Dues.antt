@@ -2,9 +2,9 @@
 use mathlib.Core.Path.{_≡_, refl, sym, ap, _∙_}
 use mathlib.Core.Logic.{_⊎_, inl, inr}
 use mathlib.Core.List.{List}
-use Prim.Native.Nat.{ℕ, zero, suc, _+_, _*_, _-_, _/_, _%_, _<_, _≤_}
+use Prim.Native.Nat.{ℕ, _+_, _*_, _-_, _/_, _%_, _<_, _≤_}
 use native.Mathlib.Omega.{arith}
-use native.Mathlib.Decide.{decLt}
+use native.Mathlib.Decide.{ℕ-discrete, decLt}
 use Rattle.model.specs.Base.{nth}
 use Rattle.model.specs.Finish.{Due, due-entered, due-in-hand, due-dirty, due-card-in-hand}
 use Rattle.model.specs.Image.{Image, state, dirty, count, entry, hand, handCard}
@@ -17,28 +17,18 @@ use Rattle.image_laws.specs.Digits.{markBit}
 -- ---- what the loops need
 
 pub entries-in : {k : ℕ} {m : Image} → 1 ≤ k → Fit k m → EntriesIn k (m .packets)
-entries-in {k} {m} hk f i hi h = go (decLt (i % 32 - 2) (nth (m .packets) (32 * (i / 32))))
-  where
-    e : 32 * (i / 32) + 2 + (i % 32 - 2) ≡ i
-    e = omega arith
-
-    go : Dec (i % 32 - 2 < nth (m .packets) (32 * (i / 32))) → nth (m .packets) i < 64 * k
-    go (yes l) = rw e at (f .entries (i / 32) (i % 32 - 2) (omega arith) l .0)
-    go (no l) = let z : nth (m .packets) i ≡ 0 = rw e at (f .past (i / 32) (i % 32 - 2) (omega arith) (omega arith) (omega arith)) in omega arith
+entries-in {k} {m} hk f i hi h =
+    let e : 32 * (i / 32) + 2 + (i % 32 - 2) ≡ i = omega arith in
+    elim (decLt (i % 32 - 2) (nth (m .packets) (32 * (i / 32)))) [
+      | yes l ↦ rw e at (f .entries (i / 32) (i % 32 - 2) (omega arith) l .0)
+      | no l ↦ let z : nth (m .packets) i ≡ 0 = rw e at (f .past (i / 32) (i % 32 - 2) (omega arith) (omega arith) (omega arith)) in omega arith
+    ]
 
 pub hands-in : {k : ℕ} {m : Image} → 1 ≤ k → Fit k m → HandsIn k (m .tracers)
-hands-in {k} {m} hk f t ht = (go (nth (m .tracers) (8 * t + 2)) refl, f .handCards t ht)
-  where
-    go : (v : ℕ) → nth (m .tracers) (8 * t + 2) ≡ v → nth (m .tracers) (8 * t + 2) < 64 * k
-    go zero e = omega arith
-    go (suc v) e = f .hands t ht (λ z. absurd (omega arith)) .0
+hands-in {k} {m} hk f t ht = (elim (ℕ-discrete (nth (m .tracers) (8 * t + 2)) 0) [ yes e ↦ omega arith | no n ↦ f .hands t ht n .0 ], f .handCards t ht)
 
 pub regs-in : {k : ℕ} {m : Image} → 1 ≤ k → Fit k m → RegsIn k (m .regs)
-regs-in {k} {m} hk f i hi = go (nth (m .regs) i) refl
-  where
-    go : (v : ℕ) → nth (m .regs) i ≡ v → nth (m .regs) i < 64 * k
-    go zero e = omega arith
-    go (suc v) e = f .regs i hi (λ z. absurd (omega arith)) .0
+regs-in {k} {m} hk f i hi = elim (ℕ-discrete (nth (m .regs) i) 0) [ yes e ↦ omega arith | no n ↦ f .regs i hi n .0 ]
 
 -- ---- the three sets that open
 
@@ -70,14 +60,12 @@ module _ {k : ℕ} {m m1 m2 m3 : Image} (a : Bared m m1 (Entries m)) (b : Bared 
 module _ (k : ℕ) (m : Image) (f : Fit k m) where
   due-entry : (g i : ℕ) → i < 1024 → 2 ≤ i % 32 → Refers (nth (m .packets) i) g → (markBit m g ≡ 1) × Due m g
   unfolding count entry
-  due-entry g i hi h q = go (decLt (i % 32 - 2) (nth (m .packets) (32 * (i / 32))))
-    where
-      eq : 32 * (i / 32) + 2 + (i % 32 - 2) ≡ i
-      eq = omega arith
-
-      go : Dec (i % 32 - 2 < nth (m .packets) (32 * (i / 32))) → (markBit m g ≡ 1) × Due m g
-      go (yes l) = (rw (q .eq) (rw eq at (f .entries (i / 32) (i % 32 - 2) (omega arith) l .1)), due-entered (i / 32) (i % 32 - 2) (omega arith) l (ap (nth (m .packets)) eq ∙ sym (q .eq)))
-      go (no l) = absurd (q .some (rw eq at (f .past (i / 32) (i % 32 - 2) (omega arith) (omega arith) (omega arith))))
+  due-entry g i hi h q =
+      let eq : 32 * (i / 32) + 2 + (i % 32 - 2) ≡ i = omega arith in
+      elim (decLt (i % 32 - 2) (nth (m .packets) (32 * (i / 32)))) [
+        | yes l ↦ (rw (q .eq) (rw eq at (f .entries (i / 32) (i % 32 - 2) (omega arith) l .1)), due-entered (i / 32) (i % 32 - 2) (omega arith) l (ap (nth (m .packets)) eq ∙ sym (q .eq)))
+        | no l ↦ absurd (q .some (rw eq at (f .past (i / 32) (i % 32 - 2) (omega arith) (omega arith) (omega arith))))
+      ]
 
   due-hand : (g t : ℕ) → t < 8 → HandAt (m .tracers) (markBit m) t g → (markBit m g ≡ 1) × Due m g
   unfolding hand handCard

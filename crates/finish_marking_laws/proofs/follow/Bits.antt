@@ -75,7 +75,3 @@ settled-bits k m a s h =
 pub start-shape : (k : ℕ) (m : Image) (a : ℕ) → Shape k m → Shape k (setStart m a)
 unfolding setStart withStarts setBit
 start-shape k m a s = record { starts = λ g h. rw length-put (s .starts g h); marks = s .marks; cards = s .cards }
-
-pub start-frame : (m : Image) (a : ℕ) → (setStart m a .heap ≡ m .heap) × (setStart m a .cards ≡ m .cards) × (untouched (setStart m a) ≡ untouched m)
-unfolding setStart withStarts
-start-frame m a = (refl, refl, refl)

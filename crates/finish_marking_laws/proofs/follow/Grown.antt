@@ -1,7 +1,7 @@
 -- What a marking makes of an image (`Grown`), kept by every step on the way.
 use Rattle.model.specs.Base.{nth}
 use mathlib.Core.Path.{_≡_, refl, sym, ap, _∙_}
-use mathlib.Core.Logic.{_⊎_, inl, inr, ⊎-elim}
+use mathlib.Core.Logic.{inl, inr, ⊎-elim}
 use Prim.Native.Nat.{ℕ, _*_, _<_, _≤_, _+_}
 use native.Mathlib.Omega.{arith}
 use native.Mathlib.Decide.{ℕ-discrete}
@@ -10,7 +10,7 @@ use Rattle.model.proofs.Laws.{length-put}
 use Rattle.finish_marking_laws.specs.Follow.{Pending, Reach, objectBit, untouched, follow, seed}
 use Rattle.finish_marking_laws.specs.Marking.{Shape, Grown}
 use Rattle.finish_marking_laws.proofs.follow.Bits.{Pended, Settled}
-use Rattle.image_laws.specs.Digits.{markBit, startBit}
+use Rattle.image_laws.specs.Digits.{markBit}
 use Rattle.image_laws.proofs.Digits.{digit-two, digit-le}
 use mathlib.Core.List.{List}
 

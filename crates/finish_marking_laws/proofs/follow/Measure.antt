@@ -1,6 +1,6 @@
 -- What is left to be marked, listed and settled (`workLeft`) falls.
-use mathlib.Core.Path.{_≡_, refl, sym, ap, _∙_}
-use Prim.Native.Nat.{ℕ, zero, suc, _+_, _<_, _≤_, min}
+use mathlib.Core.Path.{_≡_, refl, sym, ap}
+use Prim.Native.Nat.{ℕ, zero, suc, _+_, _<_, min}
 use native.Mathlib.Omega.{arith}
 use native.Mathlib.Decide.{ℕ-discrete}
 use lib.ListN.{length}
@@ -9,7 +9,7 @@ use Rattle.model.proofs.Laws.{nth-put-same, nth-put-other}
 use Rattle.finish_marking_laws.specs.Follow.{cardWord, Pending}
 use Rattle.finish_marking_laws.specs.Marking.{sum, weight, onList}
 use Rattle.finish_marking_laws.proofs.follow.Bits.{Pended, Settled}
-use Rattle.image_laws.specs.Digits.{markBit, startBit}
+use Rattle.image_laws.specs.Digits.{markBit}
 
 pub sum-same : (n : ℕ) (f f' : ℕ → ℕ) → ((j : ℕ) → j < n → f' j ≡ f j) → sum n f' ≡ sum n f
 unfolding sum

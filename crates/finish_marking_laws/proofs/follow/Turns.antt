@@ -1,15 +1,14 @@
 -- Settling a pending object, and a card's turn, keep the marking, and less is left; with an empty list the marks are what is found.
 use mathlib.Core.Path.{_≡_, refl, sym, _∙_}
-use mathlib.Core.Logic.{_⊎_, inl, inr, ⊎-elim}
+use mathlib.Core.Logic.{inl, inr, ⊎-elim}
 use Prim.Native.Nat.{ℕ, zero, suc, _+_, _*_, _-_, _/_, _<_, _≤_}
 use native.Mathlib.Omega.{arith}
 use native.Mathlib.Decide.{ℕ-discrete}
-use Rattle.model.specs.Base.{nth, put}
 use Rattle.model.specs.Image.{Image, isStart, marked, links, link, withStarts, withCards, setStart, setState}
 use Rattle.model.proofs.Laws.{nth-put-other}
-use Rattle.finish_marking_laws.specs.Follow.{cardWord, Pending, Headed, headed, visited, visits, settled, LinksIn, Reach, objectBit, Listed, Nowhere, Followed, follow, seed}
+use Rattle.finish_marking_laws.specs.Follow.{cardWord, Pending, Headed, headed, visited, visits, settled, LinksIn, Reach, objectBit, Nowhere, Followed, follow, seed}
 use Rattle.finish_marking_laws.specs.Marking.{Grown, Marking, weight, onList, workLeft, Between}
-use Rattle.finish_marking_laws.proofs.follow.Bits.{Settled, settled-bits, start-shape, start-frame}
+use Rattle.finish_marking_laws.proofs.follow.Bits.{Settled, settled-bits, start-shape}
 use Rattle.finish_marking_laws.proofs.follow.Grown.{same-links, same-link, grown-settle, grown-cards, links-found}
 use Rattle.finish_marking_laws.proofs.follow.Measure.{weights-settle, cards-change}
 use Rattle.finish_marking_laws.proofs.follow.Visiting.{Visited, visit-keeps}

@@ -5,11 +5,10 @@ use Prim.Native.Nat.{ℕ, _+_, _*_, _/_, _<_, _≤_}
 use native.Mathlib.Omega.{arith}
 use native.Mathlib.Decide.{ℕ-discrete}
 use lib.ListN.{length}
-use Rattle.model.specs.Base.{nth, put}
 use Rattle.model.specs.Image.{Image, isStart, withStarts, withMarks, withCards, setMark, setState, marked}
 use Rattle.model.proofs.Laws.{nth-put-same, nth-put-other}
 use Rattle.finish_marking_laws.specs.Follow.{cardWord, Pending, Headed, pend, visited, Reach, objectBit, Listed}
-use Rattle.finish_marking_laws.specs.Marking.{Grown, Marking, sum, weight, onList, workLeft}
+use Rattle.finish_marking_laws.specs.Marking.{Grown, Marking, weight, onList, workLeft}
 use Rattle.finish_marking_laws.proofs.follow.Bits.{Pended, pended, pend-shape, pend-frame}
 use Rattle.finish_marking_laws.proofs.follow.Grown.{pend-grow, grown-pend, grown-cards}
 use Rattle.finish_marking_laws.proofs.follow.Measure.{weights-pend, cards-change}
