@@ -5,16 +5,16 @@ use mathlib.Core.Bool.{true}
 use mathlib.Core.List.{List}
 use Prim.Native.Nat.{ℕ, _+_, _*_, _<_, _≤_}
 use native.Mathlib.Omega.{arith}
-use Rattle.model.specs.Base.{nth, bit}
+use Rattle.model.specs.Base.{nth}
 use Rattle.model.specs.Image.{Image, granules, isStart, marked, links, link, imageOf}
 use Rattle.model.specs.Undamaged.{sound}
-use Rattle.theory.specs.Lines.{Pair, none, one, Lines, InHand, CardInHand}
+use Rattle.theory.specs.Lines.{none, one, Lines}
 use Rattle.theory.proofs.heap.Walk.{object-at}
 use Rattle.theory.proofs.lines.Judged.{sound-use}
 use Rattle.theory.proofs.lines.Sizes.{fits-sizes}
 use Rattle.theory.proofs.heap.Facts.{heap-filled-of, link-value, start-at}
 use Rattle.finish_marking_laws.specs.Follow.{objectBit, World}
-use Rattle.image_laws.specs.Digits.{digit, markBit, startBit}
+use Rattle.image_laws.specs.Digits.{markBit, startBit}
 use Rattle.image_laws.specs.Sized.{Sized}
 use Rattle.image_laws.proofs.Digits.{digit-two, digit-le, digit-on, digit-off, on-digit}
 use Rattle.image_laws.proofs.Lengths.{cards-image}
@@ -62,18 +62,7 @@ module _ (m : Image) (o : Lines m) where
 
   hand-marked : (t : ℕ) → t < 8 → (nth (m .tracers) (8 * t + 2) ≡ 0 → ⊥) → markBit m (nth (m .tracers) (8 * t + 2)) ≡ 1
   unfolding marked
-  hand-marked t h n = go (o .tracers-ok .hands .pair t h)
-    where
-      go : {y : ℕ} → Pair (InHand m) (nth (m .tracers) (8 * t + 2)) y → digit (bit (m .width) (m .marks) (nth (m .tracers) (8 * t + 2))) ≡ 1
-      go (none z _) = absurd (n z)
-      go (one _ r) = digit-on (r .0)
-
-  hand-card : (t : ℕ) → t < 8 → nth (m .tracers) (8 * t + 4) ≤ m .k
-  hand-card t h = go (o .tracers-ok .handCards .pair t h)
-    where
-      go : {y : ℕ} → Pair (CardInHand m) (nth (m .tracers) (8 * t + 4)) y → nth (m .tracers) (8 * t + 4) ≤ m .k
-      go (none z _) = omega arith
-      go (one _ r) = r .0
+  hand-marked t h n = elim (o .tracers-ok .hands .pair t h) [ none z _ ↦ absurd (n z) | one _ r ↦ digit-on (r .0) ]
 
   pub lines-fit : Fit (m .k) m
   unfolding isStart
@@ -88,7 +77,7 @@ module _ (m : Image) (o : Lines m) where
         entries = λ p e hp he. let z = entry-marked p e hp he in (mark-start _ z .0, z);
         past = λ p e hp c he. o .packets-ok .past p e hp he c;
         hands = λ t h n. let z = hand-marked t h n in (mark-start _ z .0, z);
-        handCards = hand-card;
+        handCards = λ t h. elim (o .tracers-ok .handCards .pair t h) [ none z _ ↦ omega arith | one _ r ↦ r .0 ];
       }
 
 pub sound-lines : {w k : ℕ} {ws : List ℕ} → Sized w k ws → sound (imageOf w k ws) ≡ true → Lines (imageOf w k ws)

@@ -8,7 +8,7 @@ use lib.ListN.{length, getD}
 use Rattle.model.specs.Image.{Image, imageOf}
 use mathlib.Core.List.{List, []}
 use Rattle.finish_marking_laws.specs.Seeds.{Upto, EnteredAt, HandAt, DirtyAt, Bared}
-use Rattle.image_laws.specs.Digits.{markBit, startBit}
+use Rattle.image_laws.specs.Digits.{markBit}
 use Rattle.image_laws.specs.Sized.{Sized}
 use Rattle.image_laws.proofs.Loops.{Looped, looped-none, looped-more}
 
@@ -24,19 +24,9 @@ module _ (m m1 m2 : Image) (N N1 N2 : ℕ → Type 0) (a : Bared m m1 N) (b : Ba
     marks = b .marks ∙ a .marks;
     cards = b .cards ∙ a .cards;
     rest = b .rest ∙ a .rest;
-    has = λ g q. has g (split g q) (b .only g);
-    only = λ g. only g (a .only g) (b .only g);
+    has = λ g q. elim (b .only g) [ inl r ↦ b .has g r | inr r ↦ ⊎-elim (λ p. r ∙ a .has g p) (λ p. b .has g p) (split g q) ];
+    only = λ g. elim (b .only g) [ inl r ↦ inl (right g r) | inr r ↦ ⊎-elim (λ p. inl (left g p)) (λ p. inr (r ∙ p)) (a .only g) ];
   }
-    where
-      has : (g : ℕ) → N g ⊎ N1 g → N1 g ⊎ (startBit m2 g ≡ startBit m1 g) → startBit m2 g ≡ 0
-      has g q (inl r) = b .has g r
-      has g (inr q) (inr r) = b .has g q
-      has g (inl q) (inr r) = r ∙ a .has g q
-
-      only : (g : ℕ) → N g ⊎ (startBit m1 g ≡ startBit m g) → N1 g ⊎ (startBit m2 g ≡ startBit m1 g) → N2 g ⊎ (startBit m2 g ≡ startBit m g)
-      only g q (inl r) = inl (right g r)
-      only g (inl q) (inr r) = inl (left g q)
-      only g (inr q) (inr r) = inr (r ∙ q)
 
 -- the places one after the other
 pub upto-none : (m : Image) (P : ℕ → ℕ → Type 0) → Bared m m (Upto P 0)
@@ -44,24 +34,13 @@ upto-none m P = bared-none m (Upto P 0) (λ g q. absurd (omega (arith, q .below)
 
 pub upto-more : (m m1 m2 : Image) (P : ℕ → ℕ → Type 0) (i : ℕ) → Bared m m1 (Upto P i) → Bared m1 m2 (P i) → Bared m m2 (Upto P (i + 1))
 upto-more m m1 m2 P i a b = bared-both m m1 m2 (Upto P i) (P i) (Upto P (i + 1)) a b
-    (λ g q. split g q (ℕ-discrete (q .place) i))
+    (λ g q. elim (ℕ-discrete (q .place) i) [ yes e ↦ inr (rw e at (q .here)) | no n ↦ inl (record { place = q .place; below = omega (arith, q .below); here = q .here }) ])
     (λ g q. record { place = q .place; below = omega (arith, q .below); here = q .here })
     (λ g q. record { place = i; below = omega arith; here = q })
-  where
-    split : (g : ℕ) (q : Upto P (i + 1) g) → Dec (q .place ≡ i) → Upto P i g ⊎ P i g
-    split g q (yes e) = inr (rw e at (q .here))
-    split g q (no n) = inl (record { place = q .place; below = omega (arith, q .below); here = q .here })
 
 -- the same set said otherwise
 pub bared-as : (m m' : Image) (N N' : ℕ → Type 0) → ((g : ℕ) → N g → N' g) → ((g : ℕ) → N' g → N g) → Bared m m' N → Bared m m' N'
-bared-as m m' N N' f h b = record {
-  heap = b .heap;
-  marks = b .marks;
-  cards = b .cards;
-  rest = b .rest;
-  has = λ g q. b .has g (h g q);
-  only = λ g. ⊎-elim (λ q. inl (f g q)) (λ e. inr e) (b .only g);
-}
+bared-as m m' N N' f h b = bared-both m m m' (λ g. ⊥) N N' (bared-none m (λ g. ⊥) (λ g z. z)) b (λ g q. inr (h g q)) (λ g z. absurd z) f
 
 -- the same set, of an equal list or equal marks
 pub bared-along : {A : Type 0} (m m' : Image) (F : A → ℕ → Type 0) {x y : A} → x ≡ y → Bared m m' (F x) → Bared m m' (F y)
