@@ -1,11 +1,11 @@
--- What becoming pending and settling do to an image: its bits, and that all else stays.
+-- What becoming pending and settling do to an image: its bits.
 use mathlib.Core.Path.{_≡_, refl, ap}
 use Prim.Native.Nat.{ℕ, _*_, _<_}
 use Rattle.model.specs.Base.{setBit}
 use Rattle.model.specs.Image.{Image, isStart, marked, withStarts, withMarks, setStart, setMark, imageOf}
 use Rattle.model.proofs.Bits.{setBit-same, setBit-other}
 use Rattle.model.proofs.Laws.{length-put}
-use Rattle.finish_marking_laws.specs.Follow.{pend, untouched}
+use Rattle.finish_marking_laws.specs.Follow.{pend}
 use Rattle.finish_marking_laws.specs.Marking.{Shape}
 use Rattle.image_laws.specs.Bits.{clearBit, clearStart}
 use Rattle.image_laws.specs.Digits.{digit, markBit, startBit}
@@ -50,11 +50,6 @@ pend-shape k m a s =
       marks = λ g h. rw length-put (s .marks g h);
       cards = s .cards;
     }
-
--- all else stays
-pub pend-frame : (m : Image) (a : ℕ) → (pend m a .heap ≡ m .heap) × (pend m a .cards ≡ m .cards) × (untouched (pend m a) ≡ untouched m)
-unfolding pend clearStart setMark withStarts withMarks
-pend-frame m a = (refl, refl, refl)
 
 -- ---- a pending object is settled
 

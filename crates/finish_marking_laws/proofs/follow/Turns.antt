@@ -7,11 +7,11 @@ use native.Mathlib.Decide.{ℕ-discrete}
 use Rattle.model.specs.Image.{Image, isStart, marked, links, link, withStarts, withCards, setStart, setState}
 use Rattle.model.proofs.Laws.{nth-put-other}
 use Rattle.finish_marking_laws.specs.Follow.{cardWord, Pending, Headed, headed, visited, visits, settled, LinksIn, Reach, objectBit, Nowhere, Followed, follow, seed}
-use Rattle.finish_marking_laws.specs.Marking.{Grown, Marking, weight, onList, workLeft, Between}
+use Rattle.finish_marking_laws.specs.Marking.{Marking, weight, onList, workLeft, Between}
 use Rattle.finish_marking_laws.proofs.follow.Bits.{Settled, settled-bits, start-shape}
 use Rattle.finish_marking_laws.proofs.follow.Grown.{same-links, same-link, grown-settle, grown-cards, links-found}
 use Rattle.finish_marking_laws.proofs.follow.Measure.{weights-settle, cards-change}
-use Rattle.finish_marking_laws.proofs.follow.Visiting.{Visited, visit-keeps}
+use Rattle.finish_marking_laws.proofs.follow.Visiting.{visit-keeps}
 use Rattle.finish_marking_laws.proofs.follow.Worklist.{turned-around, list-empty, head-taken, head-in, later-high}
 use Rattle.image_laws.specs.Digits.{markBit, startBit}
 use Rattle.image_laws.proofs.Digits.{digit-two, digit-le}
@@ -55,15 +55,10 @@ module _ {k : ℕ} {m₀ m : Image} {N : ℕ → Type 0} {h l : ℕ} (w : Markin
     ]);
   }
 
-  -- what a link of g leads to, in any later image
-  leads : (m' : Image) → Grown k m₀ m' → Pending m' g → (i : ℕ) → i < links m₀ g → (link m₀ g i ≡ 0 → ⊥) → Reach m₀ (link m₀ g i) × (link m₀ g i < 64 * k) × (objectBit m' (link m₀ g i) ≡ 1)
-  leads m' w' q' i b nz =
-      let t = w .world .target g i is-object b nz in
-      (links-found k m₀ m' g i w' q' b nz, t .0, w' .same (link m₀ g i) ∙ t .1)
-
   through-more : (n : ℕ) (p : Headed) → LinksVisited k m₀ m N h g n p → n < links m₀ g → LinksVisited k m₀ m N h g (suc n) (visited (p .image) (p .head) (link m₀ g n))
   through-more n p t b =
-      let v : Visited k m₀ (p .image) N h (link m₀ g n) (visited (p .image) (p .head) (link m₀ g n)) = visit-keeps (link m₀ g n) (t .marking) (λ nz. leads (p .image) (t .marking .grown) (t .pending g q) n b nz) in
+      let o = w .world .target g n is-object b in
+      let v = visit-keeps (link m₀ g n) (t .marking) (λ nz. (links-found k m₀ (p .image) g n (t .marking .grown) (t .pending g q) b nz, o nz .0, t .marking .grown .same (link m₀ g n) ∙ o nz .1)) in
       record {
         marking = v .marking;
         all = λ i li nz. elim (ℕ-discrete i n) [

@@ -9,7 +9,7 @@ use Rattle.model.specs.Image.{Image, isStart, withStarts, withMarks, withCards,
 use Rattle.model.proofs.Laws.{nth-put-same, nth-put-other}
 use Rattle.finish_marking_laws.specs.Follow.{cardWord, Pending, Headed, pend, visited, Reach, objectBit, Listed}
 use Rattle.finish_marking_laws.specs.Marking.{Grown, Marking, weight, onList, workLeft}
-use Rattle.finish_marking_laws.proofs.follow.Bits.{Pended, pended, pend-shape, pend-frame}
+use Rattle.finish_marking_laws.proofs.follow.Bits.{Pended, pended, pend-shape}
 use Rattle.finish_marking_laws.proofs.follow.Grown.{pend-grow, grown-pend, grown-cards}
 use Rattle.finish_marking_laws.proofs.follow.Measure.{weights-pend, cards-change}
 use Rattle.finish_marking_laws.proofs.follow.Visits.{Visit, visit-cases, past, on, new}
@@ -55,7 +55,8 @@ module _ {k : ℕ} {m₀ m : Image} {N : ℕ → Type 0} {h l : ℕ} (a : ℕ) (
     bits = pended k m a (w .grown .shape) (f n .1)
 
     grown : Grown k m₀ (pend m a)
-    grown = grown-pend k m₀ m (pend m a) a (w .grown) (pend-shape k m a (w .grown .shape)) (pend-frame m a .0) (pend-frame m a .2) bits (f n .2) u (f n .0)
+    unfolding pend clearStart setMark withStarts withMarks
+    grown = grown-pend k m₀ m (pend m a) a (w .grown) (pend-shape k m a (w .grown .shape)) refl refl bits (f n .2) u (f n .0)
 
   visit-any : {p : Headed} → Visit m l a p → Visited k m₀ m N h a p
   unfolding workLeft pend clearStart setMark withStarts withMarks setState withCards marked isStart weight onList

@@ -8,11 +8,11 @@ use native.Mathlib.Omega.{arith}
 use native.Mathlib.Decide.{ℕ-discrete}
 use lib.ListN.{length}
 use Rattle.model.specs.Base.{nth}
-use Rattle.model.specs.Image.{Image, marked, setMark, imageOf}
+use Rattle.model.specs.Image.{Image, withStarts, withMarks, marked, setMark, imageOf}
 use Rattle.finish_marking_laws.specs.Follow.{Pending, pend}
 use Rattle.finish_marking_laws.specs.Seeds.{Upto, Refers, HeldAt, Opened}
 use Rattle.finish_marking_laws.specs.Marking.{Shape}
-use Rattle.finish_marking_laws.proofs.follow.Bits.{Pended, pended, pend-frame}
+use Rattle.finish_marking_laws.proofs.follow.Bits.{Pended, pended}
 use Rattle.finish_marking_laws.proofs.seeds.Bared.{same-section}
 use Rattle.image_laws.specs.Bits.{clearStart}
 use Rattle.image_laws.specs.Digits.{markBit}
@@ -34,13 +34,14 @@ module _ (m : Image) (i a : ℕ) (ea : a ≡ nth (m .regs) i) where
         opened-none m (HeldAt (m .regs) (markBit m) i) (λ g q. let s : g ≡ a = q .is .eq ∙ sym ea in absurd (let z : markBit m a ≡ 0 = rw s at (q .bare) in omega arith))
 
     pub hold-new : (k : ℕ) → r ≡ false → Shape k m → a < 64 * k → (m1 m2 : Image) → m1 ≡ setMark m a → m2 ≡ clearStart m1 a → Opened m m2 (HeldAt (m .regs) (markBit m) i)
+    unfolding pend clearStart setMark withStarts withMarks
     hold-new k e s h m1 m2 e1 e2 =
-        let pends : m2 ≡ pend m a = unfold pend in e2 ∙ rw e1 in
+        let pends : m2 ≡ pend m a = e2 ∙ rw e1 in
         let p : Pended m (pend m a) a = pended k m a s h in
         rw pends (record {
-          heap = pend-frame m a .0;
-          cards = pend-frame m a .1;
-          rest = pend-frame m a .2;
+          heap = refl;
+          cards = refl;
+          rest = refl;
           has = λ g q. let w : g ≡ a = q .is .eq ∙ sym ea in rw w (record { is-marked = p .mark; bare = p .start });
           only = λ g. elim (ℕ-discrete g a) [
             | yes w ↦ inl (record { is = record { eq = w ∙ ea; some = λ z. n (ea ∙ z) }; bare = rw w (digit-off (sym er ∙ e)) })
