@@ -1,7 +1,6 @@
 -- What loses its start bit is what is due: entered, in hand, on a card in hand or on a dirty card.
-use mathlib.Core.Path.{_≡_, refl, sym, ap, _∙_}
+use mathlib.Core.Path.{_≡_, refl, sym, _∙_}
 use mathlib.Core.Logic.{_⊎_, inl, inr}
-use mathlib.Core.List.{List}
 use Prim.Native.Nat.{ℕ, _+_, _*_, _-_, _/_, _%_, _<_, _≤_}
 use native.Mathlib.Omega.{arith}
 use native.Mathlib.Decide.{ℕ-discrete, decLt}
@@ -45,17 +44,11 @@ abbrev pub Dues : ℕ → Image → ℕ → Type 0
 Dues k m g = (Entries m g ⊎ Hands m g) ⊎ Dirties k m g
 
 module _ {k : ℕ} {m m1 m2 m3 : Image} (a : Bared m m1 (Entries m)) (b : Bared m1 m2 (Hands m1)) (c : Bared m2 m3 (Dirties k m2)) where
-  b' : Bared m1 m2 (Hands m)
-  b' = bared-along m1 m2 (λ (l : ℕ → ℕ). Upto (HandAt (m .tracers) l) 8) (a .marks) (bared-along m1 m2 (λ (l : List ℕ). Upto (HandAt l (markBit m1)) 8) (same-section (a .rest) 2) b)
-
-  c' : Bared m2 m3 (Dirties k m)
-  c' = bared-along m2 m3 (λ (l : ℕ → ℕ). Upto (DirtyAt (m .cards) l) k) (b .marks ∙ a .marks) (bared-along m2 m3 (λ (l : List ℕ). Upto (DirtyAt l (markBit m2)) k) (b .cards ∙ a .cards) c)
-
   pub all-due : Bared m m3 (Dues k m)
   all-due =
-      bared-both m m2 m3 (λ g. Entries m g ⊎ Hands m g) (Dirties k m) (Dues k m)
-      (bared-both m m1 m2 (Entries m) (Hands m) (λ g. Entries m g ⊎ Hands m g) a b' (λ g q. q) (λ g q. inl q) (λ g q. inr q))
-      c' (λ g q. q) (λ g q. inl q) (λ g q. inr q)
+      let b' = bared-along (λ l marks. Upto (HandAt l marks) 8) (same-section (a .rest) 2) (a .marks) b in
+      let c' = bared-along (λ l marks. Upto (DirtyAt l marks) k) (b .cards ∙ a .cards) (b .marks ∙ a .marks) c in
+      bared-both (bared-both {N2 = λ g. Entries m g ⊎ Hands m g} a b' (λ g q. q) (λ g q. inl q) (λ g q. inr q)) c' (λ g q. q) (λ g q. inl q) (λ g q. inr q)
 
 module _ (k : ℕ) (m : Image) (f : Fit k m) where
   due-entry : (g i : ℕ) → i < 1024 → 2 ≤ i % 32 → Refers (nth (m .packets) i) g → (markBit m g ≡ 1) × Due m g
@@ -63,7 +56,7 @@ module _ (k : ℕ) (m : Image) (f : Fit k m) where
   due-entry g i hi h q =
       let eq : 32 * (i / 32) + 2 + (i % 32 - 2) ≡ i = omega arith in
       elim (decLt (i % 32 - 2) (nth (m .packets) (32 * (i / 32)))) [
-        | yes l ↦ (rw (q .eq) (rw eq at (f .entries (i / 32) (i % 32 - 2) (omega arith) l .1)), due-entered (i / 32) (i % 32 - 2) (omega arith) l (ap (nth (m .packets)) eq ∙ sym (q .eq)))
+        | yes l ↦ (rw (q .eq, ← eq) (f .entries (i / 32) (i % 32 - 2) (omega arith) l .1), due-entered (i / 32) (i % 32 - 2) (omega arith) l (rw eq (sym (q .eq))))
         | no l ↦ absurd (q .some (rw eq at (f .past (i / 32) (i % 32 - 2) (omega arith) (omega arith) (omega arith))))
       ]
 

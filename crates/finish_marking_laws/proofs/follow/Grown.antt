@@ -53,7 +53,7 @@ module _ (k : ℕ) (m₀ m m' : Image) (a : ℕ) (w : Grown k m₀ m) (s : Shape
     shape = s;
     heap = eh ∙ w .heap;
     rest = er ∙ w .rest;
-    same = λ g. elim (ℕ-discrete g a) [ yes e ↦ rw e (omega (arith, p .marks a, p .start, w .same a, q .is-marked, q .bare)) | no n ↦ rw (p .marks g, p .starts g n) (w .same g) ];
+    same = λ g. elim (ℕ-discrete g a) [ yes e ↦ rw e (omega (arith, p .marks a, p .start, w .same a, q)) | no n ↦ rw (p .marks g, p .starts g n) (w .same g) ];
     grow = λ g. rw (p .marks g) (w .grow g);
     stay = λ g em es. elim (ℕ-discrete g a) [ yes e ↦ rw e (p .start) | no n ↦ p .starts g n ∙ w .stay g em es ];
     only = λ g em. w .only g (sym (p .marks g) ∙ em);

@@ -1,5 +1,5 @@
 -- What is left to be marked, listed and settled (`workLeft`) falls.
-use mathlib.Core.Path.{_≡_, refl, sym, ap}
+use mathlib.Core.Path.{_≡_, refl, sym}
 use Prim.Native.Nat.{ℕ, zero, suc, _+_, _<_, min}
 use native.Mathlib.Omega.{arith}
 use native.Mathlib.Decide.{ℕ-discrete}
@@ -36,4 +36,4 @@ weights-settle n m m' a h p q = omega (arith, sum-change n (weight m) (weight m'
 -- a card's word
 pub cards-change : (k : ℕ) (m : Image) (c v : ℕ) → c < k → length (m .cards) ≡ k → sum k (onList (setState m c v)) + min 1 (cardWord m c) ≡ sum k (onList m) + min 1 v
 unfolding onList setState withCards
-cards-change k m c v h l = rw (nth-put-same (m .cards) c v (omega arith)) at (sum-change k (onList m) (onList (setState m c v)) c h (λ j e. ap (min 1) (nth-put-other (m .cards) c j v e)))
+cards-change k m c v h l = rw (nth-put-same (m .cards) c v (omega arith)) at (sum-change k (onList m) (onList (setState m c v)) c h (λ j e. rw nth-put-other))

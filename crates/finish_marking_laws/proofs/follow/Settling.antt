@@ -29,7 +29,9 @@ use Rattle.finish_marking_laws.proofs.follow.Turns.{marking-as, later-f
 -- marks x without starts s, whose complement is y
 pub pending-word : (w : ℕ) (m : Image) → m .width ≡ w → (i x s y : ℕ) → x ≡ nth (m .marks) i → s ≡ nth (m .starts) i → s + y + 1 ≡ 2 ^ w → PendingWord w m i (bitAnd x y)
 pending-word w m e i x s y ex es h = record {
-  some = λ j l q. let b : bitOf (bitAnd x y) j ≡ 1 = digit-on q in record { is-marked = omega (arith, bits j l, digit-le (marked m (w * i + j))); bare = omega (arith, bits j l, digit-le (isStart m (w * i + j))) };
+  some = λ j l q.
+      let b : 1 ≡ min (markBit m (w * i + j)) (1 - startBit m (w * i + j)) = sym (digit-on q) ∙ bits j l in
+      record { is-marked = omega (arith, digit-le (marked m (w * i + j))); bare = omega (arith, digit-le (isStart m (w * i + j))) };
   all = λ j l p. on-digit _ (bits j l ∙ omega (arith, p .is-marked, p .bare));
 }
   where
@@ -61,7 +63,7 @@ word-none {w} {k} {im} l {i} {x} hx z b = record {
   pending = b .some;
   goes-on = λ m₀ a e u. record {
     marking = marking-as u (BitOrBehind w i x e) (λ g q n. elim (decLt g (w * i + w)) [
-      | yes d ↦ let s : w * i + (g - w * i) ≡ g = omega (arith, n .low) in here (g - w * i) (omega (arith, n .low)) (b .all (g - w * i) (omega (arith, n .low)) (rw s q)) (sym s)
+      | yes d ↦ let s : w * i + (g - w * i) ≡ g = omega (arith, n .low) in here (g - w * i) (omega arith) (b .all (g - w * i) (omega arith) (rw s q)) (sym s)
       | no d ↦ behind (record { low = omega arith; high = n .high })
     ]);
     less = omega arith;
@@ -120,7 +122,7 @@ module _ {w k : ℕ} {im₀ : List ℕ} {l i : ℕ} {im : List ℕ} {h x : ℕ} 
           same = s ∙ t .same;
           pending = λ j d b. elim (ℕ-discrete j (trailingZeros 64 x)) [
             | yes q ↦ false≢ (sym (withoutBit-same x (trailingZeros 64 x)) ∙ (rw (ex, q) at b))
-            | no q ↦ one-more (so-far .marking) .others (w * i + j) (t .pending j d (sym (withoutBit-other x j (trailingZeros 64 x) q) ∙ (rw ex at b))) (λ z. q (omega arith))
+            | no q ↦ one-more (so-far .marking) .others (w * i + j) (t .pending j d (rw (ex, withoutBit-other x j (trailingZeros 64 x) q) at b)) (λ z. q (omega arith))
           ];
           goes-on = λ m₀ a c v.
               let r = t .goes-on m₀ a c v in
@@ -142,7 +144,9 @@ pub record CardSettled (w k : ℕ) (m : Image) (c l h : ℕ) (m' : Image) (i : �
   pub so-far : SettledTo k m (64 * c) l (w * (64 / w * c + i)) (headed h m')
 
 pub card-none : (w k : ℕ) (m : Image) (c l : ℕ) → (w ≡ 16) ⊎ (w ≡ 32) → CardSettled w k m c l l m 0
-card-none w k m c l o = record { so-far = rw (words-begin w c (64 / w * c + 0) o (omega arith)) (record { goes-on = λ m₀ h e u. record { marking = u; less = omega arith } }) }
+card-none w k m c l o = record {
+  so-far = rw (words-begin w c (64 / w * c + 0) o (omega arith)) (record { goes-on = λ m₀ h e u. record { marking = u; less = omega arith } });
+}
 
 module _ {w k : ℕ} {m : Image} {c l h : ℕ} {m' : Image} {i : ℕ} (t : CardSettled w k m c l h m' i) where
   pub card-underway : Underway k m (64 * c) l → Underway k m' (w * (64 / w * c + i)) h

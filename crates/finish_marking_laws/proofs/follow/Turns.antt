@@ -58,7 +58,8 @@ module _ {k : ℕ} {m₀ m : Image} {N : ℕ → Type 0} {h l : ℕ} (w : Markin
   through-more : (n : ℕ) (p : Headed) → LinksVisited k m₀ m N h g n p → n < links m₀ g → LinksVisited k m₀ m N h g (suc n) (visited (p .image) (p .head) (link m₀ g n))
   through-more n p t b =
       let o = w .world .target g n is-object b in
-      let v = visit-keeps (link m₀ g n) (t .marking) (λ nz. (links-found k m₀ (p .image) g n (t .marking .grown) (t .pending g q) b nz, o nz .0, t .marking .grown .same (link m₀ g n) ∙ o nz .1)) in
+      let v = visit-keeps (link m₀ g n) (t .marking)
+      (λ nz. (links-found k m₀ (p .image) g n (t .marking .grown) (t .pending g q) b nz, o nz .0, t .marking .grown .same (link m₀ g n) ∙ o nz .1)) in
       record {
         marking = v .marking;
         all = λ i li nz. elim (ℕ-discrete i n) [
@@ -89,14 +90,16 @@ settle-pending {a = a} p g q = elim (ℕ-discrete g a) [
   | no n ↦ record { is-marked = sym (p .marks g) ∙ q .is-marked; bare = sym (p .starts g n) ∙ q .bare }
 ]
 
-settle-last : {k : ℕ} {m₀ m : Image} {N : ℕ → Type 0} {h g : ℕ} → g < 64 * k → Pending m g → (p : Headed) → LinksVisited k m₀ m N h g (links m₀ g) p → ObjectSettled k m₀ m N h g (headed (p .head) (setStart (p .image) g))
+settle-last : {k : ℕ} {m₀ m : Image} {N : ℕ → Type 0} {h g : ℕ} → g < 64 * k → Pending m g → (p : Headed) → LinksVisited k m₀ m N h g (links m₀ g) p
+    → ObjectSettled k m₀ m N h g (headed (p .head) (setStart (p .image) g))
 unfolding workLeft setStart withStarts onList
 settle-last {k} {m₀} {g = g} hg q p t =
-    let s : Settled (p .image) (setStart (p .image) g) g = settled-bits k (p .image) g (t .marking .grown .shape) hg in
+    let w = t .marking .grown in
+    let s : Settled (p .image) (setStart (p .image) g) g = settled-bits k (p .image) g (w .shape) hg in
     record {
       marking = record {
         world = t .marking .world;
-        grown = grown-settle k m₀ (p .image) (setStart (p .image) g) g (t .marking .grown) (start-shape k (p .image) g (t .marking .grown .shape)) refl refl s (t .pending g q) (t .all);
+        grown = grown-settle k m₀ (p .image) (setStart (p .image) g) g w (start-shape k (p .image) g (w .shape)) refl refl s (t .pending g q) (t .all);
         listed = record { list = t .marking .listed .list; holds = λ a o. t .marking .listed .holds a (settle-pending s a o) };
       };
       less = omega (arith, weights-settle (64 * k) (p .image) (setStart (p .image) g) g hg s (t .pending g q), t .less);
@@ -126,7 +129,7 @@ card-taken {k} {m₀} {m} {h} {l} w n = record {
       list = head-taken (w .listed .list) n .list;
       holds = λ g q. elim (ℕ-discrete (g / 64) (h - 2)) [
         | yes e ↦ inr (record { low = omega arith; high = omega arith })
-        | no e ↦ inl (rw (nth-put-other (m .cards) (h - 2) (g / 64) 0 e) (⊎-elim (λ o. o) (λ z. absurd z) (w .listed .holds g (record { is-marked = q .is-marked; bare = q .bare }))))
+        | no e ↦ inl (rw nth-put-other (⊎-elim (λ o. o) (λ z. absurd z) (w .listed .holds g (record { is-marked = q .is-marked; bare = q .bare }))))
       ];
     };
   };

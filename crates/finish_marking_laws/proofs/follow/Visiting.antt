@@ -26,7 +26,10 @@ pub record Visited (k : ℕ) (m₀ m : Image) (N : ℕ → Type 0) (h a : ℕ) (
 
 -- what is pending after, where a became so
 pend-pending : {m m' : Image} {a : ℕ} → Pended m m' a → (g : ℕ) → Pending m' g → (g ≡ a) ⊎ Pending m g
-pend-pending {a = a} p g q = elim (ℕ-discrete g a) [ yes e ↦ inl e | no n ↦ inr (record { is-marked = sym (p .marks g n) ∙ q .is-marked; bare = sym (p .starts g n) ∙ q .bare }) ]
+pend-pending {a = a} p g q = elim (ℕ-discrete g a) [
+  | yes e ↦ inl e
+  | no n ↦ inr (record { is-marked = sym (p .marks g n) ∙ q .is-marked; bare = sym (p .starts g n) ∙ q .bare })
+]
 
 pend-keeps : {m m' : Image} {a : ℕ} → Pended m m' a → (g : ℕ) → Pending m g → Pending m' g
 pend-keeps {a = a} p g q = elim (ℕ-discrete g a) [
@@ -44,8 +47,8 @@ module _ {m : Image} (m' : Image) {N : ℕ → Type 0} {h l a : ℕ} (t : Listed
   listed-new hc z = record {
     list = rw ec (push (t .list) (a / 64) hc z);
     holds = λ g q. rw ec (elim (ℕ-discrete (g / 64) (a / 64)) [
-      | yes e ↦ inl (rw (e, nth-put-same (m .cards) (a / 64) l hc) (later-low (t .list)))
-      | no n ↦ rw (nth-put-other (m .cards) (a / 64) (g / 64) l n) (⊎-elim (λ e. absurd (n (ap (λ x. x / 64) e))) (λ r. t .holds g r) (pend-pending p g (record { is-marked = q .is-marked; bare = q .bare })))
+      | yes e ↦ inl (rw (e, nth-put-same) (later-low (t .list)))
+      | no n ↦ rw nth-put-other (⊎-elim (λ e. absurd (n (ap (λ x. x / 64) e))) (λ r. t .holds g r) (pend-pending p g (record { is-marked = q .is-marked; bare = q .bare })))
     ]);
   }
 
@@ -81,7 +84,13 @@ module _ {k : ℕ} {m₀ m : Image} {N : ℕ → Type 0} {h l : ℕ} (a : ℕ) (
         now-marked = λ _. p .mark;
         grow = pend-grow p;
         pending = λ g q. let o = pend-keeps p g q in record { is-marked = o .is-marked; bare = o .bare };
-        less = omega (arith, cards-change k (pend m a) (a / 64) l (omega (arith, f n .1)) (w .grown .shape .cards), later-low (w .listed .list), weights-pend (64 * k) m (pend m a) a (f n .1) p u);
+        less =
+            omega (
+              arith,
+              cards-change k (pend m a) (a / 64) l (omega (arith, f n .1)) (w .grown .shape .cards),
+              later-low (w .listed .list),
+              weights-pend (64 * k) m (pend m a) a (f n .1) p u,
+            );
       }
 
   pub visit-keeps : Visited k m₀ m N h a (visited m l a)

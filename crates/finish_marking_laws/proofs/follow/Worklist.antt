@@ -59,7 +59,7 @@ module _ {cards : List ℕ} {h l : ℕ} (t : WorkList cards h l) where
     chained = chained-put cards c l (t .waiting) h (omega (arith, t .once c)) (t .chained);
     chained-later = (refl, rw (nth-put-same cards c l hc) (chained-put cards c l (t .later) l (omega (arith, t .once c)) (t .chained-later)));
     once = λ d. elim (ℕ-discrete d c) [
-      | yes s ↦ rw (s, nth-put-same cards c l hc) (omega (arith, times-here c (t .later), t .once c, later-low))
+      | yes s ↦ rw (s, nth-put-same) (omega (arith, times-here c (t .later), t .once c, later-low))
       | no s ↦ rw (nth-put-other cards c d l s, times-there d c (t .later) (λ z. s (sym z))) (t .once d)
     ];
   }
@@ -86,7 +86,7 @@ head-taken-at cards x o u l ch chu once hx =
         chained = chained-put cards x 0 o (nth cards x) (omega (arith, once x, times-here x o)) ch;
         chained-later = chained-put cards x 0 u l (omega (arith, once x, times-here x o)) chu;
         once = λ c. elim (ℕ-discrete c x) [
-          | yes s ↦ rw (s, nth-put-same cards x 0 hx) (omega (arith, once x, times-here x o))
+          | yes s ↦ rw (s, nth-put-same) (omega (arith, once x, times-here x o))
           | no s ↦ rw (nth-put-other cards x c 0 s, ← (once c), times-there c x o (λ z. s (sym z)))
         ];
       });

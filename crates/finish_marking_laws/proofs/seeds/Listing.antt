@@ -31,7 +31,7 @@ listed-more m m1 m2 i t l e = rw e (record {
   starts = t .starts;
   marks = t .marks;
   rest = t .rest;
-  words = λ c h. elim (ℕ-discrete c i) [ yes q ↦ rw q (nth-put-same (m1 .cards) i (i + 1) l) | no q ↦ nth-put-other (m1 .cards) i c (i + 1) q ∙ t .words c (omega arith) ];
+  words = λ c h. elim (ℕ-discrete c i) [ yes q ↦ rw (q, nth-put-same) | no q ↦ rw nth-put-other (t .words c (omega arith)) ];
 })
 
 pub listed-end : {k : ℕ} {m m' : Image} → ListedTo m m' k → length (m' .cards) ≡ k → ListedAll k m m' (k + 1)
@@ -47,7 +47,10 @@ all-listed {k} {m} {m'} {h} s t = rw (t .head) (record {
     later = [];
     chained = cardsDown-chained (m' .cards) k (t .words);
     chained-later = refl;
-    once = λ c. elim (decLt c k) [ yes l ↦ omega (arith, cardsDown-in k c l, times-none c, t .words c l) | no l ↦ omega (arith, cardsDown-out k c (omega arith), times-none c, t .past c (omega arith)) ];
+    once = λ c. elim (decLt c k) [
+      | yes l ↦ omega (arith, cardsDown-in k c l, times-none c, t .words c l)
+      | no l ↦ omega (arith, cardsDown-out k c (omega arith), times-none c, t .past c (omega arith))
+    ];
   };
   holds = λ g q.
       let l : g < 64 * k = s g (ap (λ (w : ℕ → ℕ). w g) (sym (t .marks)) ∙ q .is-marked) in

@@ -14,7 +14,7 @@ use mathlib.Core.List.{List}
 use mathlib.Core.Bool.{Bool, true, false}
 use Rattle.finish_marking_laws.specs.Seeds.{Upto, Refers, EnteredAt, WordAt, CardAt, HandAt, DirtyAt, Bared, object, card}
 use Rattle.finish_marking_laws.specs.Marking.{Shape}
-use Rattle.finish_marking_laws.proofs.seeds.Bared.{bared-none, bared-both, bared-as, bared-along}
+use Rattle.finish_marking_laws.proofs.seeds.Bared.{bared-none, bared-both, bared-as}
 use Rattle.image_laws.specs.Bits.{clearStart}
 use Rattle.image_laws.specs.Digits.{digit, bitOf, markBit, startBit}
 use Rattle.image_laws.specs.Sized.{Sized}
@@ -26,7 +26,7 @@ use Rattle.image_laws.proofs.Places.{some-bits, word-on-card, card-in-word}
 -- ---- one object
 
 pub one-nil : (m : Image) (a : ℕ) → a ≡ 0 → Bared m m (Refers a)
-one-nil m a e = bared-none m (Refers a) (λ g q. q .some e)
+one-nil m a e = bared-none (λ g q. q .some e)
 
 pub one-some : (k : ℕ) (m m' : Image) (a : ℕ) → Shape k m → a < 64 * k → (a ≡ 0 → ⊥) → m' ≡ clearStart m a → Bared m m' (Refers a)
 unfolding clearStart withStarts marked isStart
@@ -51,11 +51,12 @@ module _ (w : ℕ) (m : Image) (e : m .width ≡ w) (o : 0 < w) (i x s y : ℕ) 
   unfolding withStarts
   after g q =
       start-digit w after-word e g
-      ∙ rw (mark-digit w m e g, start-digit w m e g, q, nth-put-same (m .starts) i (bitAnd s y) h, bit-and s y (g % w), ← ex, ← es) (ap (min (bitOf s (g % w))) (omega (arith, bit-not w x y (g % w) f (mod-lt g o))))
+      ∙ rw (mark-digit w m e g, start-digit w m e g, q, nth-put-same, bit-and s y (g % w), ← ex, ← es)
+      (ap (min (bitOf s (g % w))) (omega (arith, bit-not w x y (g % w) f (mod-lt g o))))
 
   elsewhere : (g : ℕ) → (g / w ≡ i → ⊥) → startBit after-word g ≡ startBit m g
   unfolding withStarts
-  elsewhere g n = start-digit w after-word e g ∙ rw (nth-put-other (m .starts) i (g / w) (bitAnd s y) n) (sym (start-digit w m e g))
+  elsewhere g n = start-digit w after-word e g ∙ rw nth-put-other (sym (start-digit w m e g))
 
   word-bared : Bared m after-word (WordAt w (markBit m) i)
   unfolding withStarts marked
@@ -82,10 +83,10 @@ abbrev pub CardWord : ℕ → (ℕ → ℕ) → ℕ → ℕ → ℕ → Type 0
 CardWord w mark c i g = WordAt w mark (64 / w * c + i) g
 
 pub card-word : (w c i : ℕ) {m m1 m2 : Image} {N : ℕ → Type 0} → Bared m m1 N → Bared m1 m2 (WordAt w (markBit m1) (64 / w * c + i)) → Bared m1 m2 (CardWord w (markBit m) c i)
-card-word w c i {m} {m1} {m2} a b = bared-along m1 m2 (λ (l : ℕ → ℕ). WordAt w l (64 / w * c + i)) (a .marks) b
+card-word w c i {m} {m1} {m2} a b = rw (a .marks) at b
 
 pub card-whole : (w : ℕ) (m m' : Image) (c : ℕ) → (w ≡ 16) ⊎ (w ≡ 32) → Bared m m' (Upto (CardWord w (markBit m) c) (64 / w)) → Bared m m' (CardAt (markBit m) c)
-card-whole w m m' c o b = bared-as m m' (Upto (CardWord w (markBit m) c) (64 / w)) (CardAt (markBit m) c)
+card-whole w m m' c o b = bared-as
     (λ g q. record { on = word-on-card w c (q .place) o g (q .below) (q .here .on); is-marked = q .here .is-marked })
     (λ g q. let r = card-in-word w c (g / w - 64 / w * c) o g refl (q .on) in record { place = g / w - 64 / w * c; below = r .0; here = record { on = r .1; is-marked = q .is-marked } })
     b
@@ -93,20 +94,20 @@ card-whole w m m' c o b = bared-as m m' (Upto (CardWord w (markBit m) c) (64 / w
 -- ---- an entry
 
 pub entry-none : (m : Image) (i : ℕ) → i % 32 < 2 → Bared m m (EnteredAt (m .packets) i)
-entry-none m i l = bared-none m (EnteredAt (m .packets) i) (λ g q. absurd (omega (arith, q .place)))
+entry-none m i l = bared-none (λ g q. absurd (omega (arith, q .place)))
 
 pub entry-one : (m m' : Image) (i a : ℕ) → 2 ≤ i % 32 → a ≡ nth (m .packets) i → Bared m m' (Refers a) → Bared m m' (EnteredAt (m .packets) i)
-entry-one m m' i a l e b = bared-as m m' (Refers a) (EnteredAt (m .packets) i) (λ g q. record { place = l; is = rw e at q }) (λ g q. rw e (q .is)) b
+entry-one m m' i a l e b = bared-as (λ g q. record { place = l; is = rw e at q }) (λ g q. rw e (q .is)) b
 
 -- ---- a tracer
 
 module _ (m m1 : Image) (t a c : ℕ) (ea : a ≡ nth (m .tracers) (8 * t + 2)) (ec : c ≡ nth (m .tracers) (8 * t + 4)) (b : Bared m m1 (Refers a)) where
   pub hand-object : c ≡ 0 → Bared m m1 (HandAt (m .tracers) (markBit m) t)
-  hand-object z = bared-as m m1 (Refers a) (HandAt (m .tracers) (markBit m) t) (λ g q. object (rw ea at q)) (λ g. elim [ object q ↦ rw ea q | card e o ↦ absurd (omega arith) ]) b
+  hand-object z = bared-as (λ g q. object (rw ea at q)) (λ g. elim [ object q ↦ rw ea q | card e o ↦ absurd (omega arith) ]) b
 
   pub hand-both : (c ≡ 0 → ⊥) → (m2 : Image) → Bared m1 m2 (CardAt (markBit m1) (c - 1)) → Bared m m2 (HandAt (m .tracers) (markBit m) t)
   hand-both n m2 d =
-      bared-both m m1 m2 (Refers a) (CardAt (markBit m) (c - 1)) (HandAt (m .tracers) (markBit m) t) b (bared-along m1 m2 (λ (l : ℕ → ℕ). CardAt l (c - 1)) (b .marks) d)
+      bared-both b (rw (b .marks) at d)
       (λ g. elim [ object q ↦ inl (rw ea q) | card e o ↦ inr (record { on = omega arith; is-marked = o }) ])
       (λ g q. object (rw ea at q)) (λ g q. card (omega (arith, q .on)) (q .is-marked))
 
@@ -116,11 +117,11 @@ module _ (m : Image) (c : ℕ) (r : Bool) (er : r ≡ dirty m c) where
   pub dirty-some : r ≡ true → (m' : Image) → Bared m m' (CardAt (markBit m) c) → Bared m m' (DirtyAt (m .cards) (markBit m) c)
   unfolding dirty state
   dirty-some q m' b =
-      bared-as m m' (CardAt (markBit m) c) (DirtyAt (m .cards) (markBit m) c)
+      bared-as
       (λ g p. record { on = p .on; is-dirty = sym er ∙ q; is-marked = p .is-marked })
       (λ g p. record { on = p .on; is-marked = p .is-marked })
       b
 
   pub dirty-none : r ≡ false → Bared m m (DirtyAt (m .cards) (markBit m) c)
   unfolding dirty state
-  dirty-none q = bared-none m (DirtyAt (m .cards) (markBit m) c) (λ g p. false≢ (sym q ∙ er ∙ p .is-dirty))
+  dirty-none q = bared-none (λ g p. false≢ (sym q ∙ er ∙ p .is-dirty))

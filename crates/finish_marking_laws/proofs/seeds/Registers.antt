@@ -20,18 +20,18 @@ use Rattle.image_laws.specs.Sized.{Sized}
 use Rattle.image_laws.proofs.Digits.{digit-two, digit-on, digit-off}
 use Rattle.image_laws.proofs.Loops.{Looped, looped-none, looped-more}
 
-pub opened-none : (m : Image) (N : ℕ → Type 0) → ((g : ℕ) → N g → ⊥) → Opened m m N
-opened-none m N n = record { heap = refl; cards = refl; rest = refl; has = λ g q. absurd (n g q); only = λ g. inr (refl, refl) }
+opened-none : {m : Image} {N : ℕ → Type 0} → ((g : ℕ) → N g → ⊥) → Opened m m N
+opened-none n = record { heap = refl; cards = refl; rest = refl; has = λ g q. absurd (n g q); only = λ g. inr (refl, refl) }
 
 module _ (m : Image) (i a : ℕ) (ea : a ≡ nth (m .regs) i) where
   pub hold-nil : a ≡ 0 → Opened m m (HeldAt (m .regs) (markBit m) i)
-  hold-nil z = opened-none m (HeldAt (m .regs) (markBit m) i) (λ g q. q .is .some (sym ea ∙ z))
+  hold-nil z = opened-none (λ g q. q .is .some (sym ea ∙ z))
 
   module _ (n : a ≡ 0 → ⊥) (r : Bool) (er : r ≡ marked m a) where
     pub hold-marked : r ≡ true → Opened m m (HeldAt (m .regs) (markBit m) i)
     hold-marked e =
         let o : markBit m a ≡ 1 = digit-on (sym er ∙ e) in
-        opened-none m (HeldAt (m .regs) (markBit m) i) (λ g q. let s : g ≡ a = q .is .eq ∙ sym ea in absurd (let z : markBit m a ≡ 0 = rw s at (q .bare) in omega arith))
+        opened-none (λ g q. let s : g ≡ a = q .is .eq ∙ sym ea in absurd (let z : markBit m a ≡ 0 = rw s at (q .bare) in omega arith))
 
     pub hold-new : (k : ℕ) → r ≡ false → Shape k m → a < 64 * k → (m1 m2 : Image) → m1 ≡ setMark m a → m2 ≡ clearStart m1 a → Opened m m2 (HeldAt (m .regs) (markBit m) i)
     unfolding pend clearStart setMark withStarts withMarks
@@ -51,7 +51,7 @@ module _ (m : Image) (i a : ℕ) (ea : a ≡ nth (m .regs) i) where
 
 -- ---- one register after the other
 
-module _ (m m1 m2 : Image) (i : ℕ) (a : Opened m m1 (Upto (HeldAt (m .regs) (markBit m)) i)) (b : Opened m1 m2 (HeldAt (m1 .regs) (markBit m1) i)) where
+module _ {m m1 m2 : Image} {i : ℕ} (a : Opened m m1 (Upto (HeldAt (m .regs) (markBit m)) i)) (b : Opened m1 m2 (HeldAt (m1 .regs) (markBit m1) i)) where
   abbrev P : ℕ → ℕ → Type 0
   P = HeldAt (m .regs) (markBit m)
 
@@ -86,7 +86,7 @@ abbrev pub Holding : (w k : ℕ) → List ℕ → List ℕ → ℕ → Type 0
 Holding w k im₀ im i = Looped w k 256 (λ m i. Opened (imageOf w k im₀) m (Upto (HeldAt (imageOf w k im₀ .regs) (markBit (imageOf w k im₀))) i)) im₀ im i
 
 pub holding-none : {w k : ℕ} {im : List ℕ} → Sized w k im → Holding w k im im 0
-holding-none {w} {k} {im} z = looped-none z (opened-none (imageOf w k im) (Upto (HeldAt (imageOf w k im .regs) (markBit (imageOf w k im))) 0) (λ g q. absurd (omega (arith, q .below))))
+holding-none z = looped-none z (opened-none (λ g q. absurd (omega (arith, q .below))))
 
 pub holding-more : {w k : ℕ} {im₀ im im' : List ℕ} {i : ℕ} → Holding w k im₀ im i → i < 256 → length im' ≡ length im → Opened (imageOf w k im) (imageOf w k im') (HeldAt (imageOf w k im .regs) (markBit (imageOf w k im)) i) → Holding w k im₀ im' (i + 1)
-holding-more {w} {k} {im₀} {im} {im'} {i} t l e b = looped-more t l e (opened-more (imageOf w k im₀) (imageOf w k im) (imageOf w k im') i (t .state) b)
+holding-more t l e b = looped-more t l e (opened-more (t .state) b)
