@@ -1,6 +1,6 @@
 -- A word of mark bits from its highest bit down: its loop, and a word whose bits are all set.
 use mathlib.Core.Path.{_≡_, refl, sym, ap, _∙_}
-use mathlib.Core.Bool.{true, false}
+use mathlib.Core.Bool.{false}
 use mathlib.Core.List.{List}
 use Prim.Native.Nat.{ℕ, suc, _+_, _*_, _-_, _/_, _^_, _<_, _≤_}
 use native.Mathlib.Nat.{sub-zero}
@@ -19,8 +19,8 @@ use Rattle.image_laws.proofs.Digits.{on-digit, bit-none, bit-not}
 use Rattle.image_laws.proofs.Lengths.{sized-as, sized-width}
 use Rattle.image_laws.proofs.Masks.{withoutBit-same, withoutBit-less, withoutBit-other}
 use Rattle.image_laws.proofs.Places.{by-width, place-in, words-full}
-use Rattle.finish_laws.specs.Gaps.{Edged, edged, keptAt, passed, sweptFrom}
-use Rattle.image_laws.proofs.Leading.{Highest, Leading, bit-past, word-leading}
+use Rattle.finish_laws.specs.Gaps.{Edged, edged, keptAt, sweptFrom}
+use Rattle.image_laws.proofs.Leading.{Leading, bit-past, word-leading}
 use Rattle.finish_laws.proofs.gaps.Granules.{from-marks, passed-keep, from-suc, from-unmarked, from-full}
 
 module _ (w k : ℕ) (ws : List ℕ) (i : ℕ) where
