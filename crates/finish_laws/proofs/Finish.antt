@@ -4,7 +4,7 @@ use mathlib.Core.Bool.{Bool, true, false}
 use mathlib.Core.List.{List, _++_}
 use Prim.Native.Nat.{ℕ, _+_, _*_, _-_, _^_, _<_, _≤_}
 use native.Mathlib.Omega.{arith}
-use lib.ListN.{length, getD, set, take, drop, length-drop}
+use lib.ListN.{length, replicate, getD, set, take, drop, length-drop}
 use lib.Seq.{set-comm}
 use Rattle.model.specs.Base.{nth, put, zeros, bit, addBits}
 use Rattle.model.specs.Image.{Image, granules, isStart, marked, firstRun, imageOf, withHeap, withStarts, withMarks, withPackets, withTracers, withPlayers, withGeneral, setFirstRun, words}
@@ -48,37 +48,6 @@ module _ (m m1 : Image) (s : Sited m) (o : Lines m) (q : KeptMarked m m1) where
 
   marks-starts : (g : ℕ) → marked m1 g ≡ true → isStart m1 g ≡ true
   marks-starts g h = q .starts g ∙ kept-start g (q .only g h)
-
--- ---- images by their fields
-
-same-fields : {w w' k k' : ℕ} {h h' s s' m m' c c' r r' p p' t t' u u' g g' : List ℕ} → w ≡ w' → k ≡ k' → h ≡ h' → s ≡ s' → m ≡ m' → c ≡ c' → r ≡ r' → p ≡ p' → t ≡ t' → u ≡ u' → g ≡ g'
-    → _≡_ {A = Image}
-    (record { width = w; k = k; heap = h; starts = s; marks = m; cards = c; regs = r; packets = p; tracers = t; players = u; general = g })
-    (record { width = w'; k = k'; heap = h'; starts = s'; marks = m'; cards = c'; regs = r'; packets = p'; tracers = t'; players = u'; general = g' })
-same-fields a b c d e f g h i j k =
-    λ x. record { width = a x; k = b x; heap = c x; starts = d x; marks = e x; cards = f x; regs = g x; packets = h x; tracers = i x; players = j x; general = k x }
-
--- the fields after the sweep and the end
-ended-fields : (m : Image) (hs : List ℕ) (f : ℕ) → let i = withSweep m hs f in
-    ended (withStarts i (i .marks)) ≡ record {
-      width = m .width;
-      k = m .k;
-      heap = hs;
-      starts = m .marks;
-      marks = zeros (m .marks);
-      cards = m .cards;
-      regs = m .regs;
-      packets = zeros (m .packets);
-      tracers = zeros (m .tracers);
-      players = scannedOffTo (m .players) 16;
-      general = put (put (m .general) 1 f) 0 0;
-    }
-unfolding ended withSweep setFirstRun withHeap withStarts withMarks withPackets withTracers withPlayers withGeneral
-ended-fields m hs f = refl
-
-same-zeros : (l r : List ℕ) → length l ≡ length r → zeros l ≡ zeros r
-unfolding zeros
-same-zeros l r e = rw e
 
 -- ---- the whole
 
@@ -150,46 +119,34 @@ module _ {w k : ℕ} {ws ws1 : List ℕ} (z : Sized w k ws) (z1 : Sized w k ws1)
   -- ---- the sections
 
   starts-is : ((i : ℕ) → nth (m1 .marks) i < 2 ^ w) → m1 .marks ≡ addBits (m .width) is-kept (granules m) (zeros (m .starts))
+  unfolding marked
   starts-is small =
-      bit-words w k (sized-width z) is-kept (m1 .marks) (marks-words z1) small bits (m .starts) (starts-words z)
+      bit-words w k (sized-width z) is-kept (m1 .marks) (marks-words z1) small (λ g h. rw (width-image w k ws1) at (same-set g)) (m .starts) (starts-words z)
       ∙ rw (granules-image w k ws, width-image w k ws)
-    where
-      bits : (g : ℕ) → g < 64 * k → bit w (m1 .marks) g ≡ is-kept g
-      bits g h =
-          let r : bit (m1 .width) (m1 .marks) g ≡ is-kept g = unfold marked in same-set g in
-          rw (width-image w k ws1) at r
 
   general-is : put (put (m1 .general) 1 (firstOf 1 marks-sweep)) 0 0 ≡ put (put (m .general) 0 0) 1 (firstOf 1 kept-sweep)
   unfolding put
   general-is = set-comm (m1 .general) 1 0 (firstOf 1 marks-sweep) 0 (omega arith) ∙ ap (λ (r : Swept). set (set (m1 .general) 0 0) 1 (firstOf 1 r)) same-sweep ∙ ap (λ (l : List ℕ). set (set l 0 0) 1 (firstOf 1 kept-sweep)) (same-section (q .rest) 4)
 
   pub finish-whole : (a b : ℕ) (m2 m3 m4 : Image) → a ≡ freeGranules m → edged 0 b m2 ≡ sweptAll k m1 → StartsKept w m2 m3 → m4 ≡ ended m3 → finished (b - a) m4 ≡ finishStep m
-  unfolding finishStep finishWith kept-sweep
-  finish-whole a b m2 m3 m4 ea e2 s e4 = λ x. record { image = image-is x; value = (value-is ∙ ap (λ (r : Swept). r .freed) same-sweep) x }
-    where
-      value-is : b - a ≡ marks-sweep .freed
-      value-is = omega (arith, runs-grow a b m2 ea e2)
-
-      whole : m2 ≡ withSweep m1 (take 4 (m1 .heap) ++ sweptWords marks-sweep) (firstOf 1 marks-sweep)
-      whole = ap (λ (t : Edged). t .image) (e2 ∙ swept-runs .image)
-
-      same-marks : m2 .marks ≡ m1 .marks
-      same-marks = ap (λ (i : Image). i .marks) whole ∙ unfold withSweep setFirstRun withHeap withGeneral in refl
-
-      image-is : m4 ≡ finishWith m (keptSet m) .image
-      image-is =
-          e4 ∙ ap ended (s .image)
-          ∙ ap (λ (i : Image). ended (withStarts i (i .marks))) whole
-          ∙ ended-fields m1 (take 4 (m1 .heap) ++ sweptWords marks-sweep) (firstOf 1 marks-sweep)
-          ∙ same-fields
-          (width-image w k ws1 ∙ sym (width-image w k ws))
-          (cards-image w k ws1 ∙ sym (cards-image w k ws))
-          (ap (λ (hs : List ℕ). take 4 hs ++ sweptWords marks-sweep) (q .heap) ∙ ap (λ (r : Swept). take 4 (m .heap) ++ sweptWords r) same-sweep)
-          (starts-is (λ i. rw same-marks at (s .small i)))
-          (same-zeros _ _ (marks-words z1 ∙ sym (marks-words z)))
-          (zero-words _ _ (cards-words z1 ∙ sym (cards-words z)) (q .cards))
-          (same-section (q .rest) 0)
-          (ap zeros (same-section (q .rest) 1))
-          (ap zeros (same-section (q .rest) 2))
-          (ap (λ (l : List ℕ). scannedOffTo l 16) (same-section (q .rest) 3) ∙ off-to-all (m .players) 16 (fits-sizes m (image-fits z) .players-size))
-          general-is
+  unfolding finishStep finishWith kept-sweep ended withSweep setFirstRun withHeap withStarts withMarks withPackets withTracers withPlayers withGeneral zeros
+  finish-whole a b m2 m3 m4 ea e2 s e4 =
+      let value-is : b - a ≡ marks-sweep .freed = omega (arith, runs-grow a b m2 ea e2) in
+      let whole : m2 ≡ withSweep m1 (take 4 (m1 .heap) ++ sweptWords marks-sweep) (firstOf 1 marks-sweep) = ap (λ (t : Edged). t .image) (e2 ∙ swept-runs .image) in
+      let fields : ended (withStarts (withSweep m1 (take 4 (m1 .heap) ++ sweptWords marks-sweep) (firstOf 1 marks-sweep)) (m1 .marks)) ≡ finishWith m (keptSet m) .image = λ x. record {
+        width = (width-image w k ws1 ∙ sym (width-image w k ws)) x;
+        k = (cards-image w k ws1 ∙ sym (cards-image w k ws)) x;
+        heap = (ap (λ (hs : List ℕ). take 4 hs ++ sweptWords marks-sweep) (q .heap) ∙ ap (λ (r : Swept). take 4 (m .heap) ++ sweptWords r) same-sweep) x;
+        starts = starts-is (λ i. rw (ap (λ (i : Image). i .marks) whole) at (s .small i)) x;
+        marks = replicate ((marks-words z1 ∙ sym (marks-words z)) x) 0;
+        cards = zero-words (m1 .cards) (m .cards) (cards-words z1 ∙ sym (cards-words z)) (q .cards) x;
+        regs = same-section (q .rest) 0 x;
+        packets = zeros (same-section (q .rest) 1 x);
+        tracers = zeros (same-section (q .rest) 2 x);
+        players = (ap (λ (l : List ℕ). scannedOffTo l 16) (same-section (q .rest) 3) ∙ off-to-all (m .players) 16 (fits-sizes m (image-fits z) .players-size)) x;
+        general = general-is x;
+      } in
+      λ x. record {
+        image = (e4 ∙ ap ended (s .image) ∙ ap (λ (i : Image). ended (withStarts i (i .marks))) whole ∙ fields) x;
+        value = (value-is ∙ ap (λ (r : Swept). r .freed) same-sweep) x;
+      }
