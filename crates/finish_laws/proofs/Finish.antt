@@ -1,12 +1,12 @@
 -- A finish as the code does it is the model's: marking, sweep and end together, on every sound image.
-use mathlib.Core.Path.{_≡_, refl, sym, ap, subst, fun-ext, _∙_}
+use mathlib.Core.Path.{_≡_, sym, ap, fun-ext, _∙_}
 use mathlib.Core.Bool.{Bool, true, false}
 use mathlib.Core.List.{List, _++_}
 use Prim.Native.Nat.{ℕ, _+_, _*_, _-_, _^_, _<_, _≤_}
 use native.Mathlib.Omega.{arith}
 use lib.ListN.{length, replicate, getD, set, take, drop, length-drop}
 use lib.Seq.{set-comm}
-use Rattle.model.specs.Base.{nth, put, zeros, bit, addBits}
+use Rattle.model.specs.Base.{nth, put, zeros, addBits}
 use Rattle.model.specs.Image.{Image, granules, isStart, marked, firstRun, imageOf, withHeap, withStarts, withMarks, withPackets, withTracers, withPlayers, withGeneral, setFirstRun, words}
 use Rattle.model.specs.Undamaged.{sound}
 use Rattle.model.specs.Mutate.{freeFrom, freeGranules}
@@ -38,16 +38,10 @@ use Rattle.finish_marking_laws.proofs.seeds.Bared.{same-section}
 pub sited-of : (m : Image) → Fits m → sound m ≡ true → Sited m
 sited-of m f e = rw (parts-words m f) at (sited (m .width) (words m) (words-fit m f) (rw (parts-words m f) e))
 
-module _ (m m1 : Image) (s : Sited m) (o : Lines m) (q : KeptMarked m m1) where
-  kept-start : (g : ℕ) → Kept m g → isStart m g ≡ true
-  kept-start g (kept-marked h) = unfold isStart in (o .marks-ok .on-starts g (unfold marked in h)) .1
-  kept-start g (kept-found h) = found-start m s h .1
-
-  marks-kept : (g : ℕ) → marked m1 g ≡ getD (keptSet m) g false
-  marks-kept g = same-test _ _ (λ h. let r = q .only g h in kept-set m s g (kept-start g r) r) (λ h. q .all g (set-kept m s g h .1))
-
-  marks-starts : (g : ℕ) → marked m1 g ≡ true → isStart m1 g ≡ true
-  marks-starts g h = q .starts g ∙ kept-start g (q .only g h)
+kept-start : (m : Image) → Sited m → Lines m → (g : ℕ) → Kept m g → isStart m g ≡ true
+unfolding isStart marked
+kept-start m s o g (kept-marked h) = o .marks-ok .on-starts g h .1
+kept-start m s o g (kept-found h) = found-start m s h .1
 
 -- ---- the whole
 
@@ -62,7 +56,9 @@ module _ {w k : ℕ} {ws ws1 : List ℕ} (z : Sized w k ws) (z1 : Sized w k ws1)
   is-kept g = getD (keptSet m) g false
 
   same-set : (g : ℕ) → marked m1 g ≡ is-kept g
-  same-set = marks-kept m m1 (sited-of m (image-fits z) e) (sound-lines z e) q
+  same-set g =
+      let s = sited-of m (image-fits z) e in
+      same-test _ _ (λ h. let r = q .only g h in kept-set m s g (kept-start m s (sound-lines z e) g r) r) (λ h. q .all g (set-kept m s g h .1))
 
   -- the sweep over what is kept, and over the marks
   kept-sweep : Swept
@@ -73,18 +69,13 @@ module _ {w k : ℕ} {ws ws1 : List ℕ} (z : Sized w k ws) (z1 : Sized w k ws1)
 
   same-sweep : marks-sweep ≡ kept-sweep
   unfolding kept-sweep marks-sweep
-  same-sweep =
-      ap (λ (st : ℕ → Bool). sweep st (marked m1) (granules m) 1 (drop 4 (m1 .heap))) (fun-ext (q .starts))
-      ∙ ap (λ (kp : ℕ → Bool). sweep (isStart m) kp (granules m) 1 (drop 4 (m1 .heap))) (fun-ext same-set)
-      ∙ ap (λ (hs : List ℕ). sweep (isStart m) is-kept (granules m) 1 (drop 4 hs)) (q .heap)
+  same-sweep = rw (fun-ext (q .starts), fun-ext same-set, q .heap)
 
   heap-filled : HeapFilled m
   heap-filled = heap-filled-of (sound-lines z e)
 
   filled : Filled (isStart m1) 1 (drop 4 (m1 .heap)) (firstRun m) false
-  filled =
-      subst (λ (st : ℕ → Bool). Filled st 1 (drop 4 (m1 .heap)) (firstRun m) false) (sym (fun-ext (q .starts)))
-      (subst (λ (hs : List ℕ). Filled (isStart m) 1 (drop 4 hs) (firstRun m) false) (sym (q .heap)) (heap-filled .heap-filled))
+  filled = rw (fun-ext (q .starts), q .heap) (heap-filled .heap-filled)
 
   long : length (m1 .heap) ≡ 4 * (64 * k)
   long = rw (cards-image w k ws1) at (fits-sizes m1 (image-fits z1) .heap-size)
@@ -92,16 +83,13 @@ module _ {w k : ℕ} {ws ws1 : List ℕ} (z : Sized w k ws) (z1 : Sized w k ws1)
   behind : 4 + length (drop 4 (m1 .heap)) ≡ 4 * (64 * k)
   behind = omega (arith, length-drop 4 (m1 .heap), long, z .low)
 
-  enough : length (drop 4 (m1 .heap)) < 4 * granules m
-  enough = omega (arith, behind, granules-image w k ws)
-
   kept : (g : ℕ) → marked m1 g ≡ true → isStart m1 g ≡ true
-  kept = marks-starts m m1 (sited-of m (image-fits z) e) (sound-lines z e) q
+  kept g h = q .starts g ∙ kept-start m (sited-of m (image-fits z) e) (sound-lines z e) g (q .only g h)
 
   swept-runs : SweptRuns k m1 m (firstRun m) marks-sweep
   unfolding marks-sweep
   swept-runs =
-      swept-all k m1 m (z .low) long (omega (arith, fits-sizes m1 (image-fits z1) .general-size)) (q .heap) kept (granules m) filled (q .starts 0 ∙ no-start-zero heap-filled) enough behind
+      swept-all k m1 m (z .low) long (omega (arith, fits-sizes m1 (image-fits z1) .general-size)) (q .heap) kept (granules m) filled (q .starts 0 ∙ no-start-zero heap-filled) (omega (arith, behind, granules-image w k ws)) behind
 
   -- ---- the value
 
