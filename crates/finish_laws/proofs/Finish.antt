@@ -89,7 +89,8 @@ module _ {w k : ℕ} {ws ws1 : List ℕ} (z : Sized w k ws) (z1 : Sized w k ws1)
   swept-runs : SweptRuns k m1 m (firstRun m) marks-sweep
   unfolding marks-sweep
   swept-runs =
-      swept-all k m1 m (z .low) long (omega (arith, fits-sizes m1 (image-fits z1) .general-size)) (q .heap) kept (granules m) filled (q .starts 0 ∙ no-start-zero heap-filled) (omega (arith, behind, granules-image w k ws)) behind
+      swept-all k m1 m (z .low) long (omega (arith, fits-sizes m1 (image-fits z1) .general-size)) (q .heap) kept (granules m) filled
+      (q .starts 0 ∙ no-start-zero heap-filled) (omega (arith, behind, granules-image w k ws)) behind
 
   -- ---- the value
 

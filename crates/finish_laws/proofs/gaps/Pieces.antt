@@ -28,7 +28,9 @@ use Rattle.finish_laws.proofs.gaps.Runs.{withSweep, from, gap-zero, gap
 kept-closed : (h : ℕ) (s : Edged) → 1 ≤ size (s .image) h → keptAt h s ≡ closedAt h (h + size (s .image) h) s
 unfolding keptAt closedAt
 kept-closed h s l = elim (ℕ-discrete (s .start) (h + 1)) [
-  | yes u ↦ let z : s .free + (s .start - (h + size (s .image) h)) ≡ s .free = omega arith in rw (eq-eqb (s .start) (h + 1) u, z, gap-zero (s .image) (h + size (s .image) h) (s .start) (omega arith))
+  | yes u ↦
+      let z : s .free + (s .start - (h + size (s .image) h)) ≡ s .free = omega arith in
+      rw (eq-eqb (s .start) (h + 1) u, z, gap-zero (s .image) (h + size (s .image) h) (s .start) (omega arith))
   | no n ↦ rw (ne-eqb (s .start) (h + 1) n)
 ]
 
@@ -94,7 +96,8 @@ module _ (G : ℕ) (m old : Image) (H : List ℕ) (lH : length H ≡ 4 * G) (hg 
     unfolding withSweep setFirstRun withHeap withGeneral size word
     size-here =
         let k : length (take (4 * (g + s + r .free)) H) ≡ 4 * (g + s + r .free) = length-take-le _ H hl in
-        rw add-zero (nth-left (take (4 * (g + s + r .free)) H) (r .rest) (4 * g) (omega arith) ∙ nth-take (4 * (g + s + r .free)) H (4 * g) (omega arith) ∙ size-first H g s ws rest ew)
+        rw (add-zero, nth-left (take (4 * (g + s + r .free)) H) (r .rest) (4 * g) (omega arith), nth-take (4 * (g + s + r .free)) H (4 * g) (omega arith))
+        (size-first H g s ws rest ew)
 
     stays : marked m g ≡ true → passed (done (g + s) r c) g ≡ done g (record { free = 0; rest = (s ∷ ws) ++ sweptWords r; next = firstOf (g + s) r; freed = x }) (c + r .free)
     unfolding closedAt
@@ -199,9 +202,8 @@ module _ (k : ℕ) (m old : Image) (hk : 1 ≤ k) (lH : length (m .heap) ≡ 4 *
       let u : 64 * k ≡ suc (64 * k - 1) = omega arith in
       let z : 64 * k - suc (64 * k - 1) ≡ 0 = omega arith in
       let v : 1 + r .free - 1 ≡ r .free = omega arith in
+      let d : Edged = edged (1 + r .free) (q .runs) (from m (m .heap) hg 1 r) in
       -- granule 0 is not marked
-      let last : sweptFrom (64 * k) t (64 * k) ≡ edged (1 + r .free) (q .runs) (from m (m .heap) hg 1 r) =
-      ap (sweptFrom (64 * k) t) u
-      ∙ from-suc (64 * k) t (64 * k - 1)
-      ∙ rw (q .state, z) (passed-none (edged (1 + r .free) (q .runs) (from m (m .heap) hg 1 r)) 0 (marked-with-sweep m _ _ 0 ∙ not-kept (isStart m) (marked m) kept 0 none)) in
+      let zeroth : passed d 0 ≡ d = passed-none d 0 (marked-with-sweep m _ _ 0 ∙ not-kept (isStart m) (marked m) kept 0 none) in
+      let last : sweptFrom (64 * k) t (64 * k) ≡ d = ap (sweptFrom (64 * k) t) u ∙ rw (from-suc, q .state, z) zeroth in
       record { runs = q .runs + r .free; image = rw (last, v, gap-done m (m .heap) hg 1 r (q .inside)); count = q .count (64 * k) (omega arith) }

@@ -58,7 +58,9 @@ module _ (H R : List ℕ) (a n : ℕ) (hl : 4 * (a + suc n) ≤ length H) where
       let parted : take (4 * (a + suc n)) H ++ R ≡ p ++ (l ++ R) = rw (q, take-add (4 * a) (4 * suc n) H) (append-assoc p l R) in
       let zeros : suc (suc (length (drop 4 l))) ≡ 4 * suc n - 2 = omega arith in
       ap (λ (l : List ℕ). zeroed (4 * a + 4) (4 * (a + suc n)) (headPut (4 * a) (suc n) next l)) parted
-      ∙ ap (zeroed (4 * a + 4) (4 * (a + suc n))) (head-words p (l ++ R) (4 * a) (suc n) next lp (omega (arith, length-append l R)) ∙ ap (λ (t : List ℕ). p ++ (suc n ∷ next ∷ 0 ∷ 0 ∷ t)) (drop-append-le 4 l R (omega arith)) ∙ sym (append-assoc p h (drop 4 l ++ R)))
+      ∙ ap (zeroed (4 * a + 4) (4 * (a + suc n)))
+      (head-words p (l ++ R) (4 * a) (suc n) next lp (omega (arith, length-append l R))
+      ∙ ap (λ (t : List ℕ). p ++ (suc n ∷ next ∷ 0 ∷ 0 ∷ t)) (drop-append-le 4 l R (omega arith)) ∙ sym (append-assoc p h (drop 4 l ++ R)))
       ∙ cleared (p ++ h) (drop 4 l) R (4 * a + 4) (4 * (a + suc n)) (length-append p h ∙ omega arith) (omega arith)
       ∙ append-assoc p h (replicate (length (drop 4 l)) 0 ++ R)
       ∙ ap (λ (i : ℕ). p ++ (suc n ∷ next ∷ (replicate {A = ℕ} i 0 ++ R))) zeros
