@@ -126,12 +126,9 @@ module _ {P : ℕ → Type 0} where
   unfolding cleanCard
   quiet-cleanCard m t = go (nextMarked m (64 * handCard m t - nextGranule m t) (nextGranule m t))
     where
-      card : (c n : ℕ) → Quiet P m (putCard m t c n)
-      card c n = unfold putCard setTracer withTracers in quiet-silent m _ _ _ _
-
       go : (x : ℕ) → Quiet P m (cleanTo m t x)
       go zero = unfold cleanTo putCard fields-open in quiet-silent m _ _ _ _
-      go (suc g) = unfold cleanTo in quiet-trans (card (handCard m t) (suc g)) (quiet-take _ t g)
+      go (suc g) = unfold cleanTo in quiet-trans {m = putCard m t (handCard m t) (suc g)} (unfold putCard setTracer withTracers in quiet-silent m _ _ _ _) (quiet-take _ t g)
 
   pub quiet-clean : (m : Image) (t : ℕ) → NextSource P m t → Quiet P m (cleanStep m t)
   unfolding cleanStep cleanLine takeCard putCard setTracer withTracers setState withCards
