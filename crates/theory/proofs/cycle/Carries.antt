@@ -3,7 +3,7 @@ use mathlib.Core.Path.{_≡_, refl, sym, ap, subst, _∙_}
 use mathlib.Core.Logic.{_⊎_, inl, inr, ⊎-elim}
 use mathlib.Core.Bool.{true, false}
 use mathlib.Core.List.{List}
-use Prim.Native.Nat.{ℕ, _+_, _*_, _-_, _<_, _≤_}
+use Prim.Native.Nat.{ℕ, _+_, _*_, _<_, _≤_}
 use native.Mathlib.Decide.{ℕ-discrete, decLt}
 use native.Mathlib.Omega.{arith}
 use lib.ListN.{length}
@@ -11,7 +11,7 @@ use Rattle.model.specs.Base.{nth, put, bit}
 use Rattle.model.specs.Image.{Image, word, isStart, marked, size, links, link, reg, setReg, withRegs, setWord, withHeap}
 use Rattle.model.proofs.Laws.{nth-put-same, nth-put-other, put-out, false≢}
 use Rattle.theory.specs.Heap.{Laid}
-use Rattle.theory.specs.Cycle.{Source, in-reg, is-marked, no-start, LinkFrom, had-link, to-source, Carries, Quiet}
+use Rattle.theory.specs.Cycle.{Source, in-reg, is-marked, no-start, had-link, to-source, Carries, Quiet}
 use Rattle.theory.specs.New.{NewMade}
 use Rattle.theory.proofs.cycle.Quiet.{silent}
 use Rattle.theory.proofs.heap.Walk.{same-place}

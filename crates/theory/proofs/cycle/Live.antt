@@ -8,7 +8,7 @@ use Rattle.model.specs.Finish.{Found, found-reg, found-link, found-due, Kept, k
 use Rattle.model.specs.Claim.{chain-reg, chain-link}
 use Rattle.model.proofs.Laws.{false≢, bool-cases}
 use Rattle.theory.specs.Heap.{Proper}
-use Rattle.theory.specs.Cycle.{Source, in-reg, in-link, is-marked, no-start, LinkFrom, had-link, to-source, Carries, Live, Since}
+use Rattle.theory.specs.Cycle.{Source, in-reg, in-link, is-marked, no-start, had-link, to-source, Carries, Live, Since}
 
 pub live-source : (S : ℕ → Type 0) (m : Image) → Live S m → {a : ℕ} → Source m a → S a
 live-source S m v (in-reg p r hp hr e nz) = subst S e (v .live-regs p r hp hr (λ z. nz (sym e ∙ z)))
