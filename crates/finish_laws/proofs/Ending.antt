@@ -1,6 +1,6 @@
 -- The end of a finish: mark bits copied to the start bits, scanned words off, and all that becomes 0.
 use mathlib.Core.Path.{_≡_, refl, sym, ap, _∙_}
-use mathlib.Core.List.{List, [], _∷_}
+use mathlib.Core.List.{List}
 use Prim.Native.Nat.{ℕ, zero, suc, _+_, _*_, _/_, _%_, _^_, _<_, _≤_}
 use native.Mathlib.Omega.{arith}
 use native.Mathlib.Decide.{ℕ-discrete, decLt}
@@ -9,7 +9,7 @@ use lib.ListN.{length}
 use Rattle.model.specs.Base.{nth, put, zeros}
 use Rattle.model.specs.Finish.{scannedOff}
 use Rattle.model.proofs.Laws.{nth-put-same, nth-put-other, length-put, nth-out}
-use Rattle.theory.proofs.finish.Replaced.{off-length, off-owed}
+use Rattle.theory.proofs.finish.Replaced.{off-length, off-owed, off-scanned}
 use native.Mathlib.Numerals.{add-one}
 use Rattle.model.specs.Image.{Image, withStarts, withMarks, withPackets, withTracers, withPlayers, withGeneral}
 use Rattle.finish_laws.specs.Ending.{copied, StartsKept, scannedOffTo, ended}
@@ -35,13 +35,6 @@ copied-all from to n e f = nth-ext (copied from to n) from (omega (arith, length
 
 -- ---- scanned words off
 
-scanned-odd : (l : List ℕ) (p : ℕ) → 2 * p + 1 < length l → nth (scannedOff l) (2 * p + 1) ≡ 0
-unfolding scannedOff nth
-scanned-odd [] p h = refl
-scanned-odd (o ∷ []) p h = absurd (omega arith)
-scanned-odd (o ∷ s ∷ l) zero h = refl
-scanned-odd (o ∷ s ∷ l) (suc p) h = let e : 2 * suc p + 1 ≡ suc (suc (2 * p + 1)) = omega arith in rw e (scanned-odd l p (omega arith))
-
 length-scannedOffTo : (l : List ℕ) (p : ℕ) → length (scannedOffTo l p) ≡ length l
 unfolding scannedOffTo
 length-scannedOffTo l zero = refl
@@ -65,7 +58,7 @@ off-to-all l n e = nth-ext (scannedOffTo l n) (scannedOff l) (length-scannedOffT
     let s : i < 2 * n = omega (arith, length-scannedOffTo l n) in
     elim (ℕ-discrete (i % 2) 0) [
       | yes z ↦ let q : i ≡ 2 * (i / 2) = omega arith in rw q (off-to-even l n (i / 2) ∙ sym (off-owed l (i / 2)))
-      | no z ↦ let q : i ≡ 2 * (i / 2) + 1 = omega arith in rw q (off-to-odd l n (i / 2) (omega arith) (omega arith) ∙ sym (scanned-odd l (i / 2) (omega arith)))
+      | no z ↦ let q : i ≡ 2 * (i / 2) + 1 = omega arith in rw q (off-to-odd l n (i / 2) (omega arith) (omega arith) ∙ sym (off-scanned l (i / 2)))
     ])
 
 -- ---- the loops

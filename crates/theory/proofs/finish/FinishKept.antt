@@ -28,18 +28,17 @@ use Rattle.theory.proofs.steps.Tracing.{in-hand-ok}
 -- what the list claims need of an image, from its lines
 pub facts-of : {m : Image} → Sound m → Facts m
 unfolding marked running
-facts-of {m} s = record {
-  proper = proper-of o;
-  laid = laid-of o;
-  counted = counted-of m o;
-  regs-length = o .regs-ok .sized;
-  players-length = o .players-ok .sized;
-  hand-ok = λ t h n. let r = in-hand-ok m o t h n in (r .0, r .1);
-  idle = λ n g. no-bit (m .width) (m .marks) (s .idle (omega (arith, o .general-ok .runs)) .no-marks) g;
-}
-  where
-    o : Lines m
-    o = s .lines
+facts-of {m} s =
+    let o : Lines m = s .lines in
+    record {
+      proper = proper-of o;
+      laid = laid-of o;
+      counted = counted-of m o;
+      regs-length = o .regs-ok .sized;
+      players-length = o .players-ok .sized;
+      hand-ok = λ t h n. let r = in-hand-ok m o t h n in (r .0, r .1);
+      idle = λ n g. no-bit (m .width) (m .marks) (s .idle (omega (arith, o .general-ok .runs)) .no-marks) g;
+    }
 
 module _ (m : Image) (u : Undamaged m) where
   o : Lines m
@@ -55,11 +54,7 @@ module _ (m : Image) (u : Undamaged m) where
   kept-nil : (a : ℕ) → ((a ≡ 0 → ⊥) → Kept m a) → NilOr (Start m) a → NilOr (λ x. (x < 64 * m .k) × (isStart ((finishStep m) .image) x ≡ true)) a
   unfolding isStart
   kept-nil a k (inl z) = inl z
-  kept-nil a k (inr s) = go (ℕ-discrete a 0)
-    where
-      go : Dec (a ≡ 0) → NilOr (λ x. (x < 64 * m .k) × (isStart ((finishStep m) .image) x ≡ true)) a
-      go (yes z) = inl z
-      go (no nz) = inr (s .0, finish-does .kept-stay a (s .1) (k nz) .stays)
+  kept-nil a k (inr s) = elim (ℕ-discrete a 0) [ yes z ↦ inl z | no nz ↦ inr (s .0, finish-does .kept-stay a (s .1) (k nz) .stays) ]
 
   module _ (g : ℕ) (s : isStart ((finishStep m) .image) g ≡ true) where
     was : (isStart m g ≡ true) × Kept m g
@@ -87,14 +82,12 @@ module _ (m : Image) (u : Undamaged m) where
 
   reg-kept : (i : ℕ) → NilOr (λ x. (x < 64 * m .k) × (isStart ((finishStep m) .image) x ≡ true)) (nth (m .regs) i)
   unfolding reg
-  reg-kept i = go (decLt i 256)
-    where
-      place : 16 * (i / 16) + i % 16 ≡ i
-      place = omega arith
-
-      go : Dec (i < 256) → NilOr (λ x. (x < 64 * m .k) × (isStart ((finishStep m) .image) x ≡ true)) (nth (m .regs) i)
-      go (yes h) = kept-nil (nth (m .regs) i) (λ nz. kept-found (found-reg (i / 16) (i % 16) (omega arith) (omega arith) (ap (nth (m .regs)) place) nz)) (o .regs-ok .values i)
-      go (no h) = inl (nth-out (m .regs) i (omega (arith, o .regs-ok .sized)))
+  reg-kept i =
+      let place : 16 * (i / 16) + i % 16 ≡ i = omega arith in
+      elim (decLt i 256) [
+        | yes h ↦ kept-nil (nth (m .regs) i) (λ nz. kept-found (found-reg (i / 16) (i % 16) (omega arith) (omega arith) (ap (nth (m .regs)) place) nz)) (o .regs-ok .values i)
+        | no h ↦ inl (nth-out (m .regs) i (omega (arith, o .regs-ok .sized)))
+      ]
 
   first-free : firstRun ((finishStep m) .image) ≡ firstOf 1 (sweep (isStart m) (λ g. getD (keptSet m) g false) (granules m) 1 (drop 4 (m .heap)))
   unfolding finishStep finishWith firstRun

@@ -71,13 +71,13 @@ module _ (w : ℕ) (ws : List ℕ) (fit : fits w (length ws) ≡ true) (ok : sou
   freed-unused : (g y : ℕ) → isStart m g ≡ true → (Kept m g → ⊥) → g ≤ y → y < g + size m g → Unused (f .image) y
   freed-unused g y s nk l q = record {
     in-range = (omega (arith, heap-filled-of o .start-range g s), rw same-granules (omega (arith, laid-of o .inside g s)));
-    in-no-object = λ h t a b. let r = was h t in go h (r .0) (r .1) a (omega (arith, r .2)) (ℕ-discrete h g) (decLt h g);
+    in-no-object = λ h t a b.
+        let r = was h t in
+        elim (ℕ-discrete h g) [
+          | yes e ↦ nk (rw e at (r .1))
+          | no e ↦ elim (decLt h g) [ yes d ↦ omega (arith, r .2, laid-of o .apart h g (r .0) s d) | no d ↦ omega (arith, r .2, laid-of o .apart g h s (r .0) (omega arith)) ]
+        ];
   }
-    where
-      go : (h : ℕ) → isStart m h ≡ true → Kept m h → h ≤ y → y < h + size m h → Dec (h ≡ g) → Dec (h < g) → ⊥
-      go h t k a b (yes e) d = nk (rw e at k)
-      go h t k a b (no e) (yes d) = omega (arith, laid-of o .apart h g t s d)
-      go h t k a b (no e) (no d) = omega (arith, laid-of o .apart g h s t (omega arith))
 
   pub finish-rule : FinishRule m f
   finish-rule = record {
@@ -118,10 +118,9 @@ module _ (w : ℕ) (ws : List ℕ) (fit : fits w (length ws) ≡ true) (ok : sou
 
   pub finish-rule-words : FinishRule m (record { image = parts w ((finishAt w ws) .image); value = (finishAt w ws) .value })
   unfolding finishAt
-  finish-rule-words = rw left-is finish-rule
-    where
-      left-is : parts w (words (f .image)) ≡ f .image
-      left-is = unfold finishStep finishWith parts imageOf image in parts-words (f .image) left-fits
+  finish-rule-words =
+      let left-is : parts w (words (f .image)) ≡ f .image = unfold finishStep finishWith parts imageOf image in parts-words (f .image) left-fits in
+      rw left-is finish-rule
 
 -- ---- on undamaged images
 
