@@ -64,8 +64,9 @@ module _ (m : Image) (keep : List Bool) (o : HeapFilled m) (z : HeapSized m) (ke
   finish-filled = record {
     heap-words = omega (arith, length-append (take 4 (m .heap)) (sweptWords swept-heap), four, length-swept swept-heap, ok .long, len);
     heap-filled =
-        rw (fun-ext finish-starts, drop-at (take 4 (m .heap)) (sweptWords swept-heap) 4 four, nth-put-same (put (m .general) 0 0) 1 (firstOf 1 swept-heap) (omega (arith, length-put (m .general) 0 0, z .general-words)))
-        (swept-filled (isStart m) keeps kept 1 (length ws) swept-heap ok);
+        rw (fun-ext finish-starts, drop-at (take 4 (m .heap)) (sweptWords swept-heap) 4 four)
+        (rw (nth-put-same (put (m .general) 0 0) 1 (firstOf 1 swept-heap) (omega (arith, length-put (m .general) 0 0, z .general-words)))
+        (swept-filled (isStart m) keeps kept 1 (length ws) swept-heap ok));
     start-range = λ g e. o .start-range g (kept g (sym (finish-starts g) ∙ e));
   }
 

@@ -58,19 +58,17 @@ module _ (w : ℕ) (ws : List ℕ) (fit : fits w (length ws) ≡ true) (ok : sou
   unfolding size
   was h s = let r = starts-are h .0 s in (r .0, r .1, kept-words h 0 (r .0) (r .1) (omega (arith, laid-of o .inside h (r .0))))
 
-  same-granules : granules (f .image) ≡ granules m
-  unfolding finishStep finishWith granules
-  same-granules = refl
-
   unused-stays : (y : ℕ) → Unused m y → Unused (f .image) y
+  unfolding finishStep finishWith granules
   unused-stays y u = record {
-    in-range = (u .in-range .0, rw same-granules (u .in-range .1));
+    in-range = u .in-range;
     in-no-object = λ h s l q. let r = was h s in u .in-no-object h (r .0) l (omega (arith, r .2));
   }
 
   freed-unused : (g y : ℕ) → isStart m g ≡ true → (Kept m g → ⊥) → g ≤ y → y < g + size m g → Unused (f .image) y
+  unfolding finishStep finishWith granules
   freed-unused g y s nk l q = record {
-    in-range = (omega (arith, heap-filled-of o .start-range g s), rw same-granules (omega (arith, laid-of o .inside g s)));
+    in-range = (omega (arith, heap-filled-of o .start-range g s), omega (arith, laid-of o .inside g s));
     in-no-object = λ h t a b.
         let r = was h t in
         elim (ℕ-discrete h g) [

@@ -73,11 +73,11 @@ facts-sited m f = record {
 }
 
 pub finishes : (m : Image) → Facts m → Cover m → FinishMade m (keptSet m) (finishStep m) → Finishes m ((finishStep m) .image)
-finishes m f c w =
-    let i = kept-set m (facts-sited m f) in
-    let stay : (g : ℕ) → isStart m g ≡ true → Kept m g → Same m ((finishStep m) .image) g = λ g h k. record { stays = w .starts g ∙ i g h k; same-words = λ j l. w .words g j (i g h k) l } in
-    record {
-      kept-stay = stay;
-      only-kept = λ g h. set-kept m (facts-sited m f) g (sym (w .starts g) ∙ h);
-      reached-stay = λ g ch. stay g (chain-start m (f .proper) ch) (safe m c (f .proper) (f .laid) g ch);
-    }
+finishes m f c w = record {
+  kept-stay = stay;
+  only-kept = λ g h. set-kept m (facts-sited m f) g (sym (w .starts g) ∙ h);
+  reached-stay = λ g ch. stay g (chain-start m (f .proper) ch) (safe m c (f .proper) (f .laid) g ch);
+}
+  where
+    stay : (g : ℕ) → isStart m g ≡ true → Kept m g → Same m ((finishStep m) .image) g
+    stay g h k = let i = kept-set m (facts-sited m f) g h k in record { stays = w .starts g ∙ i; same-words = λ j l. w .words g j i l }
