@@ -84,7 +84,7 @@ module _ (m : Image) (u : Undamaged m) where
     unused = no-start-zero (made .filled);
     within = λ g s. made .filled .start-range g s .1;
     filled =
-        rw (nth-put-same (put (m .general) 0 0) 1 (firstOf 1 (sweep (isStart m) (λ g. getD (keptSet m) g false) (granules m) 1 (drop 4 (m .heap)))) (simp length-put (omega (arith, o .general-ok .sized))))
+        rw (nth-put-same (put (m .general) 0 0) 1 _ (simp length-put (omega (arith, o .general-ok .sized))))
         at (filled-make ((finishStep m) .image) (omega (arith, some-card o)) (made .filled));
     links-ok = λ g i h s l. link-kept g s i l;
   }
