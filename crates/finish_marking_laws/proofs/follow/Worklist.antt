@@ -20,10 +20,6 @@ pub times-there : (c x : ℕ) (l : List ℕ) → (x ≡ c → ⊥) → times c (
 unfolding times digit
 times-there c x l n = rw (ne-eqb x c n) (omega arith)
 
-pub times-none : (c : ℕ) → times c [] ≡ 0
-unfolding times
-times-none c = refl
-
 -- a write to a card that is not listed
 pub chained-put : (cards : List ℕ) (c v : ℕ) (l : List ℕ) (h : ℕ) → times c l ≡ 0 → Chained cards l h → Chained (put cards c v) l h
 unfolding Chained
@@ -39,8 +35,8 @@ chained-low cards [] h q = omega arith
 chained-low cards (x ∷ l) h q = omega arith
 
 chained-none : (cards l : List ℕ) → Chained cards l 1 → (c : ℕ) → times c l ≡ 0
-unfolding Chained
-chained-none cards [] q c = times-none c
+unfolding Chained times
+chained-none cards [] q c = refl
 chained-none cards (x ∷ l) q c = absurd (omega arith)
 
 module _ {cards : List ℕ} {h l : ℕ} (t : WorkList cards h l) where
@@ -74,28 +70,27 @@ pub record HeadTaken (cards : List ℕ) (h l : ℕ) : Type 0 where
   pub on : 1 ≤ nth cards (h - 2)
   pub list : WorkList (put cards (h - 2) 0) (nth cards (h - 2)) l
 
-head-taken-at : (cards : List ℕ) (x : ℕ) (o u : List ℕ) (l : ℕ) → Chained cards o (nth cards x) → Chained cards u l → ((c : ℕ) → times c (x ∷ o) + times c u ≡ min 1 (nth cards c)) → x < length cards → HeadTaken cards (x + 2) l
-head-taken-at cards x o u l ch chu once hx =
-    let e : x + 2 - 2 ≡ x = omega arith in
+head-taken-of : (cards o u : List ℕ) (h l : ℕ) → Chained cards o h → Chained cards u l → ((c : ℕ) → times c o + times c u ≡ min 1 (nth cards c)) → (h ≡ 1 → ⊥) → HeadTaken cards h l
+unfolding Chained
+head-taken-of cards [] u h l q r once n = absurd (n q)
+head-taken-of cards (x ∷ o) u h l q r once n =
+    let e : h - 2 ≡ x = omega (arith, q .0) in
+    let a : 1 ≤ nth cards x = omega (arith, once x, times-here x o) in
+    let hx : x < length cards = nth-in cards x a in
     record {
-      above = omega arith;
-      on = rw e (omega (arith, once x, times-here x o));
+      above = omega (arith, q .0);
+      on = rw e a;
       list = rw e (record {
         waiting = o;
         later = u;
-        chained = chained-put cards x 0 o (nth cards x) (omega (arith, once x, times-here x o)) ch;
-        chained-later = chained-put cards x 0 u l (omega (arith, once x, times-here x o)) chu;
+        chained = chained-put cards x 0 o (nth cards x) (omega (arith, once x, times-here x o)) (q .1);
+        chained-later = chained-put cards x 0 u l (omega (arith, once x, times-here x o)) r;
         once = λ c. elim (ℕ-discrete c x) [
           | yes s ↦ rw (s, nth-put-same) (omega (arith, once x, times-here x o))
           | no s ↦ rw (nth-put-other cards x c 0 s, ← (once c), times-there c x o (λ z. s (sym z)))
         ];
       });
     }
-
-head-taken-of : (cards o u : List ℕ) (h l : ℕ) → Chained cards o h → Chained cards u l → ((c : ℕ) → times c o + times c u ≡ min 1 (nth cards c)) → (h ≡ 1 → ⊥) → HeadTaken cards h l
-unfolding Chained
-head-taken-of cards [] u h l q r once n = absurd (n q)
-head-taken-of cards (x ∷ o) u h l q r once n = rw (q .0) (head-taken-at cards x o u l (q .1) r once (nth-in cards x (omega (arith, once x, times-here x o))))
 
 module _ {cards : List ℕ} {h l : ℕ} (t : WorkList cards h l) where
   pub head-taken : (h ≡ 1 → ⊥) → HeadTaken cards h l
@@ -117,8 +112,8 @@ cardsDown zero = []
 cardsDown (suc n) = n ∷ cardsDown n
 
 pub cardsDown-out : (n c : ℕ) → n ≤ c → times c (cardsDown n) ≡ 0
-unfolding cardsDown
-cardsDown-out zero c l = times-none c
+unfolding cardsDown times
+cardsDown-out zero c l = refl
 cardsDown-out (suc n) c l = times-there c n (cardsDown n) (omega arith) ∙ cardsDown-out n c (omega arith)
 
 pub cardsDown-in : (n c : ℕ) → c < n → times c (cardsDown n) ≡ 1

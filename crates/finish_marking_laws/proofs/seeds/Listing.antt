@@ -8,10 +8,10 @@ use native.Mathlib.Decide.{ℕ-discrete, decLt}
 use lib.ListN.{length}
 use Rattle.model.specs.Image.{Image, isStart, marked, withCards, setState}
 use Rattle.model.proofs.Laws.{nth-put-same, nth-put-other, nth-out}
-use Rattle.finish_marking_laws.specs.Follow.{cardWord, untouched, Chained, Listed, Nowhere}
+use Rattle.finish_marking_laws.specs.Follow.{cardWord, untouched, times, Chained, Listed, Nowhere}
 use Rattle.finish_marking_laws.specs.Seeds.{ListedAll}
 use Rattle.image_laws.specs.Digits.{markBit, startBit}
-use Rattle.finish_marking_laws.proofs.follow.Worklist.{times-none, cardsDown, cardsDown-out, cardsDown-in, cardsDown-chained}
+use Rattle.finish_marking_laws.proofs.follow.Worklist.{cardsDown, cardsDown-out, cardsDown-in, cardsDown-chained}
 
 -- the first i cards are listed, all else is as it was
 pub record ListedTo (m m' : Image) (i : ℕ) : Type 0 where
@@ -40,7 +40,7 @@ listed-end {k} {m} {m'} t l = record { heap = t .heap; starts = t .starts; marks
 -- ---- all cards are a work list
 
 pub all-listed : {k : ℕ} {m m' : Image} {h : ℕ} → ((g : ℕ) → markBit m g ≡ 1 → g < 64 * k) → ListedAll k m m' h → Listed m' Nowhere h 1
-unfolding Chained
+unfolding Chained times
 all-listed {k} {m} {m'} {h} s t = rw (t .head) (record {
   list = record {
     waiting = cardsDown k;
@@ -48,8 +48,8 @@ all-listed {k} {m} {m'} {h} s t = rw (t .head) (record {
     chained = cardsDown-chained (m' .cards) k (t .words);
     chained-later = refl;
     once = λ c. elim (decLt c k) [
-      | yes l ↦ omega (arith, cardsDown-in k c l, times-none c, t .words c l)
-      | no l ↦ omega (arith, cardsDown-out k c (omega arith), times-none c, t .past c (omega arith))
+      | yes l ↦ omega (arith, cardsDown-in k c l, t .words c l)
+      | no l ↦ omega (arith, cardsDown-out k c (omega arith), t .past c (omega arith))
     ];
   };
   holds = λ g q.
