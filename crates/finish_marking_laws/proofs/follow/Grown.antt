@@ -30,7 +30,7 @@ pend-grow {m} {m'} {a} p g = elim (ℕ-discrete g a) [ yes e ↦ rw (e, p .mark)
 
 -- ---- one object changes
 
-module _ (k : ℕ) (m₀ m m' : Image) (a : ℕ) (w : Grown k m₀ m) (s : Shape k m') (eh : m' .heap ≡ m .heap) (er : untouched m' ≡ untouched m) where
+module _ {k : ℕ} {m₀ m m' : Image} {a : ℕ} (w : Grown k m₀ m) (s : Shape k m') (eh : m' .heap ≡ m .heap) (er : untouched m' ≡ untouched m) where
   -- found, it becomes pending
   pub grown-pend : Pended m m' a → objectBit m a ≡ 1 → markBit m a ≡ 0 → Reach m₀ a → Grown k m₀ m'
   grown-pend p o u r = record {

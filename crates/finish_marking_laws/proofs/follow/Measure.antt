@@ -25,13 +25,13 @@ sum-change (suc n) f f' i h e = elim (ℕ-discrete i n) [
   | no q ↦ omega (arith, sum-change n f f' i (omega arith) e, e n (λ z. q (sym z)))
 ]
 
-pub weights-pend : (n : ℕ) (m m' : Image) (a : ℕ) → a < n → Pended m m' a → markBit m a ≡ 0 → sum n (weight m') + 2 ≡ sum n (weight m)
+pub weights-pend : (n : ℕ) {m m' : Image} {a : ℕ} → a < n → Pended m m' a → markBit m a ≡ 0 → sum n (weight m') + 2 ≡ sum n (weight m)
 unfolding weight
-weights-pend n m m' a h p u = omega (arith, sum-change n (weight m) (weight m') a h (λ j e. rw (p .marks j e, p .starts j e)), p .mark, p .start)
+weights-pend n {m} {m'} {a} h p u = omega (arith, sum-change n (weight m) (weight m') a h (λ j e. rw (p .marks j e, p .starts j e)), p .mark, p .start)
 
-pub weights-settle : (n : ℕ) (m m' : Image) (a : ℕ) → a < n → Settled m m' a → Pending m a → sum n (weight m') + 1 ≡ sum n (weight m)
+pub weights-settle : (n : ℕ) {m m' : Image} {a : ℕ} → a < n → Settled m m' a → Pending m a → sum n (weight m') + 1 ≡ sum n (weight m)
 unfolding weight
-weights-settle n m m' a h p q = omega (arith, sum-change n (weight m) (weight m') a h (λ j e. rw (p .marks j, p .starts j e)), q .is-marked, q .bare, p .marks a, p .start)
+weights-settle n {m} {m'} {a} h p q = omega (arith, sum-change n (weight m) (weight m') a h (λ j e. rw (p .marks j, p .starts j e)), q, p .marks a, p .start)
 
 -- a card's word
 pub cards-change : (k : ℕ) (m : Image) (c v : ℕ) → c < k → length (m .cards) ≡ k → sum k (onList (setState m c v)) + min 1 (cardWord m c) ≡ sum k (onList m) + min 1 v

@@ -99,10 +99,10 @@ settle-last {k} {m₀} {g = g} hg q p t =
     record {
       marking = record {
         world = t .marking .world;
-        grown = grown-settle k m₀ (p .image) (setStart (p .image) g) g w (start-shape k (p .image) g (w .shape)) refl refl s (t .pending g q) (t .all);
+        grown = grown-settle w (start-shape k (p .image) g (w .shape)) refl refl s (t .pending g q) (t .all);
         listed = record { list = t .marking .listed .list; holds = λ a o. t .marking .listed .holds a (settle-pending s a o) };
       };
-      less = omega (arith, weights-settle (64 * k) (p .image) (setStart (p .image) g) g hg s (t .pending g q), t .less);
+      less = omega (arith, weights-settle (64 * k) hg s (t .pending g q), t .less);
       done = λ o. omega (arith, o .bare, s .start);
       others = λ a o n. record { is-marked = s .marks a ∙ t .pending a o .is-marked; bare = s .starts a n ∙ t .pending a o .bare };
     }
