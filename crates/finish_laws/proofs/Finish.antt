@@ -71,26 +71,16 @@ module _ {w k : ℕ} {ws ws1 : List ℕ} (z : Sized w k ws) (z1 : Sized w k ws1)
   unfolding kept-sweep marks-sweep
   same-sweep = rw (fun-ext (q .starts), fun-ext same-set, q .heap)
 
-  heap-filled : HeapFilled m
-  heap-filled = heap-filled-of (sound-lines z e)
-
-  filled : Filled (isStart m1) 1 (drop 4 (m1 .heap)) (firstRun m) false
-  filled = rw (fun-ext (q .starts), q .heap) (heap-filled .heap-filled)
-
-  long : length (m1 .heap) ≡ 4 * (64 * k)
-  long = rw (cards-image w k ws1) at (fits-sizes m1 (image-fits z1) .heap-size)
-
-  behind : 4 + length (drop 4 (m1 .heap)) ≡ 4 * (64 * k)
-  behind = omega (arith, length-drop 4 (m1 .heap), long, z .low)
-
-  kept : (g : ℕ) → marked m1 g ≡ true → isStart m1 g ≡ true
-  kept g h = q .starts g ∙ kept-start m (sited-of m (image-fits z) e) (sound-lines z e) g (q .only g h)
-
   swept-runs : SweptRuns k m1 m (firstRun m) marks-sweep
   unfolding marks-sweep
   swept-runs =
-      swept-all k m1 m (z .low) long (omega (arith, fits-sizes m1 (image-fits z1) .general-size)) (q .heap) kept (granules m) filled
-      (q .starts 0 ∙ no-start-zero heap-filled) (omega (arith, behind, granules-image w k ws)) behind
+      let heap : HeapFilled m = heap-filled-of (sound-lines z e) in
+      let filled : Filled (isStart m1) 1 (drop 4 (m1 .heap)) (firstRun m) false = rw (fun-ext (q .starts), q .heap) (heap .heap-filled) in
+      let long : length (m1 .heap) ≡ 4 * (64 * k) = rw (cards-image w k ws1) at (fits-sizes m1 (image-fits z1) .heap-size) in
+      let behind : 4 + length (drop 4 (m1 .heap)) ≡ 4 * (64 * k) = omega (arith, length-drop 4 (m1 .heap), z .low) in
+      swept-all k m1 m (z .low) long (omega (arith, fits-sizes m1 (image-fits z1) .general-size)) (q .heap)
+      (λ g h. q .starts g ∙ kept-start m (sited-of m (image-fits z) e) (sound-lines z e) g (q .only g h))
+      (granules m) filled (q .starts 0 ∙ no-start-zero heap) (omega (arith, granules-image w k ws)) behind
 
   -- ---- the value
 
@@ -121,8 +111,9 @@ module _ {w k : ℕ} {ws ws1 : List ℕ} (z : Sized w k ws) (z1 : Sized w k ws1)
   unfolding finishStep finishWith kept-sweep ended withSweep setFirstRun withHeap withStarts withMarks withPackets withTracers withPlayers withGeneral zeros
   finish-whole a b m2 m3 m4 ea e2 s e4 =
       let value-is : b - a ≡ marks-sweep .freed = omega (arith, runs-grow a b m2 ea e2) in
-      let whole : m2 ≡ withSweep m1 (take 4 (m1 .heap) ++ sweptWords marks-sweep) (firstOf 1 marks-sweep) = ap (λ (t : Edged). t .image) (e2 ∙ swept-runs .image) in
-      let fields : ended (withStarts (withSweep m1 (take 4 (m1 .heap) ++ sweptWords marks-sweep) (firstOf 1 marks-sweep)) (m1 .marks)) ≡ finishWith m (keptSet m) .image = λ x. record {
+      let i : Image = withSweep m1 (take 4 (m1 .heap) ++ sweptWords marks-sweep) (firstOf 1 marks-sweep) in
+      let whole : m2 ≡ i = ap (λ (t : Edged). t .image) (e2 ∙ swept-runs .image) in
+      let fields : ended (withStarts i (m1 .marks)) ≡ finishWith m (keptSet m) .image = λ x. record {
         width = (width-image w k ws1 ∙ sym (width-image w k ws)) x;
         k = (cards-image w k ws1 ∙ sym (cards-image w k ws)) x;
         heap = (ap (λ (hs : List ℕ). take 4 hs ++ sweptWords marks-sweep) (q .heap) ∙ ap (λ (r : Swept). take 4 (m .heap) ++ sweptWords r) same-sweep) x;

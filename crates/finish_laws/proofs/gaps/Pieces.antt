@@ -87,11 +87,6 @@ module _ (G : ℕ) (m old : Image) (H : List ℕ) (lH : length H ≡ 4 * G) (hg 
 
   -- a piece that is kept
   module _ (g s x : ℕ) (ws rest : List ℕ) (r : Swept) (c : ℕ) (ew : drop (4 * g) H ≡ (s ∷ ws) ++ rest) (lw : suc (length ws) ≡ 4 * s) (hl : 4 * (g + s + r .free) ≤ length H) where
-    front : take (4 * (g + s)) H ≡ take (4 * g) H ++ (s ∷ ws)
-    front =
-        let q : 4 * (g + s) ≡ 4 * g + 4 * s = omega arith in
-        ap (λ (i : ℕ). take i H) q ∙ take-add (4 * g) (4 * s) H ∙ ap (λ (l : List ℕ). take (4 * g) H ++ l) (ap (take (4 * s)) ew ∙ take-at (s ∷ ws) rest (4 * s) lw)
-
     size-here : size (from m H hg (g + s) r) g ≡ s
     unfolding withSweep setFirstRun withHeap withGeneral size word
     size-here =
@@ -103,6 +98,8 @@ module _ (G : ℕ) (m old : Image) (H : List ℕ) (lH : length H ≡ 4 * G) (hg 
     unfolding closedAt
     stays u =
         let q : g + s + r .free - (g + s) ≡ r .free = omega arith in
+        let d : 4 * (g + s) ≡ 4 * g + 4 * s = omega arith in
+        let front : take (4 * (g + s)) H ≡ take (4 * g) H ++ (s ∷ ws) = rw (d, take-add (4 * g) (4 * s) H, ew, take-at (s ∷ ws) rest (4 * s) lw) in
         passed-keep (done (g + s) r c) g (marked-with-sweep m _ _ g ∙ u)
         ∙ kept-closed g (done (g + s) r c) (omega (arith, size-here))
         ∙ rw (size-here, q, gap-done m H hg (g + s) r hl, front, append-assoc (take (4 * g) H) (s ∷ ws) (sweptWords r), add-zero)
