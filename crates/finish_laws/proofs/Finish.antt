@@ -4,7 +4,7 @@ use mathlib.Core.Bool.{Bool, true, false}
 use mathlib.Core.List.{List, _++_}
 use Prim.Native.Nat.{ℕ, _+_, _*_, _-_, _^_, _<_, _≤_}
 use native.Mathlib.Omega.{arith}
-use lib.ListN.{length, replicate, getD, set, take, drop, length-drop}
+use lib.ListN.{length, replicate, getD, take, drop, length-drop}
 use lib.Seq.{set-comm}
 use Rattle.model.specs.Base.{nth, put, zeros, addBits}
 use Rattle.model.specs.Image.{Image, granules, isStart, marked, firstRun, imageOf, withHeap, withStarts, withMarks, withPackets, withTracers, withPlayers, withGeneral, setFirstRun, words}
@@ -103,12 +103,8 @@ module _ {w k : ℕ} {ws ws1 : List ℕ} (z : Sized w k ws) (z1 : Sized w k ws1)
       bit-words w k (sized-width z) is-kept (m1 .marks) (marks-words z1) small (λ g h. rw (width-image w k ws1) at (same-set g)) (m .starts) (starts-words z)
       ∙ rw (granules-image w k ws, width-image w k ws)
 
-  general-is : put (put (m1 .general) 1 (firstOf 1 marks-sweep)) 0 0 ≡ put (put (m .general) 0 0) 1 (firstOf 1 kept-sweep)
-  unfolding put
-  general-is = set-comm (m1 .general) 1 0 (firstOf 1 marks-sweep) 0 (omega arith) ∙ ap (λ (r : Swept). set (set (m1 .general) 0 0) 1 (firstOf 1 r)) same-sweep ∙ ap (λ (l : List ℕ). set (set l 0 0) 1 (firstOf 1 kept-sweep)) (same-section (q .rest) 4)
-
   pub finish-whole : (a b : ℕ) (m2 m3 m4 : Image) → a ≡ freeGranules m → edged 0 b m2 ≡ sweptAll k m1 → StartsKept w m2 m3 → m4 ≡ ended m3 → finished (b - a) m4 ≡ finishStep m
-  unfolding finishStep finishWith kept-sweep ended withSweep setFirstRun withHeap withStarts withMarks withPackets withTracers withPlayers withGeneral zeros
+  unfolding finishStep finishWith kept-sweep ended withSweep setFirstRun withHeap withStarts withMarks withPackets withTracers withPlayers withGeneral zeros put
   finish-whole a b m2 m3 m4 ea e2 s e4 =
       let value-is : b - a ≡ marks-sweep .freed = omega (arith, runs-grow a b m2 ea e2) in
       let i : Image = withSweep m1 (take 4 (m1 .heap) ++ sweptWords marks-sweep) (firstOf 1 marks-sweep) in
@@ -116,7 +112,7 @@ module _ {w k : ℕ} {ws ws1 : List ℕ} (z : Sized w k ws) (z1 : Sized w k ws1)
       let fields : ended (withStarts i (m1 .marks)) ≡ finishWith m (keptSet m) .image = λ x. record {
         width = (width-image w k ws1 ∙ sym (width-image w k ws)) x;
         k = (cards-image w k ws1 ∙ sym (cards-image w k ws)) x;
-        heap = (ap (λ (hs : List ℕ). take 4 hs ++ sweptWords marks-sweep) (q .heap) ∙ ap (λ (r : Swept). take 4 (m .heap) ++ sweptWords r) same-sweep) x;
+        heap = take 4 (q .heap x) ++ sweptWords (same-sweep x);
         starts = starts-is (λ i. rw (ap (λ (i : Image). i .marks) whole) at (s .small i)) x;
         marks = replicate ((marks-words z1 ∙ sym (marks-words z)) x) 0;
         cards = zero-words (m1 .cards) (m .cards) (cards-words z1 ∙ sym (cards-words z)) (q .cards) x;
@@ -124,9 +120,9 @@ module _ {w k : ℕ} {ws ws1 : List ℕ} (z : Sized w k ws) (z1 : Sized w k ws1)
         packets = zeros (same-section (q .rest) 1 x);
         tracers = zeros (same-section (q .rest) 2 x);
         players = (ap (λ (l : List ℕ). scannedOffTo l 16) (same-section (q .rest) 3) ∙ off-to-all (m .players) 16 (fits-sizes m (image-fits z) .players-size)) x;
-        general = general-is x;
+        general = (set-comm (m1 .general) 1 0 (firstOf 1 marks-sweep) 0 (omega arith) ∙ (λ y. put (put (same-section (q .rest) 4 y) 0 0) 1 (firstOf 1 (same-sweep y)))) x;
       } in
       λ x. record {
         image = (e4 ∙ ap ended (s .image) ∙ ap (λ (i : Image). ended (withStarts i (i .marks))) whole ∙ fields) x;
-        value = (value-is ∙ ap (λ (r : Swept). r .freed) same-sweep) x;
+        value = (value-is ∙ (λ y. same-sweep y .freed)) x;
       }
