@@ -1,6 +1,6 @@
 -- A word of mark bits from its highest bit down: its loop, and a word whose bits are all set.
 use mathlib.Core.Path.{_≡_, refl, sym, ap, _∙_}
-use mathlib.Core.Bool.{false}
+use mathlib.Core.Bool.{true, false}
 use mathlib.Core.List.{List}
 use Prim.Native.Nat.{ℕ, suc, _+_, _*_, _-_, _/_, _^_, _<_, _≤_}
 use native.Mathlib.Nat.{sub-zero}
@@ -32,9 +32,12 @@ module _ (w k : ℕ) (ws : List ℕ) (i : ℕ) where
   pub word-full : (e f x : ℕ) → x ≡ nth (imageOf w k ws .marks) i → x + 1 ≡ 2 ^ w → e ≡ w * i + w → edged (w * i) f (imageOf w k ws) ≡ sweptFrom (w * i + w) (edged e f (imageOf w k ws)) w
   word-full e f x ex u ee =
       let q : w * i + w - w ≡ w * i = omega arith in
-      rw ee (ap (λ (s : ℕ). edged s f (imageOf w k ws)) (sym q) ∙ sym (from-full (w * i + w) f (imageOf w k ws) w (omega arith) (λ h a b.
-      let r : h ≡ w * i + (h - w * i) = omega arith in
-      rw r (word-mark x ex (h - w * i) (omega arith) ∙ on-digit _ (omega (arith, bit-not w 0 x (h - w * i) (omega arith) (omega arith), bit-none (h - w * i)))))))
+      rw ee (sym (rw q at (from-full (w * i + w) f (imageOf w k ws) w (omega arith) all)))
+    where
+      all : (h : ℕ) → w * i + w ≤ h + w → h < w * i + w → marked (imageOf w k ws) h ≡ true
+      all h a b =
+          let r : h ≡ w * i + (h - w * i) = omega arith in
+          rw r (word-mark x ex (h - w * i) (omega arith) ∙ on-digit _ (omega (arith, bit-not w 0 x (h - w * i) (omega arith) (omega arith), bit-none (h - w * i))))
 
 -- ---- the loop over the bits of word i: those below `at` are still to come
 
@@ -75,12 +78,13 @@ module _ {w k i e₀ f₀ : ℕ} {im₀ : List ℕ} {x : ℕ} {im : List ℕ} {e
   unmarked : (j : ℕ) → j ≤ t .at → ((b : ℕ) → j ≤ b → b < t .at → testBit x b ≡ false) → sweptFrom (w * i + w) s₀ (w - j) ≡ edged e f (imageOf w k im)
   unmarked j l c =
       let u : w - j ≡ w - t .at + (t .at - j) = omega (arith, t .high) in
-      rw u (from-unmarked (w * i + w) s₀ (w - t .at) (t .at - j) (omega (arith, t .high)) (λ h a b.
-      let p : j ≤ h - w * i = omega (arith, t .high) in
-      let q : h - w * i < t .at = omega (arith, t .high) in
-      let r : h ≡ w * i + (h - w * i) = omega (arith, t .high) in
-      rw r (t .below (h - w * i) q ∙ c (h - w * i) p q))
-      ∙ sym (t .state))
+      rw u (from-unmarked (w * i + w) s₀ (w - t .at) (t .at - j) (omega (arith, t .high)) none ∙ sym (t .state))
+    where
+      none : (h : ℕ) → w * i + w ≤ h + (w - t .at + (t .at - j)) → h + (w - t .at) < w * i + w → marked (imageOf w k im₀) h ≡ false
+      none h a b =
+          let q : h - w * i < t .at = omega (arith, t .high) in
+          let r : h ≡ w * i + (h - w * i) = omega (arith, t .high) in
+          rw r (t .below (h - w * i) q ∙ c (h - w * i) (omega (arith, t .high)) q)
 
   pub taking-end : x ≡ 0 → edged e f (imageOf w k im) ≡ sweptFrom (w * i + w) s₀ w
   taking-end z = sym (rw sub-zero at (unmarked 0 (omega arith) (λ b l h. zero-bit x b z)))
