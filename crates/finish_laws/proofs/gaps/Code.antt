@@ -106,7 +106,6 @@ module _ {w k : ℕ} {im₀ im : List ℕ} {e f i : ℕ} (t : Sweeping w k im₀
   pub sweeping-end : (m : Image) → imageOf w k im₀ ≡ setFirstRun m 0 → i ≤ 0 → (im' : List ℕ) → imageOf w k im' ≡ gap (imageOf w k im) 1 e → (n : ℕ) → n ≡ e - 1 → edged 0 (f + n) (imageOf w k im') ≡ sweptAll k m
   unfolding sweptAll closedAt
   sweeping-end m em l im' s n en =
-      let z : w * i ≡ 0 = (let q : i ≡ 0 = omega arith in ap (λ (j : ℕ). w * j) q ∙ omega arith) in
-      let q : 64 * k - w * i ≡ 64 * k = omega arith in
-      let st : edged e f (imageOf w k im) ≡ sweptFrom (64 * k) (edged (64 * k) 0 (setFirstRun m 0)) (64 * k) = t .state ∙ ap (sweptFrom (64 * k) (edged (64 * k) 0 (imageOf w k im₀))) q ∙ ap (λ (i : Image). sweptFrom (64 * k) (edged (64 * k) 0 i) (64 * k)) em in
-      rw (s, en) (ap (closedAt 0 1) st)
+      let z : i ≡ 0 = omega arith in
+      let q : 64 * k - w * i ≡ 64 * k = rw z (omega arith) in
+      rw (s, en) (ap (closedAt 0 1) (rw (q, em) at (t .state)))

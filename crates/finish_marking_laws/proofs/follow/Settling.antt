@@ -128,14 +128,13 @@ module _ {w k : ℕ} {im₀ : List ℕ} {l i : ℕ} {im : List ℕ} {h x : ℕ} 
               let r = t .goes-on m₀ a c v in
               let o : ObjectSettled k m₀ (imageOf w k im) (BitOrBehind w i x c) a object (headed h' (imageOf w k im')) = one-more (r .marking) in
               record {
-                marking = marking-as (o .marking) (BitOrBehind w i x' c) (λ g q b. left c g (λ z. o .done (subst (Pending (imageOf w k im')) z q)) b);
+                marking = marking-as (o .marking) (BitOrBehind w i x' c) (λ g q. elim [
+                  | behind b ↦ behind b
+                  | here j d b p ↦ here j d (rw (ex, withoutBit-other x j (trailingZeros 64 x) (λ z. o .done (subst (Pending (imageOf w k im')) (p ∙ rw z) q))) b) p
+                ]);
                 less = omega (arith, o .less, r .less);
               };
         }
-          where
-            left : (c g : ℕ) → (g ≡ object → ⊥) → BitOrBehind w i x c g → BitOrBehind w i x' c g
-            left c g ne (behind b) = behind b
-            left c g ne (here j d b q) = here j d (rw (ex, withoutBit-other x j (trailingZeros 64 x) (λ z. ne (q ∙ rw z))) b) q
 
 -- ---- the words of a card
 

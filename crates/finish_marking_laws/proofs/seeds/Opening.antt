@@ -54,10 +54,6 @@ module _ (w : ℕ) (m : Image) (e : m .width ≡ w) (o : 0 < w) (i x s y : ℕ) 
       ∙ rw (mark-digit w m e g, start-digit w m e g, q, nth-put-same, bit-and s y (g % w), ← ex, ← es)
       (ap (min (bitOf s (g % w))) (omega (arith, bit-not w x y (g % w) f (mod-lt g o))))
 
-  elsewhere : (g : ℕ) → (g / w ≡ i → ⊥) → startBit after-word g ≡ startBit m g
-  unfolding withStarts
-  elsewhere g n = start-digit w after-word e g ∙ rw nth-put-other (sym (start-digit w m e g))
-
   word-bared : Bared m after-word (WordAt w (markBit m) i)
   unfolding withStarts marked
   word-bared = record {
@@ -68,7 +64,7 @@ module _ (w : ℕ) (m : Image) (e : m .width ≡ w) (o : 0 < w) (i x s y : ℕ) 
     has = λ g p. omega (arith, after g (p .on), p .is-marked);
     only = λ g. elim (ℕ-discrete (g / w) i) [
       | yes q ↦ ⊎-elim (λ z. inr (omega (arith, after g q, digit-le (isStart m g)))) (λ u. inl (record { on = q; is-marked = u })) (digit-two (marked m g))
-      | no n ↦ inr (elsewhere g n)
+      | no n ↦ inr (start-digit w after-word e g ∙ rw nth-put-other (sym (start-digit w m e g)))
     ];
   }
 
