@@ -46,7 +46,9 @@ module _ (m : Image) (o : Lines m) where
     number = refl;
     world = record {
       inside = λ g e. let t = object-at m (heap-filled-of o) g (object-start g e) in omega (arith, t .links-in, t .in-heap);
-      target = λ g i e l n. ⊎-elim (λ z. absurd (n z)) (λ r. (r .0, omega (arith, digit-on (r .1), digit-le (marked m (link m g i))))) (link-value o g i (start-at o g (object-start g e)) l);
+      target = λ g i e l n.
+          let v = link-value o g i (start-at o g (object-start g e)) l in
+          ⊎-elim (λ z. absurd (n z)) (λ r. (r .0, omega (arith, digit-on (r .1), digit-le (marked m (link m g i))))) v;
     };
     zeroth = ⊎-elim (λ z. z) (λ z. absurd (omega (arith, mark-start 0 z, digit-off (o .heap-ok .unused)))) (digit-two (marked m 0));
     marks = mark-start;

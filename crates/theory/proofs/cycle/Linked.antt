@@ -91,10 +91,10 @@ module _ (Ok : Image → Type 0) (st : Steady Ok) where
         at-finish : {x y : Image} → Successive x (f ∷ behind) y → Ok x → Live (Since (b .got)) x → Freed
         at-finish (l-cons _ h d r) ox w =
             let v : Live (Since (b .got)) (f .got) = subst (Live (Since (b .got))) (sym h) w in
-            let k : Fine Ok f = record { got-ok = subst Ok (sym h) ox; is-step = d } in (
+            let k : Fine Ok f = record { got-ok = subst Ok (sym h) ox; is-step = d } in
+            let live = kept-live (Since (b .got)) (f .got) (st .facts (f .got) (k .got-ok) .proper) v g in (
               ⊎-elim (λ t. t) (λ t. absurd (reached (v .live-free g t))) (bool-cases (isStart (f .got) g)),
-              ⊎-elim (λ t. absurd (reached (kept-live (Since (b .got)) (f .got) (st .facts (f .got) (k .got-ok) .proper) v g (finish-event f k af .only-kept g t .1)))) (λ t. t)
-                  (bool-cases (isStart (f .done .image) g)),
+              ⊎-elim (λ t. absurd (reached (live (finish-event f k af .only-kept g t .1)))) (λ t. t) (bool-cases (isStart (f .done .image) g)),
             )
 
         from-begin : {x y : Image} → Successive x (b ∷ (mid ++ (f ∷ behind))) y → Ok x → Freed

@@ -53,7 +53,9 @@ module _ (m : Image) (keep : List Bool) (o : HeapFilled m) (z : HeapSized m) (ke
   pub finish-starts : (g : ℕ) → isStart ((finishWith m keep) .image) g ≡ getD keep g false
   unfolding finishWith isStart zeros
   finish-starts g = elim (decLt g (granules m)) [
-    | yes l ↦ addBits-bit (m .width) keeps (granules m) (replicate (length (m .starts)) 0) g l (λ h k. rw length-replicate (z .start-words h k)) (bit-zeros (m .width) (length (m .starts)))
+    | yes l ↦
+        addBits-bit (m .width) keeps (granules m) (replicate (length (m .starts)) 0) g l
+        (λ h k. rw length-replicate (z .start-words h k)) (bit-zeros (m .width) (length (m .starts)))
     | no l ↦
         addBits-past (m .width) keeps (granules m) (replicate (length (m .starts)) 0) g (omega arith)
         ∙ (bit-zeros (m .width) (length (m .starts)) g ∙ sym (⊎-elim (λ e. absurd (l (o .start-range g (kept g e) .1))) (λ e. e) (bool-cases (keeps g))))

@@ -64,7 +64,8 @@ module _ (m : Image) (u : Undamaged m) where
       let inside : links m g + 2 ≤ 4 * size m g = laid-of o .inside g (was .0) .0 in
       let same = finish-does .kept-stay g (was .0) (was .1) .same-words in
       let l′ : i < links m g = rw (same 1 (omega arith)) at l in
-      rw (same (2 + i) (omega arith)) (kept-nil (link m g i) (kept-link m (u .cover) g i (start-below m (laid-of o) g (was .0)) (was .1) l′) (link-value o g i (start-at o g (was .0)) l′))
+      let kept = kept-link m (u .cover) g i (start-below m (laid-of o) g (was .0)) (was .1) l′ in
+      rw (same (2 + i) (omega arith)) (kept-nil (link m g i) kept (link-value o g i (start-at o g (was .0)) l′))
 
   reg-kept : (i : ℕ) → NilOr (λ x. (x < 64 * m .k) × (isStart ((finishStep m) .image) x ≡ true)) (nth (m .regs) i)
   unfolding reg
