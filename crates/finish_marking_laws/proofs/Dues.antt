@@ -1,6 +1,6 @@
 -- What loses its start bit is what is due: entered, in hand, on a card in hand or on a dirty card.
 use mathlib.Core.Path.{_≡_, refl, sym, _∙_}
-use mathlib.Core.Logic.{_⊎_, inl, inr}
+use mathlib.Core.Logic.{_⊎_, inl, inr, ⊎-elim}
 use Prim.Native.Nat.{ℕ, _+_, _*_, _-_, _/_, _%_, _<_, _≤_}
 use native.Mathlib.Omega.{arith}
 use native.Mathlib.Decide.{ℕ-discrete, decLt}
@@ -8,20 +8,25 @@ use Rattle.model.specs.Base.{nth}
 use Rattle.model.specs.Finish.{Due, due-entered, due-in-hand, due-dirty, due-card-in-hand}
 use Rattle.model.specs.Image.{Image, state, dirty, count, entry, hand, handCard}
 use native.Mathlib.Numerals.{add-one}
-use Rattle.finish_marking_laws.specs.Seeds.{Upto, Refers, EnteredAt, HandAt, DirtyAt, Bared, EntriesIn, HandsIn, RegsIn, object, card}
+use Rattle.finish_marking_laws.specs.Seeds.{Upto, EnteredAt, HandAt, DirtyAt, Bared, EntriesIn, HandsIn, RegsIn, object, card}
 use Rattle.finish_marking_laws.proofs.Fits.{Fit}
 use Rattle.finish_marking_laws.proofs.seeds.Bared.{bared-both, same-section, bared-along}
 use Rattle.image_laws.specs.Digits.{markBit}
 
 -- ---- what the loops need
 
-pub entries-in : {k : ℕ} {m : Image} → 1 ≤ k → Fit k m → EntriesIn k (m .packets)
-entries-in {k} {m} hk f i hi h =
+-- word i of the packets is 0 or an entry
+word-entry : {k : ℕ} {m : Image} → Fit k m → (i : ℕ) → i < 1024 → 2 ≤ i % 32
+    → (nth (m .packets) i ≡ 0) ⊎ ((i % 32 - 2 < nth (m .packets) (32 * (i / 32))) × (nth (m .packets) i < 64 * k) × (markBit m (nth (m .packets) i) ≡ 1))
+word-entry {k} {m} f i hi h =
     let e : 32 * (i / 32) + 2 + (i % 32 - 2) ≡ i = omega arith in
     elim (decLt (i % 32 - 2) (nth (m .packets) (32 * (i / 32)))) [
-      | yes l ↦ rw e at (f .entries (i / 32) (i % 32 - 2) (omega arith) l .0)
-      | no l ↦ let z : nth (m .packets) i ≡ 0 = rw e at (f .past (i / 32) (i % 32 - 2) (omega arith) (omega arith) (omega arith)) in omega arith
+      | yes l ↦ let r = rw e at (f .entries (i / 32) (i % 32 - 2) (omega arith) l) in inr (l, r .0, r .1)
+      | no l ↦ inl (rw e at (f .past (i / 32) (i % 32 - 2) (omega arith) (omega arith) (omega arith)))
     ]
+
+pub entries-in : {k : ℕ} {m : Image} → 1 ≤ k → Fit k m → EntriesIn k (m .packets)
+entries-in hk f i hi h = ⊎-elim (λ z. omega arith) (λ r. r .1) (word-entry f i hi h)
 
 pub hands-in : {k : ℕ} {m : Image} → 1 ≤ k → Fit k m → HandsIn k (m .tracers)
 hands-in {k} {m} hk f t ht = (elim (ℕ-discrete (nth (m .tracers) (8 * t + 2)) 0) [ yes e ↦ omega arith | no n ↦ f .hands t ht n .0 ], f .handCards t ht)
@@ -51,24 +56,18 @@ module _ {k : ℕ} {m m1 m2 m3 : Image} (a : Bared m m1 (Entries m)) (b : Bared 
       bared-both (bared-both {N2 = λ g. Entries m g ⊎ Hands m g} a b' (λ g q. q) (λ g q. inl q) (λ g q. inr q)) c' (λ g q. q) (λ g q. inl q) (λ g q. inr q)
 
 module _ (k : ℕ) (m : Image) (f : Fit k m) where
-  due-entry : (g i : ℕ) → i < 1024 → 2 ≤ i % 32 → Refers (nth (m .packets) i) g → (markBit m g ≡ 1) × Due m g
-  unfolding count entry
-  due-entry g i hi h q =
-      let eq : 32 * (i / 32) + 2 + (i % 32 - 2) ≡ i = omega arith in
-      elim (decLt (i % 32 - 2) (nth (m .packets) (32 * (i / 32)))) [
-        | yes l ↦ (rw (q .eq, ← eq) (f .entries (i / 32) (i % 32 - 2) (omega arith) l .1), due-entered (i / 32) (i % 32 - 2) (omega arith) l (rw eq (sym (q .eq))))
-        | no l ↦ absurd (q .some (rw eq at (f .past (i / 32) (i % 32 - 2) (omega arith) (omega arith) (omega arith))))
-      ]
-
-  due-hand : (g t : ℕ) → t < 8 → HandAt (m .tracers) (markBit m) t g → (markBit m g ≡ 1) × Due m g
-  unfolding hand handCard
-  due-hand g t l (object e) = (rw (e .eq) (f .hands t l (e .some) .1), due-in-hand t l (sym (e .eq)))
-  due-hand g t l (card e o) = (o, due-card-in-hand t l (e ∙ add-one (g / 64)))
-
   pub dues-due : (g : ℕ) → Dues k m g → (markBit m g ≡ 1) × Due m g
-  unfolding dirty state
-  dues-due g (inl (inl q)) = due-entry g (q .place) (q .below) (q .here .place) (q .here .is)
-  dues-due g (inl (inr q)) = due-hand g (q .place) (q .below) (q .here)
+  unfolding count entry hand handCard dirty state
+  dues-due g (inl (inl q)) =
+      let e : 32 * (q .place / 32) + 2 + (q .place % 32 - 2) ≡ q .place = omega (arith, q .here .place) in
+      ⊎-elim
+      (λ z. absurd (q .here .is .some z))
+      (λ r. (rw (q .here .is .eq) (r .2), due-entered (q .place / 32) (q .place % 32 - 2) (omega (arith, q .below)) (r .0) (rw e (sym (q .here .is .eq)))))
+      (word-entry f (q .place) (q .below) (q .here .place))
+  dues-due g (inl (inr q)) = elim (q .here) [
+    | object e ↦ (rw (e .eq) (f .hands (q .place) (q .below) (e .some) .1), due-in-hand (q .place) (q .below) (sym (e .eq)))
+    | card e o ↦ (o, due-card-in-hand (q .place) (q .below) (e ∙ add-one (g / 64)))
+  ]
   dues-due g (inr q) = (q .here .is-marked, due-dirty (rw (q .here .on) (q .here .is-dirty)))
 
   -- granule 0 is not marked

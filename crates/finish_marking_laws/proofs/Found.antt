@@ -38,19 +38,18 @@ module _ {k : ℕ} {m m3 m4 m5 : Image} {h : ℕ} (f : Fit k m) (d : Bared m m3 
   link5 : (g i : ℕ) → link m5 g i ≡ link m g i
   link5 g i = same-link m m5 heap5 g i
 
-  record Hold (g : ℕ) : Type 0 where
-    pub place : ℕ
-    pub below : place < 256
-    pub is : Refers (nth (m .regs) place) g
+  -- some register holds g
+  abbrev Hold : ℕ → Type 0
+  Hold g = Upto (λ i. Refers (nth (m .regs) i)) 256 g
 
   from : (g : ℕ) → Upto (HeldAt (m3 .regs) (markBit m3)) 256 g → Hold g × (markBit m g ≡ 0)
-  from g q = (record { place = q .place; below = q .below; is = subst (λ (l : List ℕ). Refers (nth l (q .place)) g) (same-section (d .rest) 0) (q .here .is) }, sym (mark3 g) ∙ q .here .bare)
+  from g q = (record { place = q .place; below = q .below; here = subst (λ (l : List ℕ). Refers (nth l (q .place)) g) (same-section (d .rest) 0) (q .here .is) }, sym (mark3 g) ∙ q .here .bare)
 
   to : (g : ℕ) → Hold g → markBit m g ≡ 0 → Upto (HeldAt (m3 .regs) (markBit m3)) 256 g
-  to g q u = record { place = q .place; below = q .below; here = record { is = subst (λ (l : List ℕ). Refers (nth l (q .place)) g) (sym (same-section (d .rest) 0)) (q .is); bare = mark3 g ∙ u } }
+  to g q u = record { place = q .place; below = q .below; here = record { is = subst (λ (l : List ℕ). Refers (nth l (q .place)) g) (sym (same-section (d .rest) 0)) (q .here); bare = mark3 g ∙ u } }
 
   hold-in : (g : ℕ) → Hold g → (g < 64 * k) × (startBit m g ≡ 1)
-  hold-in g q = rw (q .is .eq) (f .regs (q .place) (q .below) (q .is .some))
+  hold-in g q = rw (q .here .eq) (f .regs (q .place) (q .below) (q .here .some))
 
   -- marked now: marked at first, or held
   marked-from : (g : ℕ) → markBit m5 g ≡ 1 → (markBit m g ≡ 1) ⊎ Hold g
@@ -111,7 +110,7 @@ module _ {k : ℕ} {m m3 m4 m5 : Image} {h : ℕ} (f : Fit k m) (d : Bared m m3 
   unfolding reg
   found-held g q =
       let s : 16 * (q .place / 16) + q .place % 16 ≡ q .place = omega arith in
-      found-reg (q .place / 16) (q .place % 16) (omega (arith, q .below)) (omega arith) (ap (nth (m .regs)) s ∙ sym (q .is .eq)) (λ z. q .is .some (sym (q .is .eq) ∙ z))
+      found-reg (q .place / 16) (q .place % 16) (omega (arith, q .below)) (omega arith) (ap (nth (m .regs)) s ∙ sym (q .here .eq)) (λ z. q .here .some (sym (q .here .eq) ∙ z))
 
   reach-found : {a : ℕ} → Reach m5 a → Found m a
   unfolding granules
@@ -135,7 +134,7 @@ module _ {k : ℕ} {m m3 m4 m5 : Image} {h : ℕ} (f : Fit k m) (d : Bared m m3 
 
   found-reach : {a : ℕ} → Found m a → (markBit m5 a ≡ 1) ⊎ Reach m5 a
   unfolding reg
-  found-reach {a} (found-reg p r hp hr e n) = inl (marked-to a (inr (record { place = 16 * p + r; below = omega arith; is = record { eq = sym e; some = λ z. n (sym e ∙ z) } })))
+  found-reach {a} (found-reg p r hp hr e n) = inl (marked-to a (inr (record { place = 16 * p + r; below = omega arith; here = record { eq = sym e; some = λ z. n (sym e ∙ z) } })))
   found-reach {a} (found-link g i r u l e n) = inr (onward g i a (found-reach r) (digit-off u) l e n)
   found-reach (found-due g i hg o' q l e n) = inr (seed g i (pending-to g (inl (digit-on o', q))) (rw (links5 g) l) (link5 g i ∙ e) n)
 

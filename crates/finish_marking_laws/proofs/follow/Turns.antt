@@ -6,7 +6,7 @@ use native.Mathlib.Omega.{arith}
 use native.Mathlib.Decide.{ℕ-discrete}
 use Rattle.model.specs.Image.{Image, isStart, marked, links, link, withStarts, withCards, setStart, setState}
 use Rattle.model.proofs.Laws.{nth-put-other}
-use Rattle.finish_marking_laws.specs.Follow.{cardWord, Pending, Headed, headed, visited, visits, settled, LinksIn, Reach, objectBit, Nowhere, Followed, follow, seed}
+use Rattle.finish_marking_laws.specs.Follow.{cardWord, Pending, Headed, visited, visits, settled, LinksIn, Reach, objectBit, Nowhere, Followed, follow, seed}
 use Rattle.finish_marking_laws.specs.Marking.{Marking, weight, onList, workLeft, Between}
 use Rattle.finish_marking_laws.proofs.follow.Bits.{Settled, settled-bits, start-shape}
 use Rattle.finish_marking_laws.proofs.follow.Grown.{same-links, same-link, grown-settle, grown-cards, links-found}
@@ -90,13 +90,14 @@ settle-pending {a = a} p g q = elim (ℕ-discrete g a) [
   | no n ↦ record { is-marked = sym (p .marks g) ∙ q .is-marked; bare = sym (p .starts g n) ∙ q .bare }
 ]
 
-settle-last : {k : ℕ} {m₀ m : Image} {N : ℕ → Type 0} {h g : ℕ} → g < 64 * k → Pending m g → (p : Headed) → LinksVisited k m₀ m N h g (links m₀ g) p
-    → ObjectSettled k m₀ m N h g (headed (p .head) (setStart (p .image) g))
-unfolding workLeft setStart withStarts onList
-settle-last {k} {m₀} {g = g} hg q p t =
+pub object-settled : {k : ℕ} {m₀ m : Image} {N : ℕ → Type 0} {h l : ℕ} → Marking k m₀ m N h l → (g : ℕ) → g < 64 * k → Pending m g → ObjectSettled k m₀ m N h g (settled m l g)
+unfolding settled workLeft setStart withStarts onList
+object-settled {k} {m₀} {m} {N} {h} {l} v g hg q =
+    let p : Headed = visits m l g (links m₀ g) in
+    let t : LinksVisited k m₀ m N h g (links m₀ g) p = through v g q (links m₀ g) (omega arith) in
     let w = t .marking .grown in
     let s : Settled (p .image) (setStart (p .image) g) g = settled-bits k (p .image) g (w .shape) hg in
-    record {
+    rw (same-links m₀ m (v .grown .heap) g) (record {
       marking = record {
         world = t .marking .world;
         grown = grown-settle w (start-shape k (p .image) g (w .shape)) refl refl s (t .pending g q) (t .all);
@@ -105,13 +106,7 @@ settle-last {k} {m₀} {g = g} hg q p t =
       less = omega (arith, weights-settle (64 * k) hg s (t .pending g q), t .less);
       done = λ o. omega (arith, o .bare, s .start);
       others = λ a o n. record { is-marked = s .marks a ∙ t .pending a o .is-marked; bare = s .starts a n ∙ t .pending a o .bare };
-    }
-
-pub object-settled : {k : ℕ} {m₀ m : Image} {N : ℕ → Type 0} {h l : ℕ} → Marking k m₀ m N h l → (g : ℕ) → g < 64 * k → Pending m g → ObjectSettled k m₀ m N h g (settled m l g)
-unfolding settled
-object-settled {k} {m₀} {m} {N} {h} {l} w g hg q =
-    rw (same-links m₀ m (w .grown .heap) g)
-    (settle-last hg q (visits m l g (links m₀ g)) (through w g q (links m₀ g) (omega arith)))
+    })
 
 -- ---- a card is taken from the list: its pending objects are to be settled
 
