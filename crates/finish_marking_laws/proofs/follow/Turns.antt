@@ -4,11 +4,12 @@ use mathlib.Core.Logic.{inl, inr, ⊎-elim}
 use Prim.Native.Nat.{ℕ, zero, suc, _+_, _*_, _-_, _/_, _<_, _≤_}
 use native.Mathlib.Omega.{arith}
 use native.Mathlib.Decide.{ℕ-discrete}
+use Rattle.model.specs.Base.{setBit}
 use Rattle.model.specs.Image.{Image, isStart, marked, links, link, withStarts, withCards, setStart, setState}
-use Rattle.model.proofs.Laws.{nth-put-other}
+use Rattle.model.proofs.Laws.{length-put, nth-put-other}
 use Rattle.finish_marking_laws.specs.Follow.{cardWord, Pending, Headed, visited, visits, settled, LinksIn, Reach, objectBit, Nowhere, Followed, follow, seed}
-use Rattle.finish_marking_laws.specs.Marking.{Marking, weight, onList, workLeft, Between}
-use Rattle.finish_marking_laws.proofs.follow.Bits.{Settled, settled-bits, start-shape}
+use Rattle.finish_marking_laws.specs.Marking.{Shape, Marking, weight, onList, workLeft, Between}
+use Rattle.finish_marking_laws.proofs.follow.Bits.{Settled, settled-bits}
 use Rattle.finish_marking_laws.proofs.follow.Grown.{same-links, same-link, grown-settle, grown-cards, links-found}
 use Rattle.finish_marking_laws.proofs.follow.Measure.{weights-settle, cards-change}
 use Rattle.finish_marking_laws.proofs.follow.Visiting.{visit-keeps}
@@ -91,16 +92,17 @@ settle-pending {a = a} p g q = elim (ℕ-discrete g a) [
 ]
 
 pub object-settled : {k : ℕ} {m₀ m : Image} {N : ℕ → Type 0} {h l : ℕ} → Marking k m₀ m N h l → (g : ℕ) → g < 64 * k → Pending m g → ObjectSettled k m₀ m N h g (settled m l g)
-unfolding settled workLeft setStart withStarts onList
+unfolding settled workLeft setStart withStarts setBit onList
 object-settled {k} {m₀} {m} {N} {h} {l} v g hg q =
     let p : Headed = visits m l g (links m₀ g) in
     let t : LinksVisited k m₀ m N h g (links m₀ g) p = through v g q (links m₀ g) (omega arith) in
     let w = t .marking .grown in
     let s : Settled (p .image) (setStart (p .image) g) g = settled-bits k (p .image) g (w .shape) hg in
+    let s' : Shape k (setStart (p .image) g) = record { starts = λ a b. rw length-put (w .shape .starts a b); marks = w .shape .marks; cards = w .shape .cards } in
     rw (same-links m₀ m (v .grown .heap) g) (record {
       marking = record {
         world = t .marking .world;
-        grown = grown-settle w (start-shape k (p .image) g (w .shape)) refl refl s (t .pending g q) (t .all);
+        grown = grown-settle w s' refl refl s (t .pending g q) (t .all);
         listed = record { list = t .marking .listed .list; holds = λ a o. t .marking .listed .holds a (settle-pending s a o) };
       };
       less = omega (arith, weights-settle (64 * k) hg s (t .pending g q), t .less);

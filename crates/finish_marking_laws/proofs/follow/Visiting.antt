@@ -4,16 +4,17 @@ use mathlib.Core.Logic.{_⊎_, inl, inr, ⊎-elim}
 use Prim.Native.Nat.{ℕ, _*_, _/_, _<_, _≤_}
 use native.Mathlib.Omega.{arith}
 use native.Mathlib.Decide.{ℕ-discrete}
+use Rattle.model.specs.Base.{setBit}
 use Rattle.model.specs.Image.{Image, isStart, withStarts, withMarks, withCards, setMark, setState, marked}
-use Rattle.model.proofs.Laws.{nth-put-same, nth-put-other}
+use Rattle.model.proofs.Laws.{length-put, nth-put-same, nth-put-other}
 use Rattle.finish_marking_laws.specs.Follow.{Pending, Headed, pend, visited, Reach, objectBit}
-use Rattle.finish_marking_laws.specs.Marking.{Grown, Marking, weight, onList, workLeft}
-use Rattle.finish_marking_laws.proofs.follow.Bits.{Pended, pended, pend-shape}
+use Rattle.finish_marking_laws.specs.Marking.{Shape, Grown, Marking, weight, onList, workLeft}
+use Rattle.finish_marking_laws.proofs.follow.Bits.{Pended, pended}
 use Rattle.finish_marking_laws.proofs.follow.Grown.{pend-grow, grown-pend, grown-cards}
 use Rattle.finish_marking_laws.proofs.follow.Measure.{weights-pend, cards-change}
 use Rattle.finish_marking_laws.proofs.follow.Visits.{Visit, visit-cases, past, on, new}
 use Rattle.finish_marking_laws.proofs.follow.Worklist.{later-low, push}
-use Rattle.image_laws.specs.Bits.{clearStart}
+use Rattle.image_laws.specs.Bits.{clearBit, clearStart}
 use Rattle.image_laws.specs.Digits.{markBit}
 
 pub record Visited (k : ℕ) (m₀ m : Image) (N : ℕ → Type 0) (h a : ℕ) (p : Headed) : Type 0 where
@@ -42,8 +43,11 @@ module _ {k : ℕ} {m₀ m : Image} {N : ℕ → Type 0} {h l : ℕ} (a : ℕ) (
     bits = pended k m a (w .grown .shape) (f n .1)
 
     grown : Grown k m₀ (pend m a)
-    unfolding pend clearStart setMark withStarts withMarks
-    grown = grown-pend (w .grown) (pend-shape k m a (w .grown .shape)) refl refl bits (f n .2) u (f n .0)
+    unfolding pend clearStart setMark withStarts withMarks clearBit setBit
+    grown =
+        let s = w .grown .shape in
+        let s' : Shape k (pend m a) = record { starts = λ g h. rw length-put (s .starts g h); marks = λ g h. rw length-put (s .marks g h); cards = s .cards } in
+        grown-pend (w .grown) s' refl refl bits (f n .2) u (f n .0)
 
   visit-any : {p : Headed} → Visit m l a p → Visited k m₀ m N h a p
   unfolding workLeft pend clearStart setMark withStarts withMarks setState withCards marked isStart weight onList
