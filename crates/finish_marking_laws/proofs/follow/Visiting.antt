@@ -76,7 +76,9 @@ module _ {k : ℕ} {m₀ m : Image} {N : ℕ → Type 0} {h l : ℕ} (a : ℕ) (
             list = push (w .listed .list) (a / 64) (omega (arith, w .grown .shape .cards)) z;
             holds = λ g q. elim (ℕ-discrete (g / 64) (a / 64)) [
               | yes e ↦ inl (rw (e, nth-put-same (m .cards) (a / 64) l (omega (arith, w .grown .shape .cards))) (later-low (w .listed .list)))
-              | no d ↦ rw nth-put-other (⊎-elim (λ e. absurd (d (rw e))) (λ r. w .listed .holds g r) (pend-pending p g (record { is-marked = q .is-marked; bare = q .bare })))
+              | no d ↦
+                  let q' : Pending (pend m a) g = record { is-marked = q .is-marked; bare = q .bare } in
+                  rw nth-put-other (⊎-elim (λ e. absurd (d (rw e))) (λ r. w .listed .holds g r) (pend-pending p g q'))
             ];
           };
         };

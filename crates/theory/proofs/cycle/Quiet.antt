@@ -128,7 +128,9 @@ module _ {P : ℕ → Type 0} where
     where
       go : (x : ℕ) → Quiet P m (cleanTo m t x)
       go zero = unfold cleanTo putCard fields-open in quiet-silent m _ _ _ _
-      go (suc g) = unfold cleanTo in quiet-trans {m = putCard m t (handCard m t) (suc g)} (unfold putCard setTracer withTracers in quiet-silent m _ _ _ _) (quiet-take _ t g)
+      go (suc g) =
+          let c : Quiet P m (putCard m t (handCard m t) (suc g)) = unfold putCard setTracer withTracers in quiet-silent m _ _ _ _ in
+          unfold cleanTo in quiet-trans c (quiet-take _ t g)
 
   pub quiet-clean : (m : Image) (t : ℕ) → NextSource P m t → Quiet P m (cleanStep m t)
   unfolding cleanStep cleanLine takeCard putCard setTracer withTracers setState withCards

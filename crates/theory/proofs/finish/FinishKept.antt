@@ -72,7 +72,7 @@ module _ (m : Image) (u : Undamaged m) where
   reg-kept i =
       let place : 16 * (i / 16) + i % 16 ≡ i = omega arith in
       elim (decLt i 256) [
-        | yes h ↦ kept-nil (nth (m .regs) i) (λ nz. kept-found (found-reg (i / 16) (i % 16) (omega arith) (omega arith) (ap (nth (m .regs)) place) nz)) (o .regs-ok .values i)
+        | yes h ↦ kept-nil (nth (m .regs) i) (λ nz. kept-found (found-reg (i / 16) (i % 16) (omega arith) (omega arith) (rw place) nz)) (o .regs-ok .values i)
         | no h ↦ inl (nth-out (m .regs) i (omega (arith, o .regs-ok .sized)))
       ]
 

@@ -69,7 +69,10 @@ module _ (w : ℕ) (ws : List ℕ) (fit : fits w (length ws) ≡ true) (ok : sou
           let r = was h t in
           elim (ℕ-discrete h g) [
             | yes e ↦ nk (rw e at (r .1))
-            | no e ↦ elim (decLt h g) [ yes d ↦ omega (arith, r .2, laid-of o .apart h g (r .0) s d) | no d ↦ omega (arith, r .2, laid-of o .apart g h s (r .0) (omega arith)) ]
+            | no e ↦ elim (decLt h g) [
+              | yes d ↦ omega (arith, r .2, laid-of o .apart h g (r .0) s d)
+              | no d ↦ omega (arith, r .2, laid-of o .apart g h s (r .0) (omega arith))
+            ]
           ];
     };
     unused-stays = λ y u. record { in-range = u .in-range; in-no-object = λ h s l q. let r = was h s in u .in-no-object h (r .0) l (omega (arith, r .2)) };
