@@ -79,12 +79,6 @@ module _ (G : ℕ) (m old : Image) (H : List ℕ) (lH : length H ≡ 4 * G) (hg 
       let k : G - suc (G - (g + s) + (s - 1)) ≡ g = omega arith in
       rw (q, from-suc, skip g s r c hG d ba (s - 1) (omega arith), k)
 
-  -- a piece that goes
-  gone : (g s x : ℕ) (r : Swept) (c : ℕ) → marked m g ≡ false → passed (done (g + s) r c) g ≡ done g (record { free = s + r .free; rest = r .rest; next = r .next; freed = x }) c
-  gone g s x r c u =
-      let q : g + s + r .free ≡ g + (s + r .free) = omega arith in
-      passed-none (done (g + s) r c) g (marked-with-sweep m _ _ g ∙ u) ∙ rw q
-
   -- a piece that is kept
   module _ (g s x : ℕ) (ws rest : List ℕ) (r : Swept) (c : ℕ) (ew : drop (4 * g) H ≡ (s ∷ ws) ++ rest) (lw : suc (length ws) ≡ 4 * s) (hl : 4 * (g + s + r .free) ≤ length H) where
     size-here : size (from m H hg (g + s) r) g ≡ s
@@ -138,9 +132,10 @@ module _ (G : ℕ) (m old : Image) (H : List ℕ) (lH : length H ≡ 4 * G) (hg 
         count = λ n l. omega (arith, cc n l (d .runs + r .free) (λ i q. d .count i q));
       }
   good-piece g s next next' ws rest r ba ew lw hG d false u cc =
+      let q : g + s + r .free ≡ g + (s + r .free) = omega arith in
       record {
         runs = d .runs;
-        state = at-first g s r (d .runs) (omega arith) hG (d .state) ba ∙ gone g s (cond (isStart m g) s 0 + r .freed) r (d .runs) u;
+        state = at-first g s r (d .runs) (omega arith) hG (d .state) ba ∙ passed-none (done (g + s) r (d .runs)) g (marked-with-sweep m _ _ g ∙ u) ∙ rw q;
         inside = omega (arith, d .inside);
         count = λ n l. omega (arith, cc n l (d .runs + r .free) (λ i q. d .count i q));
       }
