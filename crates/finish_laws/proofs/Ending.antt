@@ -1,6 +1,6 @@
 -- The end of a finish: mark bits copied to the start bits, scanned words off, and all that becomes 0.
 use mathlib.Core.Path.{_≡_, refl, sym, ap, _∙_}
-use mathlib.Core.List.{List, [], _∷_}
+use mathlib.Core.List.{List}
 use Prim.Native.Nat.{ℕ, zero, suc, _+_, _*_, _/_, _%_, _^_, _<_, _≤_}
 use native.Mathlib.Omega.{arith}
 use native.Mathlib.Decide.{ℕ-discrete, decLt}
@@ -9,7 +9,7 @@ use lib.ListN.{length}
 use Rattle.model.specs.Base.{nth, put, zeros}
 use Rattle.model.specs.Finish.{scannedOff}
 use Rattle.model.proofs.Laws.{nth-put-same, nth-put-other, length-put, nth-out}
-use Rattle.theory.proofs.finish.Replaced.{off-length, off-owed}
+use Rattle.theory.proofs.finish.Replaced.{off-length, off-owed, off-scanned}
 use native.Mathlib.Numerals.{add-one}
 use Rattle.model.specs.Image.{Image, withStarts, withMarks, withPackets, withTracers, withPlayers, withGeneral}
 use Rattle.finish_laws.specs.Ending.{copied, StartsKept, scannedOffTo, ended}
@@ -25,23 +25,15 @@ length-copied from to (suc n) = length-put (copied from to n) n (nth from n) ∙
 nth-copied : (from to : List ℕ) (n i : ℕ) → i < n → n ≤ length to → nth (copied from to n) i ≡ nth from i
 unfolding copied
 nth-copied from to zero i h l = absurd (omega arith)
-nth-copied from to (suc n) i h l = go (λ q. nth-copied from to n i q (omega arith)) (ℕ-discrete i n)
-  where
-    go : (i < n → nth (copied from to n) i ≡ nth from i) → Dec (i ≡ n) → nth (put (copied from to n) n (nth from n)) i ≡ nth from i
-    go ih (yes e) = rw e (nth-put-same (copied from to n) n (nth from n) (omega (arith, length-copied from to n)))
-    go ih (no e) = nth-put-other (copied from to n) n i (nth from n) e ∙ ih (omega arith)
+nth-copied from to (suc n) i h l = elim (ℕ-discrete i n) [
+  | yes e ↦ rw e (nth-put-same (copied from to n) n (nth from n) (omega (arith, length-copied from to n)))
+  | no e ↦ rw nth-put-other (nth-copied from to n i (omega arith) (omega arith))
+]
 
 pub copied-all : (from to : List ℕ) (n : ℕ) → length to ≡ n → length from ≡ n → copied from to n ≡ from
 copied-all from to n e f = nth-ext (copied from to n) from (omega (arith, length-copied from to n)) (λ i h. nth-copied from to n i (omega (arith, length-copied from to n)) (omega arith))
 
 -- ---- scanned words off
-
-scanned-odd : (l : List ℕ) (p : ℕ) → 2 * p + 1 < length l → nth (scannedOff l) (2 * p + 1) ≡ 0
-unfolding scannedOff nth
-scanned-odd [] p h = refl
-scanned-odd (o ∷ []) p h = absurd (omega arith)
-scanned-odd (o ∷ s ∷ l) zero h = refl
-scanned-odd (o ∷ s ∷ l) (suc p) h = let e : 2 * suc p + 1 ≡ suc (suc (2 * p + 1)) = omega arith in rw e (scanned-odd l p (omega arith))
 
 length-scannedOffTo : (l : List ℕ) (p : ℕ) → length (scannedOffTo l p) ≡ length l
 unfolding scannedOffTo
@@ -56,18 +48,18 @@ off-to-even l (suc n) p = nth-put-other (scannedOffTo l n) (2 * n + 1) (2 * p) 0
 off-to-odd : (l : List ℕ) (n p : ℕ) → p < n → 2 * n ≤ length l → nth (scannedOffTo l n) (2 * p + 1) ≡ 0
 unfolding scannedOffTo
 off-to-odd l zero p h e = absurd (omega arith)
-off-to-odd l (suc n) p h e = go (λ q. off-to-odd l n p q (omega arith)) (ℕ-discrete p n)
-  where
-    go : (p < n → nth (scannedOffTo l n) (2 * p + 1) ≡ 0) → Dec (p ≡ n) → nth (put (scannedOffTo l n) (2 * n + 1) 0) (2 * p + 1) ≡ 0
-    go ih (yes q) = rw q (nth-put-same (scannedOffTo l n) (2 * n + 1) 0 (omega (arith, length-scannedOffTo l n)))
-    go ih (no q) = nth-put-other (scannedOffTo l n) (2 * n + 1) (2 * p + 1) 0 (omega arith) ∙ ih (omega arith)
+off-to-odd l (suc n) p h e = elim (ℕ-discrete p n) [
+  | yes q ↦ rw q (nth-put-same (scannedOffTo l n) (2 * n + 1) 0 (omega (arith, length-scannedOffTo l n)))
+  | no q ↦ nth-put-other (scannedOffTo l n) (2 * n + 1) (2 * p + 1) 0 (omega arith) ∙ off-to-odd l n p (omega arith) (omega arith)
+]
 
 pub off-to-all : (l : List ℕ) (n : ℕ) → length l ≡ 2 * n → scannedOffTo l n ≡ scannedOff l
-off-to-all l n e = nth-ext (scannedOffTo l n) (scannedOff l) (length-scannedOffTo l n ∙ sym (off-length l)) (λ i h. at-place i (omega (arith, length-scannedOffTo l n)) (ℕ-discrete (i % 2) 0))
-  where
-    at-place : (i : ℕ) → i < 2 * n → Dec (i % 2 ≡ 0) → nth (scannedOffTo l n) i ≡ nth (scannedOff l) i
-    at-place i h (yes z) = let q : i ≡ 2 * (i / 2) = omega arith in rw q (off-to-even l n (i / 2) ∙ sym (off-owed l (i / 2)))
-    at-place i h (no z) = let q : i ≡ 2 * (i / 2) + 1 = omega arith in rw q (off-to-odd l n (i / 2) (omega arith) (omega arith) ∙ sym (scanned-odd l (i / 2) (omega arith)))
+off-to-all l n e = nth-ext (scannedOffTo l n) (scannedOff l) (length-scannedOffTo l n ∙ sym (off-length l)) (λ i h.
+    let s : i < 2 * n = omega (arith, length-scannedOffTo l n) in
+    elim (ℕ-discrete (i % 2) 0) [
+      | yes z ↦ let q : i ≡ 2 * (i / 2) = omega arith in rw q (off-to-even l n (i / 2) ∙ sym (off-owed l (i / 2)))
+      | no z ↦ let q : i ≡ 2 * (i / 2) + 1 = omega arith in rw q (off-to-odd l n (i / 2) (omega arith) (omega arith) ∙ sym (off-scanned l (i / 2)))
+    ])
 
 -- ---- the loops
 
@@ -81,28 +73,19 @@ unfolding copied withStarts
 copied-none w m = record { state = refl; small = λ i h. absurd (omega arith) }
 
 pub copied-more : {w : ℕ} {m m1 m2 : Image} {i : ℕ} → StartsCopied w m m1 i → (v : ℕ) → v ≡ nth (m1 .marks) i → v < 2 ^ w → m2 ≡ withStarts m1 (put (m1 .starts) i v) → StartsCopied w m m2 (i + 1)
-unfolding copied
-copied-more {w} {m} {m1} {m2} {i} t v ev hv e = record {
-  state = e ∙ ap (λ (m : Image). withStarts m (put (m .starts) i v)) (t .state) ∙ again ∙ rw (add-one, word);
-  small = λ j h. here j h (ℕ-discrete j i);
-}
-  where
-    again : withStarts (withStarts m (copied (m .marks) (m .starts) i)) (put (withStarts m (copied (m .marks) (m .starts) i) .starts) i v) ≡ withStarts m (put (copied (m .marks) (m .starts) i) i v)
-    again = unfold withStarts in refl
-
-    word : v ≡ nth (m .marks) i
-    word = ev ∙ ap (λ (m : Image). nth (m .marks) i) (t .state) ∙ unfold withStarts in refl
-
-    here : (j : ℕ) → j < i + 1 → Dec (j ≡ i) → nth (m .marks) j < 2 ^ w
-    here j h (yes q) = rw (q, ← word) hv
-    here j h (no q) = t .small j (omega arith)
+unfolding copied withStarts
+copied-more {m = m} {i = i} t v ev hv e =
+    let word : v ≡ nth (m .marks) i = ev ∙ ap (λ (m : Image). nth (m .marks) i) (t .state) in
+    record {
+      state = e ∙ ap (λ (m : Image). withStarts m (put (m .starts) i v)) (t .state) ∙ rw (add-one, word);
+      small = λ j h. elim (ℕ-discrete j i) [ yes q ↦ rw (q, ← word) hv | no q ↦ t .small j (omega arith) ];
+    }
 
 pub copied-end : {w n : ℕ} {m m' : Image} → length (m .starts) ≡ n → length (m .marks) ≡ n → StartsCopied w m m' n → StartsKept w m m'
-copied-end {w} {n} {m} {m'} ls lm t = record { image = t .state ∙ ap (withStarts m) (copied-all (m .marks) (m .starts) n ls lm); small = λ i. go i (decLt i n) }
-  where
-    go : (i : ℕ) → Dec (i < n) → nth (m .marks) i < 2 ^ w
-    go i (yes h) = t .small i h
-    go i (no h) = rw (nth-out (m .marks) i (omega arith)) (pow-pos w)
+copied-end {w} {n} {m} {m'} ls lm t = record {
+  image = t .state ∙ ap (withStarts m) (copied-all (m .marks) (m .starts) n ls lm);
+  small = λ i. elim (decLt i n) [ yes h ↦ t .small i h | no h ↦ rw (nth-out (m .marks) i (omega arith)) (pow-pos w) ];
+}
 
 pub off-none : (m : Image) → m ≡ withPlayers m (scannedOffTo (m .players) 0)
 unfolding scannedOffTo withPlayers

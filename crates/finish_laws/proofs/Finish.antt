@@ -1,12 +1,12 @@
 -- A finish as the code does it is the model's: marking, sweep and end together, on every sound image.
-use mathlib.Core.Path.{_≡_, refl, sym, ap, subst, fun-ext, _∙_}
+use mathlib.Core.Path.{_≡_, sym, ap, fun-ext, _∙_}
 use mathlib.Core.Bool.{Bool, true, false}
 use mathlib.Core.List.{List, _++_}
 use Prim.Native.Nat.{ℕ, _+_, _*_, _-_, _^_, _<_, _≤_}
 use native.Mathlib.Omega.{arith}
-use lib.ListN.{length, getD, set, take, drop, length-drop}
+use lib.ListN.{length, replicate, getD, take, drop, length-drop}
 use lib.Seq.{set-comm}
-use Rattle.model.specs.Base.{nth, put, zeros, bit, addBits}
+use Rattle.model.specs.Base.{nth, put, zeros, addBits}
 use Rattle.model.specs.Image.{Image, granules, isStart, marked, firstRun, imageOf, withHeap, withStarts, withMarks, withPackets, withTracers, withPlayers, withGeneral, setFirstRun, words}
 use Rattle.model.specs.Undamaged.{sound}
 use Rattle.model.specs.Mutate.{freeFrom, freeGranules}
@@ -38,47 +38,10 @@ use Rattle.finish_marking_laws.proofs.seeds.Bared.{same-section}
 pub sited-of : (m : Image) → Fits m → sound m ≡ true → Sited m
 sited-of m f e = rw (parts-words m f) at (sited (m .width) (words m) (words-fit m f) (rw (parts-words m f) e))
 
-module _ (m m1 : Image) (s : Sited m) (o : Lines m) (q : KeptMarked m m1) where
-  kept-start : (g : ℕ) → Kept m g → isStart m g ≡ true
-  kept-start g (kept-marked h) = unfold isStart in (o .marks-ok .on-starts g (unfold marked in h)) .1
-  kept-start g (kept-found h) = found-start m s h .1
-
-  marks-kept : (g : ℕ) → marked m1 g ≡ getD (keptSet m) g false
-  marks-kept g = same-test _ _ (λ h. let r = q .only g h in kept-set m s g (kept-start g r) r) (λ h. q .all g (set-kept m s g h .1))
-
-  marks-starts : (g : ℕ) → marked m1 g ≡ true → isStart m1 g ≡ true
-  marks-starts g h = q .starts g ∙ kept-start g (q .only g h)
-
--- ---- images by their fields
-
-same-fields : {w w' k k' : ℕ} {h h' s s' m m' c c' r r' p p' t t' u u' g g' : List ℕ} → w ≡ w' → k ≡ k' → h ≡ h' → s ≡ s' → m ≡ m' → c ≡ c' → r ≡ r' → p ≡ p' → t ≡ t' → u ≡ u' → g ≡ g'
-    → _≡_ {A = Image}
-    (record { width = w; k = k; heap = h; starts = s; marks = m; cards = c; regs = r; packets = p; tracers = t; players = u; general = g })
-    (record { width = w'; k = k'; heap = h'; starts = s'; marks = m'; cards = c'; regs = r'; packets = p'; tracers = t'; players = u'; general = g' })
-same-fields a b c d e f g h i j k =
-    λ x. record { width = a x; k = b x; heap = c x; starts = d x; marks = e x; cards = f x; regs = g x; packets = h x; tracers = i x; players = j x; general = k x }
-
--- the fields after the sweep and the end
-ended-fields : (m : Image) (hs : List ℕ) (f : ℕ) → let i = withSweep m hs f in
-    ended (withStarts i (i .marks)) ≡ record {
-      width = m .width;
-      k = m .k;
-      heap = hs;
-      starts = m .marks;
-      marks = zeros (m .marks);
-      cards = m .cards;
-      regs = m .regs;
-      packets = zeros (m .packets);
-      tracers = zeros (m .tracers);
-      players = scannedOffTo (m .players) 16;
-      general = put (put (m .general) 1 f) 0 0;
-    }
-unfolding ended withSweep setFirstRun withHeap withStarts withMarks withPackets withTracers withPlayers withGeneral
-ended-fields m hs f = refl
-
-same-zeros : (l r : List ℕ) → length l ≡ length r → zeros l ≡ zeros r
-unfolding zeros
-same-zeros l r e = rw e
+kept-start : (m : Image) → Sited m → Lines m → (g : ℕ) → Kept m g → isStart m g ≡ true
+unfolding isStart marked
+kept-start m s o g (kept-marked h) = o .marks-ok .on-starts g h .1
+kept-start m s o g (kept-found h) = found-start m s h .1
 
 -- ---- the whole
 
@@ -93,7 +56,9 @@ module _ {w k : ℕ} {ws ws1 : List ℕ} (z : Sized w k ws) (z1 : Sized w k ws1)
   is-kept g = getD (keptSet m) g false
 
   same-set : (g : ℕ) → marked m1 g ≡ is-kept g
-  same-set = marks-kept m m1 (sited-of m (image-fits z) e) (sound-lines z e) q
+  same-set g =
+      let s = sited-of m (image-fits z) e in
+      same-test _ _ (λ h. let r = q .only g h in kept-set m s g (kept-start m s (sound-lines z e) g r) r) (λ h. q .all g (set-kept m s g h .1))
 
   -- the sweep over what is kept, and over the marks
   kept-sweep : Swept
@@ -104,35 +69,18 @@ module _ {w k : ℕ} {ws ws1 : List ℕ} (z : Sized w k ws) (z1 : Sized w k ws1)
 
   same-sweep : marks-sweep ≡ kept-sweep
   unfolding kept-sweep marks-sweep
-  same-sweep =
-      ap (λ (st : ℕ → Bool). sweep st (marked m1) (granules m) 1 (drop 4 (m1 .heap))) (fun-ext (q .starts))
-      ∙ ap (λ (kp : ℕ → Bool). sweep (isStart m) kp (granules m) 1 (drop 4 (m1 .heap))) (fun-ext same-set)
-      ∙ ap (λ (hs : List ℕ). sweep (isStart m) is-kept (granules m) 1 (drop 4 hs)) (q .heap)
-
-  heap-filled : HeapFilled m
-  heap-filled = heap-filled-of (sound-lines z e)
-
-  filled : Filled (isStart m1) 1 (drop 4 (m1 .heap)) (firstRun m) false
-  filled =
-      subst (λ (st : ℕ → Bool). Filled st 1 (drop 4 (m1 .heap)) (firstRun m) false) (sym (fun-ext (q .starts)))
-      (subst (λ (hs : List ℕ). Filled (isStart m) 1 (drop 4 hs) (firstRun m) false) (sym (q .heap)) (heap-filled .heap-filled))
-
-  long : length (m1 .heap) ≡ 4 * (64 * k)
-  long = rw (cards-image w k ws1) at (fits-sizes m1 (image-fits z1) .heap-size)
-
-  behind : 4 + length (drop 4 (m1 .heap)) ≡ 4 * (64 * k)
-  behind = omega (arith, length-drop 4 (m1 .heap), long, z .low)
-
-  enough : length (drop 4 (m1 .heap)) < 4 * granules m
-  enough = omega (arith, behind, granules-image w k ws)
-
-  kept : (g : ℕ) → marked m1 g ≡ true → isStart m1 g ≡ true
-  kept = marks-starts m m1 (sited-of m (image-fits z) e) (sound-lines z e) q
+  same-sweep = rw (fun-ext (q .starts), fun-ext same-set, q .heap)
 
   swept-runs : SweptRuns k m1 m (firstRun m) marks-sweep
   unfolding marks-sweep
   swept-runs =
-      swept-all k m1 m (z .low) long (omega (arith, fits-sizes m1 (image-fits z1) .general-size)) (q .heap) kept (granules m) filled (q .starts 0 ∙ no-start-zero heap-filled) enough behind
+      let heap : HeapFilled m = heap-filled-of (sound-lines z e) in
+      let filled : Filled (isStart m1) 1 (drop 4 (m1 .heap)) (firstRun m) false = rw (fun-ext (q .starts), q .heap) (heap .heap-filled) in
+      let long : length (m1 .heap) ≡ 4 * (64 * k) = rw (cards-image w k ws1) at (fits-sizes m1 (image-fits z1) .heap-size) in
+      let behind : 4 + length (drop 4 (m1 .heap)) ≡ 4 * (64 * k) = omega (arith, length-drop 4 (m1 .heap), z .low) in
+      swept-all k m1 m (z .low) long (omega (arith, fits-sizes m1 (image-fits z1) .general-size)) (q .heap)
+      (λ g h. q .starts g ∙ kept-start m (sited-of m (image-fits z) e) (sound-lines z e) g (q .only g h))
+      (granules m) filled (q .starts 0 ∙ no-start-zero heap) (omega (arith, granules-image w k ws)) behind
 
   -- ---- the value
 
@@ -150,46 +98,31 @@ module _ {w k : ℕ} {ws ws1 : List ℕ} (z : Sized w k ws) (z1 : Sized w k ws1)
   -- ---- the sections
 
   starts-is : ((i : ℕ) → nth (m1 .marks) i < 2 ^ w) → m1 .marks ≡ addBits (m .width) is-kept (granules m) (zeros (m .starts))
+  unfolding marked
   starts-is small =
-      bit-words w k (sized-width z) is-kept (m1 .marks) (marks-words z1) small bits (m .starts) (starts-words z)
+      bit-words w k (sized-width z) is-kept (m1 .marks) (marks-words z1) small (λ g h. rw (width-image w k ws1) at (same-set g)) (m .starts) (starts-words z)
       ∙ rw (granules-image w k ws, width-image w k ws)
-    where
-      bits : (g : ℕ) → g < 64 * k → bit w (m1 .marks) g ≡ is-kept g
-      bits g h =
-          let r : bit (m1 .width) (m1 .marks) g ≡ is-kept g = unfold marked in same-set g in
-          rw (width-image w k ws1) at r
-
-  general-is : put (put (m1 .general) 1 (firstOf 1 marks-sweep)) 0 0 ≡ put (put (m .general) 0 0) 1 (firstOf 1 kept-sweep)
-  unfolding put
-  general-is = set-comm (m1 .general) 1 0 (firstOf 1 marks-sweep) 0 (omega arith) ∙ ap (λ (r : Swept). set (set (m1 .general) 0 0) 1 (firstOf 1 r)) same-sweep ∙ ap (λ (l : List ℕ). set (set l 0 0) 1 (firstOf 1 kept-sweep)) (same-section (q .rest) 4)
 
   pub finish-whole : (a b : ℕ) (m2 m3 m4 : Image) → a ≡ freeGranules m → edged 0 b m2 ≡ sweptAll k m1 → StartsKept w m2 m3 → m4 ≡ ended m3 → finished (b - a) m4 ≡ finishStep m
-  unfolding finishStep finishWith kept-sweep
-  finish-whole a b m2 m3 m4 ea e2 s e4 = λ x. record { image = image-is x; value = (value-is ∙ ap (λ (r : Swept). r .freed) same-sweep) x }
-    where
-      value-is : b - a ≡ marks-sweep .freed
-      value-is = omega (arith, runs-grow a b m2 ea e2)
-
-      whole : m2 ≡ withSweep m1 (take 4 (m1 .heap) ++ sweptWords marks-sweep) (firstOf 1 marks-sweep)
-      whole = ap (λ (t : Edged). t .image) (e2 ∙ swept-runs .image)
-
-      same-marks : m2 .marks ≡ m1 .marks
-      same-marks = ap (λ (i : Image). i .marks) whole ∙ unfold withSweep setFirstRun withHeap withGeneral in refl
-
-      image-is : m4 ≡ finishWith m (keptSet m) .image
-      image-is =
-          e4 ∙ ap ended (s .image)
-          ∙ ap (λ (i : Image). ended (withStarts i (i .marks))) whole
-          ∙ ended-fields m1 (take 4 (m1 .heap) ++ sweptWords marks-sweep) (firstOf 1 marks-sweep)
-          ∙ same-fields
-          (width-image w k ws1 ∙ sym (width-image w k ws))
-          (cards-image w k ws1 ∙ sym (cards-image w k ws))
-          (ap (λ (hs : List ℕ). take 4 hs ++ sweptWords marks-sweep) (q .heap) ∙ ap (λ (r : Swept). take 4 (m .heap) ++ sweptWords r) same-sweep)
-          (starts-is (λ i. rw same-marks at (s .small i)))
-          (same-zeros _ _ (marks-words z1 ∙ sym (marks-words z)))
-          (zero-words _ _ (cards-words z1 ∙ sym (cards-words z)) (q .cards))
-          (same-section (q .rest) 0)
-          (ap zeros (same-section (q .rest) 1))
-          (ap zeros (same-section (q .rest) 2))
-          (ap (λ (l : List ℕ). scannedOffTo l 16) (same-section (q .rest) 3) ∙ off-to-all (m .players) 16 (fits-sizes m (image-fits z) .players-size))
-          general-is
+  unfolding finishStep finishWith kept-sweep ended withSweep setFirstRun withHeap withStarts withMarks withPackets withTracers withPlayers withGeneral zeros put
+  finish-whole a b m2 m3 m4 ea e2 s e4 =
+      let value-is : b - a ≡ marks-sweep .freed = omega (arith, runs-grow a b m2 ea e2) in
+      let i : Image = withSweep m1 (take 4 (m1 .heap) ++ sweptWords marks-sweep) (firstOf 1 marks-sweep) in
+      let whole : m2 ≡ i = ap (λ (t : Edged). t .image) (e2 ∙ swept-runs .image) in
+      let fields : ended (withStarts i (m1 .marks)) ≡ finishWith m (keptSet m) .image = λ x. record {
+        width = (width-image w k ws1 ∙ sym (width-image w k ws)) x;
+        k = (cards-image w k ws1 ∙ sym (cards-image w k ws)) x;
+        heap = take 4 (q .heap x) ++ sweptWords (same-sweep x);
+        starts = starts-is (λ i. rw (ap (λ (i : Image). i .marks) whole) at (s .small i)) x;
+        marks = replicate ((marks-words z1 ∙ sym (marks-words z)) x) 0;
+        cards = zero-words (m1 .cards) (m .cards) (cards-words z1 ∙ sym (cards-words z)) (q .cards) x;
+        regs = same-section (q .rest) 0 x;
+        packets = zeros (same-section (q .rest) 1 x);
+        tracers = zeros (same-section (q .rest) 2 x);
+        players = (ap (λ (l : List ℕ). scannedOffTo l 16) (same-section (q .rest) 3) ∙ off-to-all (m .players) 16 (fits-sizes m (image-fits z) .players-size)) x;
+        general = (set-comm (m1 .general) 1 0 (firstOf 1 marks-sweep) 0 (omega arith) ∙ (λ y. put (put (same-section (q .rest) 4 y) 0 0) 1 (firstOf 1 (same-sweep y)))) x;
+      } in
+      λ x. record {
+        image = (e4 ∙ ap ended (s .image) ∙ ap (λ (i : Image). ended (withStarts i (i .marks))) whole ∙ fields) x;
+        value = (value-is ∙ (λ y. same-sweep y .freed)) x;
+      }

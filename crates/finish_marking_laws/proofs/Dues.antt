@@ -1,44 +1,38 @@
 -- What loses its start bit is what is due: entered, in hand, on a card in hand or on a dirty card.
-use mathlib.Core.Path.{_≡_, refl, sym, ap, _∙_}
-use mathlib.Core.Logic.{_⊎_, inl, inr}
-use mathlib.Core.List.{List}
-use Prim.Native.Nat.{ℕ, zero, suc, _+_, _*_, _-_, _/_, _%_, _<_, _≤_}
+use mathlib.Core.Path.{_≡_, refl, sym, _∙_}
+use mathlib.Core.Logic.{_⊎_, inl, inr, ⊎-elim}
+use Prim.Native.Nat.{ℕ, _+_, _*_, _-_, _/_, _%_, _<_, _≤_}
 use native.Mathlib.Omega.{arith}
-use native.Mathlib.Decide.{decLt}
+use native.Mathlib.Decide.{ℕ-discrete, decLt}
 use Rattle.model.specs.Base.{nth}
 use Rattle.model.specs.Finish.{Due, due-entered, due-in-hand, due-dirty, due-card-in-hand}
 use Rattle.model.specs.Image.{Image, state, dirty, count, entry, hand, handCard}
 use native.Mathlib.Numerals.{add-one}
-use Rattle.finish_marking_laws.specs.Seeds.{Upto, Refers, EnteredAt, HandAt, DirtyAt, Bared, EntriesIn, HandsIn, RegsIn, object, card}
+use Rattle.finish_marking_laws.specs.Seeds.{Upto, EnteredAt, HandAt, DirtyAt, Bared, EntriesIn, HandsIn, RegsIn, object, card}
 use Rattle.finish_marking_laws.proofs.Fits.{Fit}
 use Rattle.finish_marking_laws.proofs.seeds.Bared.{bared-both, same-section, bared-along}
 use Rattle.image_laws.specs.Digits.{markBit}
 
 -- ---- what the loops need
 
-pub entries-in : {k : ℕ} {m : Image} → 1 ≤ k → Fit k m → EntriesIn k (m .packets)
-entries-in {k} {m} hk f i hi h = go (decLt (i % 32 - 2) (nth (m .packets) (32 * (i / 32))))
-  where
-    e : 32 * (i / 32) + 2 + (i % 32 - 2) ≡ i
-    e = omega arith
+-- word i of the packets is 0 or an entry
+word-entry : {k : ℕ} {m : Image} → Fit k m → (i : ℕ) → i < 1024 → 2 ≤ i % 32
+    → (nth (m .packets) i ≡ 0) ⊎ ((i % 32 - 2 < nth (m .packets) (32 * (i / 32))) × (nth (m .packets) i < 64 * k) × (markBit m (nth (m .packets) i) ≡ 1))
+word-entry {k} {m} f i hi h =
+    let e : 32 * (i / 32) + 2 + (i % 32 - 2) ≡ i = omega arith in
+    elim (decLt (i % 32 - 2) (nth (m .packets) (32 * (i / 32)))) [
+      | yes l ↦ let r = rw e at (f .entries (i / 32) (i % 32 - 2) (omega arith) l) in inr (l, r .0, r .1)
+      | no l ↦ inl (rw e at (f .past (i / 32) (i % 32 - 2) (omega arith) (omega arith) (omega arith)))
+    ]
 
-    go : Dec (i % 32 - 2 < nth (m .packets) (32 * (i / 32))) → nth (m .packets) i < 64 * k
-    go (yes l) = rw e at (f .entries (i / 32) (i % 32 - 2) (omega arith) l .0)
-    go (no l) = let z : nth (m .packets) i ≡ 0 = rw e at (f .past (i / 32) (i % 32 - 2) (omega arith) (omega arith) (omega arith)) in omega arith
+pub entries-in : {k : ℕ} {m : Image} → 1 ≤ k → Fit k m → EntriesIn k (m .packets)
+entries-in hk f i hi h = ⊎-elim (λ z. omega arith) (λ r. r .1) (word-entry f i hi h)
 
 pub hands-in : {k : ℕ} {m : Image} → 1 ≤ k → Fit k m → HandsIn k (m .tracers)
-hands-in {k} {m} hk f t ht = (go (nth (m .tracers) (8 * t + 2)) refl, f .handCards t ht)
-  where
-    go : (v : ℕ) → nth (m .tracers) (8 * t + 2) ≡ v → nth (m .tracers) (8 * t + 2) < 64 * k
-    go zero e = omega arith
-    go (suc v) e = f .hands t ht (λ z. absurd (omega arith)) .0
+hands-in {k} {m} hk f t ht = (elim (ℕ-discrete (nth (m .tracers) (8 * t + 2)) 0) [ yes e ↦ omega arith | no n ↦ f .hands t ht n .0 ], f .handCards t ht)
 
 pub regs-in : {k : ℕ} {m : Image} → 1 ≤ k → Fit k m → RegsIn k (m .regs)
-regs-in {k} {m} hk f i hi = go (nth (m .regs) i) refl
-  where
-    go : (v : ℕ) → nth (m .regs) i ≡ v → nth (m .regs) i < 64 * k
-    go zero e = omega arith
-    go (suc v) e = f .regs i hi (λ z. absurd (omega arith)) .0
+regs-in {k} {m} hk f i hi = elim (ℕ-discrete (nth (m .regs) i) 0) [ yes e ↦ omega arith | no n ↦ f .regs i hi n .0 ]
 
 -- ---- the three sets that open
 
@@ -55,39 +49,25 @@ abbrev pub Dues : ℕ → Image → ℕ → Type 0
 Dues k m g = (Entries m g ⊎ Hands m g) ⊎ Dirties k m g
 
 module _ {k : ℕ} {m m1 m2 m3 : Image} (a : Bared m m1 (Entries m)) (b : Bared m1 m2 (Hands m1)) (c : Bared m2 m3 (Dirties k m2)) where
-  b' : Bared m1 m2 (Hands m)
-  b' = bared-along m1 m2 (λ (l : ℕ → ℕ). Upto (HandAt (m .tracers) l) 8) (a .marks) (bared-along m1 m2 (λ (l : List ℕ). Upto (HandAt l (markBit m1)) 8) (same-section (a .rest) 2) b)
-
-  c' : Bared m2 m3 (Dirties k m)
-  c' = bared-along m2 m3 (λ (l : ℕ → ℕ). Upto (DirtyAt (m .cards) l) k) (b .marks ∙ a .marks) (bared-along m2 m3 (λ (l : List ℕ). Upto (DirtyAt l (markBit m2)) k) (b .cards ∙ a .cards) c)
-
   pub all-due : Bared m m3 (Dues k m)
   all-due =
-      bared-both m m2 m3 (λ g. Entries m g ⊎ Hands m g) (Dirties k m) (Dues k m)
-      (bared-both m m1 m2 (Entries m) (Hands m) (λ g. Entries m g ⊎ Hands m g) a b' (λ g q. q) (λ g q. inl q) (λ g q. inr q))
-      c' (λ g q. q) (λ g q. inl q) (λ g q. inr q)
+      let b' = bared-along (λ l marks. Upto (HandAt l marks) 8) (same-section (a .rest) 2) (a .marks) b in
+      let c' = bared-along (λ l marks. Upto (DirtyAt l marks) k) (b .cards ∙ a .cards) (b .marks ∙ a .marks) c in
+      bared-both (bared-both {N2 = λ g. Entries m g ⊎ Hands m g} a b' (λ g q. q) (λ g q. inl q) (λ g q. inr q)) c' (λ g q. q) (λ g q. inl q) (λ g q. inr q)
 
 module _ (k : ℕ) (m : Image) (f : Fit k m) where
-  due-entry : (g i : ℕ) → i < 1024 → 2 ≤ i % 32 → Refers (nth (m .packets) i) g → (markBit m g ≡ 1) × Due m g
-  unfolding count entry
-  due-entry g i hi h q = go (decLt (i % 32 - 2) (nth (m .packets) (32 * (i / 32))))
-    where
-      eq : 32 * (i / 32) + 2 + (i % 32 - 2) ≡ i
-      eq = omega arith
-
-      go : Dec (i % 32 - 2 < nth (m .packets) (32 * (i / 32))) → (markBit m g ≡ 1) × Due m g
-      go (yes l) = (rw (q .eq) (rw eq at (f .entries (i / 32) (i % 32 - 2) (omega arith) l .1)), due-entered (i / 32) (i % 32 - 2) (omega arith) l (ap (nth (m .packets)) eq ∙ sym (q .eq)))
-      go (no l) = absurd (q .some (rw eq at (f .past (i / 32) (i % 32 - 2) (omega arith) (omega arith) (omega arith))))
-
-  due-hand : (g t : ℕ) → t < 8 → HandAt (m .tracers) (markBit m) t g → (markBit m g ≡ 1) × Due m g
-  unfolding hand handCard
-  due-hand g t l (object e) = (rw (e .eq) (f .hands t l (e .some) .1), due-in-hand t l (sym (e .eq)))
-  due-hand g t l (card e o) = (o, due-card-in-hand t l (e ∙ add-one (g / 64)))
-
   pub dues-due : (g : ℕ) → Dues k m g → (markBit m g ≡ 1) × Due m g
-  unfolding dirty state
-  dues-due g (inl (inl q)) = due-entry g (q .place) (q .below) (q .here .place) (q .here .is)
-  dues-due g (inl (inr q)) = due-hand g (q .place) (q .below) (q .here)
+  unfolding count entry hand handCard dirty state
+  dues-due g (inl (inl q)) =
+      let e : 32 * (q .place / 32) + 2 + (q .place % 32 - 2) ≡ q .place = omega (arith, q .here .place) in
+      ⊎-elim
+      (λ z. absurd (q .here .is .some z))
+      (λ r. (rw (q .here .is .eq) (r .2), due-entered (q .place / 32) (q .place % 32 - 2) (omega (arith, q .below)) (r .0) (rw e (sym (q .here .is .eq)))))
+      (word-entry f (q .place) (q .below) (q .here .place))
+  dues-due g (inl (inr q)) = elim (q .here) [
+    | object e ↦ (rw (e .eq) (f .hands (q .place) (q .below) (e .some) .1), due-in-hand (q .place) (q .below) (sym (e .eq)))
+    | card e o ↦ (o, due-card-in-hand (q .place) (q .below) (e ∙ add-one (g / 64)))
+  ]
   dues-due g (inr q) = (q .here .is-marked, due-dirty (rw (q .here .on) (q .here .is-dirty)))
 
   -- granule 0 is not marked

@@ -5,16 +5,16 @@ use mathlib.Core.Bool.{true}
 use mathlib.Core.List.{List}
 use Prim.Native.Nat.{ℕ, _+_, _*_, _<_, _≤_}
 use native.Mathlib.Omega.{arith}
-use Rattle.model.specs.Base.{nth, bit}
-use Rattle.model.specs.Image.{Image, granules, isStart, marked, links, link, imageOf}
+use Rattle.model.specs.Base.{nth}
+use Rattle.model.specs.Image.{Image, granules, isStart, marked, link, imageOf}
 use Rattle.model.specs.Undamaged.{sound}
-use Rattle.theory.specs.Lines.{Pair, none, one, Lines, InHand, CardInHand}
+use Rattle.theory.specs.Lines.{none, one, Lines}
 use Rattle.theory.proofs.heap.Walk.{object-at}
 use Rattle.theory.proofs.lines.Judged.{sound-use}
 use Rattle.theory.proofs.lines.Sizes.{fits-sizes}
 use Rattle.theory.proofs.heap.Facts.{heap-filled-of, link-value, start-at}
 use Rattle.finish_marking_laws.specs.Follow.{objectBit, World}
-use Rattle.image_laws.specs.Digits.{digit, markBit, startBit}
+use Rattle.image_laws.specs.Digits.{markBit, startBit}
 use Rattle.image_laws.specs.Sized.{Sized}
 use Rattle.image_laws.proofs.Digits.{digit-two, digit-le, digit-on, digit-off, on-digit}
 use Rattle.image_laws.proofs.Lengths.{cards-image}
@@ -40,56 +40,25 @@ module _ (m : Image) (o : Lines m) where
   object-start : (g : ℕ) → objectBit m g ≡ 1 → isStart m g ≡ true
   object-start g e = ⊎-elim (λ z. on-digit _ (omega arith)) (λ z. on-digit _ (mark-start g z .1)) (digit-two (marked m g))
 
-  target : (g i : ℕ) → objectBit m g ≡ 1 → i < links m g → (link m g i ≡ 0 → ⊥) → (link m g i < 64 * m .k) × (objectBit m (link m g i) ≡ 1)
-  unfolding isStart
-  target g i e l n = ⊎-elim (λ z. absurd (n z)) (λ r. (r .0, omega (arith, digit-on (r .1), digit-le (marked m (link m g i))))) (link-value o g i (start-at o g (object-start g e)) l)
-
-  world : World (m .k) m
-  unfolding granules
-  world =
-      record {
-        inside = λ g e. let t = object-at m (heap-filled-of o) g (object-start g e) in omega (arith, t .links-in, t .in-heap);
-        target = target;
-      }
-
-  reg-start : (i : ℕ) → (nth (m .regs) i ≡ 0 → ⊥) → (nth (m .regs) i < 64 * m .k) × (startBit m (nth (m .regs) i) ≡ 1)
-  unfolding isStart
-  reg-start i n = ⊎-elim (λ z. absurd (n z)) (λ r. (r .0, digit-on (r .1))) (o .regs-ok .values i)
-
-  entry-marked : (p e : ℕ) → p < 32 → e < nth (m .packets) (32 * p) → markBit m (nth (m .packets) (32 * p + 2 + e)) ≡ 1
-  unfolding marked
-  entry-marked p e hp he = digit-on (o .packets-ok .full p e _ (record { is-packet = hp; below = he; is-entry = refl }))
-
-  hand-marked : (t : ℕ) → t < 8 → (nth (m .tracers) (8 * t + 2) ≡ 0 → ⊥) → markBit m (nth (m .tracers) (8 * t + 2)) ≡ 1
-  unfolding marked
-  hand-marked t h n = go (o .tracers-ok .hands .pair t h)
-    where
-      go : {y : ℕ} → Pair (InHand m) (nth (m .tracers) (8 * t + 2)) y → digit (bit (m .width) (m .marks) (nth (m .tracers) (8 * t + 2))) ≡ 1
-      go (none z _) = absurd (n z)
-      go (one _ r) = digit-on (r .0)
-
-  hand-card : (t : ℕ) → t < 8 → nth (m .tracers) (8 * t + 4) ≤ m .k
-  hand-card t h = go (o .tracers-ok .handCards .pair t h)
-    where
-      go : {y : ℕ} → Pair (CardInHand m) (nth (m .tracers) (8 * t + 4)) y → nth (m .tracers) (8 * t + 4) ≤ m .k
-      go (none z _) = omega arith
-      go (one _ r) = r .0
-
   pub lines-fit : Fit (m .k) m
-  unfolding isStart
-  lines-fit =
-      record {
-        number = refl;
-        world = world;
-        zeroth = ⊎-elim (λ z. z) (λ z. absurd (omega (arith, mark-start 0 z, digit-off (o .heap-ok .unused)))) (digit-two (marked m 0));
-        marks = mark-start;
-        regs = λ i h n. reg-start i n;
-        counts = o .packets-ok .few;
-        entries = λ p e hp he. let z = entry-marked p e hp he in (mark-start _ z .0, z);
-        past = λ p e hp c he. o .packets-ok .past p e hp he c;
-        hands = λ t h n. let z = hand-marked t h n in (mark-start _ z .0, z);
-        handCards = hand-card;
-      }
+  unfolding isStart marked granules
+  lines-fit = record {
+    number = refl;
+    world = record {
+      inside = λ g e. let t = object-at m (heap-filled-of o) g (object-start g e) in omega (arith, t .links-in, t .in-heap);
+      target = λ g i e l n.
+          let v = link-value o g i (start-at o g (object-start g e)) l in
+          ⊎-elim (λ z. absurd (n z)) (λ r. (r .0, omega (arith, digit-on (r .1), digit-le (marked m (link m g i))))) v;
+    };
+    zeroth = ⊎-elim (λ z. z) (λ z. absurd (omega (arith, mark-start 0 z, digit-off (o .heap-ok .unused)))) (digit-two (marked m 0));
+    marks = mark-start;
+    regs = λ i h n. ⊎-elim (λ z. absurd (n z)) (λ r. (r .0, digit-on (r .1))) (o .regs-ok .values i);
+    counts = o .packets-ok .few;
+    entries = λ p e hp he. let z = digit-on (o .packets-ok .full p e _ (record { is-packet = hp; below = he; is-entry = refl })) in (mark-start _ z .0, z);
+    past = λ p e hp c he. o .packets-ok .past p e hp he c;
+    hands = λ t h n. elim (o .tracers-ok .hands .pair t h) [ none z _ ↦ absurd (n z) | one _ r ↦ (mark-start _ (digit-on (r .0)) .0, digit-on (r .0)) ];
+    handCards = λ t h. elim (o .tracers-ok .handCards .pair t h) [ none z _ ↦ omega arith | one _ r ↦ r .0 ];
+  }
 
 pub sound-lines : {w k : ℕ} {ws : List ℕ} → Sized w k ws → sound (imageOf w k ws) ≡ true → Lines (imageOf w k ws)
 sound-lines {w} {k} {ws} z e = sound-use (imageOf w k ws) (fits-sizes (imageOf w k ws) (image-fits z)) e .lines

@@ -2,10 +2,10 @@
 use mathlib.Core.Path.{_≡_, sym, ap, subst, _∙_}
 use mathlib.Core.Logic.{_⊎_, inl, inr, ⊎-elim}
 use mathlib.Core.List.{List}
-use Prim.Native.Nat.{ℕ, _+_, _*_, _/_, _%_, _<_, max}
+use Prim.Native.Nat.{ℕ, _+_, _*_, _/_, _%_, _<_}
 use native.Mathlib.Omega.{arith}
 use Rattle.model.specs.Base.{nth}
-use Rattle.model.specs.Finish.{Due, Found, Kept, found-reg, found-link, found-due, kept-marked, kept-found}
+use Rattle.model.specs.Finish.{Due, Found, found-reg, found-link, found-due, kept-marked, kept-found}
 use Rattle.model.specs.Image.{Image, granules, marked, links, link, reg}
 use Rattle.finish_marking_laws.specs.Follow.{Pending, Reach, objectBit, World, untouched, Followed, follow, seed}
 use Rattle.finish_marking_laws.specs.Seeds.{Upto, Refers, HeldAt, Bared, Opened, ListedAll, KeptMarked}
@@ -17,10 +17,6 @@ use Rattle.image_laws.specs.Digits.{markBit, startBit}
 use Rattle.image_laws.proofs.Digits.{digit-two, digit-on, digit-off, same-digit, on-digit, off-digit}
 
 module _ {k : ℕ} {m m3 m4 m5 : Image} {h : ℕ} (f : Fit k m) (d : Bared m m3 (Dues k m)) (o : Opened m3 m4 (Upto (HeldAt (m3 .regs) (markBit m3)) 256)) (t : ListedAll k m4 m5 h) where
-  -- made pending for a register, or left alone
-  abbrev HeldOrNot : ℕ → Type 0
-  HeldOrNot g = Upto (HeldAt (m3 .regs) (markBit m3)) 256 g ⊎ ((markBit m4 g ≡ markBit m3 g) × (startBit m4 g ≡ startBit m3 g))
-
   mark3 : (g : ℕ) → markBit m3 g ≡ markBit m g
   mark3 g = ap (λ (w : ℕ → ℕ). w g) (d .marks)
 
@@ -42,58 +38,55 @@ module _ {k : ℕ} {m m3 m4 m5 : Image} {h : ℕ} (f : Fit k m) (d : Bared m m3 
   link5 : (g i : ℕ) → link m5 g i ≡ link m g i
   link5 g i = same-link m m5 heap5 g i
 
-  record Hold (g : ℕ) : Type 0 where
-    pub place : ℕ
-    pub below : place < 256
-    pub is : Refers (nth (m .regs) place) g
+  -- some register holds g
+  abbrev Hold : ℕ → Type 0
+  Hold g = Upto (λ i. Refers (nth (m .regs) i)) 256 g
 
   from : (g : ℕ) → Upto (HeldAt (m3 .regs) (markBit m3)) 256 g → Hold g × (markBit m g ≡ 0)
-  from g q = (record { place = q .place; below = q .below; is = subst (λ (l : List ℕ). Refers (nth l (q .place)) g) (same-section (d .rest) 0) (q .here .is) }, sym (mark3 g) ∙ q .here .bare)
+  from g q = (record { place = q .place; below = q .below; here = subst (λ (l : List ℕ). Refers (nth l (q .place)) g) (same-section (d .rest) 0) (q .here .is) }, sym (mark3 g) ∙ q .here .bare)
 
   to : (g : ℕ) → Hold g → markBit m g ≡ 0 → Upto (HeldAt (m3 .regs) (markBit m3)) 256 g
-  to g q u = record { place = q .place; below = q .below; here = record { is = subst (λ (l : List ℕ). Refers (nth l (q .place)) g) (sym (same-section (d .rest) 0)) (q .is); bare = mark3 g ∙ u } }
+  to g q u = record { place = q .place; below = q .below; here = record { is = subst (λ (l : List ℕ). Refers (nth l (q .place)) g) (sym (same-section (d .rest) 0)) (q .here); bare = mark3 g ∙ u } }
 
-  hold-start : (g : ℕ) → Hold g → startBit m g ≡ 1
-  hold-start g q = rw (q .is .eq) (f .regs (q .place) (q .below) (q .is .some) .1)
+  hold-in : (g : ℕ) → Hold g → (g < 64 * k) × (startBit m g ≡ 1)
+  hold-in g q = rw (q .here .eq) (f .regs (q .place) (q .below) (q .here .some))
 
   -- marked now: marked at first, or held
   marked-from : (g : ℕ) → markBit m5 g ≡ 1 → (markBit m g ≡ 1) ⊎ Hold g
   marked-from g e = ⊎-elim (λ q. inr (from g q .0)) (λ q. inl (sym (mark3 g) ∙ sym (q .0) ∙ sym (mark5 g) ∙ e)) (o .only g)
 
   marked-to : (g : ℕ) → (markBit m g ≡ 1) ⊎ Hold g → markBit m5 g ≡ 1
-  marked-to g q = mark5 g ∙ go q (o .only g) (digit-two (marked m g))
-    where
-      go : (markBit m g ≡ 1) ⊎ Hold g → HeldOrNot g → (markBit m g ≡ 0) ⊎ (markBit m g ≡ 1) → markBit m4 g ≡ 1
-      go q (inl r) z = o .has g r .is-marked
-      go q (inr r) (inr z) = r .0 ∙ mark3 g ∙ z
-      go (inl q) (inr r) (inl z) = absurd (omega arith)
-      go (inr q) (inr r) (inl z) = o .has g (to g q z) .is-marked
+  marked-to g q = mark5 g ∙ elim (o .only g) [
+    | inl r ↦ o .has g r .is-marked
+    | inr r ↦ ⊎-elim (λ z. ⊎-elim (λ e. r .0 ∙ mark3 g ∙ e) (λ h. o .has g (to g h z) .is-marked) q) (λ z. r .0 ∙ mark3 g ∙ z) (digit-two (marked m g))
+  ]
 
   -- pending now: marked and due, or unmarked and held
   pending-from : (g : ℕ) → Pending m5 g → ((markBit m g ≡ 1) × Due m g) ⊎ (Hold g × (markBit m g ≡ 0))
-  pending-from g q = go (o .only g) (d .only g)
-    where
-      go : HeldOrNot g → Dues k m g ⊎ (startBit m3 g ≡ startBit m g) → ((markBit m g ≡ 1) × Due m g) ⊎ (Hold g × (markBit m g ≡ 0))
-      go (inl r) e = inr (from g r)
-      go (inr r) (inl e) = inl (dues-due k m f g e)
-      go (inr r) (inr e) = absurd (let x : markBit m g ≡ 1 = sym (mark3 g) ∙ sym (r .0) ∙ sym (mark5 g) ∙ q .is-marked in omega (arith, f .marks g x .1, start5 g, r .1, e, q .bare))
+  pending-from g q = elim (o .only g) [
+    | inl r ↦ inr (from g r)
+    | inr r ↦ ⊎-elim
+        (λ e. inl (dues-due k m f g e))
+        (λ e. absurd (let x : markBit m g ≡ 1 = sym (mark3 g) ∙ sym (r .0) ∙ sym (mark5 g) ∙ q .is-marked in omega (arith, f .marks g x .1, start5 g, r .1, q .bare)))
+        (d .only g)
+  ]
 
   pending-to : (g : ℕ) → ((markBit m g ≡ 1) × Due m g) ⊎ (Hold g × (markBit m g ≡ 0)) → Pending m5 g
   pending-to g (inr q) = let p = o .has g (to g (q .0) (q .1)) in record { is-marked = mark5 g ∙ p .is-marked; bare = start5 g ∙ p .bare }
-  pending-to g (inl q) = go (o .only g)
-    where
-      go : HeldOrNot g → Pending m5 g
-      go (inl r) = absurd (omega (arith, from g r .1, q .0))
-      go (inr r) = record { is-marked = mark5 g ∙ r .0 ∙ mark3 g ∙ q .0; bare = start5 g ∙ r .1 ∙ d .has g (due-dues k m f g (q .0) (q .1)) }
+  pending-to g (inl q) = elim (o .only g) [
+    | inl r ↦ absurd (omega (arith, from g r .1, q .0))
+    | inr r ↦ record { is-marked = mark5 g ∙ r .0 ∙ mark3 g ∙ q .0; bare = start5 g ∙ r .1 ∙ d .has g (due-dues k m f g (q .0) (q .1)) }
+  ]
 
   -- the objects are the same
   objects : (g : ℕ) → objectBit m5 g ≡ startBit m g
-  objects g = rw (mark5 g, start5 g) (go (o .only g) (d .only g))
-    where
-      go : HeldOrNot g → Dues k m g ⊎ (startBit m3 g ≡ startBit m g) → max (startBit m4 g) (markBit m4 g) ≡ startBit m g
-      go (inl r) e = omega (arith, o .has g r .is-marked, o .has g r .bare, hold-start g (from g r .0))
-      go (inr r) (inl e) = let x = dues-due k m f g e in omega (arith, r .0, r .1, mark3 g, x .0, d .has g e, f .marks g (x .0) .1)
-      go (inr r) (inr e) = ⊎-elim (λ u. omega (arith, r .0, r .1, mark3 g, e, u)) (λ u. omega (arith, r .0, r .1, mark3 g, e, u, f .marks g u .1)) (digit-two (marked m g))
+  objects g = rw (mark5 g, start5 g) (elim (o .only g) [
+    | inl r ↦ omega (arith, o .has g r .is-marked, o .has g r .bare, hold-in g (from g r .0) .1)
+    | inr r ↦ ⊎-elim
+        (λ e. let x = dues-due k m f g e in omega (arith, r .0, r .1, mark3 g, x .0, d .has g e, f .marks g (x .0) .1))
+        (λ e. ⊎-elim (λ u. omega (arith, r .0, r .1, mark3 g)) (λ u. omega (arith, r .0, r .1, mark3 g, f .marks g u .1)) (digit-two (marked m g)))
+        (d .only g)
+  ])
 
   objects-first : (g : ℕ) → objectBit m g ≡ startBit m g
   objects-first g = ⊎-elim (λ u. omega arith) (λ u. omega (arith, f .marks g u .1)) (digit-two (marked m g))
@@ -101,17 +94,14 @@ module _ {k : ℕ} {m m3 m4 m5 : Image} {h : ℕ} (f : Fit k m) (d : Bared m m3 
   pub world5 : World k m5
   world5 = record {
     inside = λ g e. rw (links5 g) (f .world .inside g (objects-first g ∙ sym (objects g) ∙ e));
-    target = λ g i e l n. target g i e l n;
+    target = λ g i e l n.
+        let r = f .world .target g i (objects-first g ∙ sym (objects g) ∙ e) (rw (links5 g) at l) (rw (link5 g i) at n) in
+        rw (link5 g i) (r .0, objects (link m g i) ∙ sym (objects-first (link m g i)) ∙ r .1);
   }
-    where
-      target : (g i : ℕ) → objectBit m5 g ≡ 1 → i < links m5 g → (link m5 g i ≡ 0 → ⊥) → (link m5 g i < 64 * k) × (objectBit m5 (link m5 g i) ≡ 1)
-      target g i e l n =
-          let r = f .world .target g i (objects-first g ∙ sym (objects g) ∙ e) (rw (links5 g) at l) (rw (link5 g i) at n) in
-          rw (link5 g i) (r .0, objects (link m g i) ∙ sym (objects-first (link m g i)) ∙ r .1)
 
   -- marks lie in the store
   pub marks-in : (g : ℕ) → markBit m4 g ≡ 1 → g < 64 * k
-  marks-in g e = ⊎-elim (λ q. f .marks g q .0) (λ q. rw (q .is .eq) (f .regs (q .place) (q .below) (q .is .some) .0)) (marked-from g (mark5 g ∙ e))
+  marks-in g e = ⊎-elim (λ q. f .marks g q .0) (λ q. hold-in g q .0) (marked-from g (mark5 g ∙ e))
 
   -- ---- what is reached from the pending is what is found
 
@@ -120,7 +110,7 @@ module _ {k : ℕ} {m m3 m4 m5 : Image} {h : ℕ} (f : Fit k m) (d : Bared m m3 
   unfolding reg
   found-held g q =
       let s : 16 * (q .place / 16) + q .place % 16 ≡ q .place = omega arith in
-      found-reg (q .place / 16) (q .place % 16) (omega (arith, q .below)) (omega arith) (ap (nth (m .regs)) s ∙ sym (q .is .eq)) (λ z. q .is .some (sym (q .is .eq) ∙ z))
+      found-reg (q .place / 16) (q .place % 16) (omega (arith, q .below)) (omega arith) (ap (nth (m .regs)) s ∙ sym (q .here .eq)) (λ z. q .here .some (sym (q .here .eq) ∙ z))
 
   reach-found : {a : ℕ} → Reach m5 a → Found m a
   unfolding granules
@@ -129,30 +119,22 @@ module _ {k : ℕ} {m m3 m4 m5 : Image} {h : ℕ} (f : Fit k m) (d : Bared m m3 
       (λ p. found-due g i (rw (f .number) (f .marks g (p .0) .0)) (on-digit _ (p .0)) (p .1) (rw (links5 g) at l) (sym (link5 g i) ∙ e) n)
       (λ p. found-link g i (found-held g (p .0)) (off-digit _ (p .1)) (rw (links5 g) at l) (sym (link5 g i) ∙ e) n)
       (pending-from g q)
-  reach-found (follow g i r u l e n) = found-link g i (reach-found r) (off-digit _ (unmarked g u (digit-two (marked m g)))) (rw (links5 g) at l) (sym (link5 g i) ∙ e) n
-    where
-      unmarked : (g : ℕ) → markBit m5 g ≡ 0 → (markBit m g ≡ 0) ⊎ (markBit m g ≡ 1) → markBit m g ≡ 0
-      unmarked g u (inl z) = z
-      unmarked g u (inr z) = absurd (omega (arith, marked-to g (inl z)))
+  reach-found (follow g i r u l e n) =
+      let z : markBit m g ≡ 0 = ⊎-elim (λ z. z) (λ z. absurd (omega (arith, marked-to g (inl z)))) (digit-two (marked m g)) in
+      found-link g i (reach-found r) (off-digit _ z) (rw (links5 g) at l) (sym (link5 g i) ∙ e) n
 
   -- a step from what is found unmarked
   onward : (g i a : ℕ) → (markBit m5 g ≡ 1) ⊎ Reach m5 g → markBit m g ≡ 0 → i < links m g → link m g i ≡ a → (a ≡ 0 → ⊥) → Reach m5 a
-  onward g i a q u l e n = go q (digit-two (marked m5 g))
-    where
-      l' : i < links m5 g
-      l' = rw (links5 g) l
-
-      e' : link m5 g i ≡ a
-      e' = link5 g i ∙ e
-
-      go : (markBit m5 g ≡ 1) ⊎ Reach m5 g → (markBit m5 g ≡ 0) ⊎ (markBit m5 g ≡ 1) → Reach m5 a
-      go q (inr o) = ⊎-elim (λ z. absurd (omega arith)) (λ h. seed g i (pending-to g (inr (h, u))) l' e' n) (marked-from g o)
-      go (inl q) (inl z) = absurd (omega arith)
-      go (inr q) (inl z) = follow g i q z l' e' n
+  onward g i a q u l e n =
+      let l' : i < links m5 g = rw (links5 g) l in
+      elim (digit-two (marked m5 g)) [
+        | inr o ↦ ⊎-elim (λ z. absurd (omega arith)) (λ h. seed g i (pending-to g (inr (h, u))) l' (link5 g i ∙ e) n) (marked-from g o)
+        | inl z ↦ ⊎-elim (λ o. absurd (omega arith)) (λ r. follow g i r z l' (link5 g i ∙ e) n) q
+      ]
 
   found-reach : {a : ℕ} → Found m a → (markBit m5 a ≡ 1) ⊎ Reach m5 a
   unfolding reg
-  found-reach {a} (found-reg p r hp hr e n) = inl (marked-to a (inr (record { place = 16 * p + r; below = omega arith; is = record { eq = sym e; some = λ z. n (sym e ∙ z) } })))
+  found-reach {a} (found-reg p r hp hr e n) = inl (marked-to a (inr (record { place = 16 * p + r; below = omega arith; here = record { eq = sym e; some = λ z. n (sym e ∙ z) } })))
   found-reach {a} (found-link g i r u l e n) = inr (onward g i a (found-reach r) (digit-off u) l e n)
   found-reach (found-due g i hg o' q l e n) = inr (seed g i (pending-to g (inl (digit-on o', q))) (rw (links5 g) l) (link5 g i ∙ e) n)
 
@@ -163,10 +145,6 @@ module _ {k : ℕ} {m m3 m4 m5 : Image} {h : ℕ} (f : Fit k m) (d : Bared m m3 
         rest = r .rest ∙ rest5;
         starts = λ g. same-digit _ _ (r .starts g ∙ objects g);
         only = λ g e. ⊎-elim (λ q. ⊎-elim (λ z. kept-marked (on-digit _ z)) (λ p. kept-found (found-held g p)) (marked-from g q)) (λ q. kept-found (reach-found q)) (r .kept g (digit-on e));
-        all = λ g q. on-digit _ (r .keeps g (back g q));
+        all = λ g q. on-digit _ (r .keeps g (elim q [ kept-marked e ↦ inl (marked-to g (inl (digit-on e))) | kept-found p ↦ found-reach p ]));
         cards = r .cards;
       }
-    where
-      back : (g : ℕ) → Kept m g → (markBit m5 g ≡ 1) ⊎ Reach m5 g
-      back g (kept-marked e) = inl (marked-to g (inl (digit-on e)))
-      back g (kept-found q) = found-reach q

@@ -1,8 +1,8 @@
 -- The claim over whole histories, from facts of one step and the plain store's answers.
 use mathlib.Core.Path.{_≡_, refl, sym, subst, _∙_, ap}
-use mathlib.Core.Bool.{Bool, true, false, not}
+use mathlib.Core.Bool.{true, false, not}
 use mathlib.Core.List.{List, [], _∷_, _++_, List·Memᴰ, List·Memᴰ·cases-cons}
-use mathlib.Core.Logic.{_⊎_, inl, inr}
+use mathlib.Core.Logic.{⊎-elim}
 use Prim.Native.Nat.{ℕ, zero, suc}
 use native.Mathlib.Omega.{arith}
 use borrow.Author.Tests.{not-false}
@@ -14,7 +14,7 @@ use Rattle.model.specs.Steps.{run, after}
 use Rattle.model.specs.Batch.{Batch, events, misfit, callNumber, batchWith, batchAt}
 use Rattle.model.specs.Claim.{Lent, eventsOf, history, results, Claim}
 use Rattle.model.specs.Plain.{SameAnswers}
-use Rattle.model.proofs.Laws.{first-none}
+use Rattle.model.proofs.Laws.{first-none, bool-cases}
 use Rattle.theory.specs.Events.{Successive, Steady, Stored}
 use Rattle.theory.proofs.cycle.Linked.{run-linked, linked-fine, done-ok, begin-numbers, finish-numbers, all-finish, unreached-freed}
 use Rattle.theory.proofs.steps.Steps.{run-append, run-ok}
@@ -57,11 +57,9 @@ module _ (w : ℕ) (Ok : Image → Type 0) (st : Steady Ok) (wd : Stored w Ok) w
 
   not-damaged : (ws bytes answers : List ℕ) → Ok (parts w ws) → callNumber w ws bytes answers ≡ 2 → ⊥
   unfolding callNumber first
-  not-damaged ws bytes answers o e = go (misfit w ws bytes answers) (subst (λ u. first 1 (misfit w ws bytes answers ∷ not u ∷ []) ≡ 2) (ok-undamaged (parts w ws) o) e)
-    where
-      go : (b : Bool) → first 1 (b ∷ false ∷ []) ≡ 2 → ⊥
-      go true q = omega arith
-      go false q = omega arith
+  not-damaged ws bytes answers o e =
+      let q = subst (λ u. first 1 (misfit w ws bytes answers ∷ not u ∷ []) ≡ 2) (ok-undamaged (parts w ws) o) e in
+      ⊎-elim (λ b. absurd (omega (arith, rw b at q))) (λ b. absurd (omega (arith, rw b at q))) (bool-cases (misfit w ws bytes answers))
 
   none-damaged : (ws : List ℕ) (bs : List Lent) → Ok (parts w ws) → (r : ℕ) → List·Memᴰ r (results w ws bs) → r ≡ 2 → ⊥
   unfolding results batchAt batchWith events left
@@ -70,32 +68,21 @@ module _ (w : ℕ) (Ok : Image → Type 0) (st : Steady Ok) (wd : Stored w Ok) w
     where
       go : ((vs : List ℕ) → Ok (parts w vs) → (r : ℕ) → List·Memᴰ r (results w vs bs) → r ≡ 2 → ⊥) → (c : ℕ) → callNumber w ws (b .steps) (b .answers) ≡ c
           → (let q : Batch = batchWith w ws (b .steps) (b .answers) c in List·Memᴰ r (q .result ∷ results w (q .image) bs)) → ⊥
-      go ih (suc c) q l = pick (List·Memᴰ·cases-cons l)
-        where
-          pick : (r ≡ suc c) ⊎ List·Memᴰ r (results w ws bs) → ⊥
-          pick (inl x) = not-damaged ws (b .steps) (b .answers) o (q ∙ (sym x ∙ e))
-          pick (inr x) = ih ws o r x e
-      go ih zero q l = pick (List·Memᴰ·cases-cons l)
-        where
-          pick : (r ≡ 0) ⊎ List·Memᴰ r (results w (words (left ws b)) bs) → ⊥
-          pick (inl x) = omega arith
-          pick (inr x) = ih (words (left ws b)) (left-words ws b o) r x e
+      go ih (suc c) q l = ⊎-elim (λ x. not-damaged ws (b .steps) (b .answers) o (q ∙ (sym x ∙ e))) (λ x. ih ws o r x e) (List·Memᴰ·cases-cons l)
+      go ih zero q l = ⊎-elim (λ x. absurd (omega arith)) (λ x. ih (words (left ws b)) (left-words ws b o) r x e) (List·Memᴰ·cases-cons l)
 
   -- ---- the claim, where the plain store answers lists of steps as the real one
 
   pub claim : ((m : Image) (ss : List Step) → Ok m → SameAnswers m (run m ss)) → (ws : List ℕ) (bs : List Lent) → Ok (parts w ws) → Claim w ws bs
-  claim plain ws bs o = record {
-    all-undamaged = λ e k. let f = linked-fine Ok st linked o e k in (wd .judged (e .got) (f .got-ok), wd .judged (e .done .image) (done-ok Ok st e f));
-    none-damaged = none-damaged ws bs o;
-    begin-number = begin-numbers Ok st linked o;
-    finish-number = finish-numbers Ok st linked o;
-    finishes = all-finish Ok st linked o;
-    frees-unreached = unreached-freed Ok st linked o;
-    plain-answers = subst (SameAnswers (parts w ws)) (sym (h .1)) (plain (parts w ws) (h .0) o);
-  }
-    where
-      h : (ss : List Step) × (history w ws bs ≡ run (parts w ws) ss)
-      h = history-run ws bs o
-
-      linked : Successive (parts w ws) (history w ws bs) (after (parts w ws) (run (parts w ws) (h .0)))
-      linked = subst (λ es. Successive (parts w ws) es (after (parts w ws) (run (parts w ws) (h .0)))) (sym (h .1)) (run-linked (parts w ws) (h .0))
+  claim plain ws bs o =
+      let h = history-run ws bs o in
+      let linked : Successive (parts w ws) (history w ws bs) (after (parts w ws) (run (parts w ws) (h .0))) = rw (h .1) (run-linked (parts w ws) (h .0)) in
+      record {
+        all-undamaged = λ e k. let f = linked-fine Ok st linked o e k in (wd .judged (e .got) (f .got-ok), wd .judged (e .done .image) (done-ok Ok st e f));
+        none-damaged = none-damaged ws bs o;
+        begin-number = begin-numbers Ok st linked o;
+        finish-number = finish-numbers Ok st linked o;
+        finishes = all-finish Ok st linked o;
+        frees-unreached = unreached-freed Ok st linked o;
+        plain-answers = subst (SameAnswers (parts w ws)) (sym (h .1)) (plain (parts w ws) (h .0) o);
+      }

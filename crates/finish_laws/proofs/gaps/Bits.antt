@@ -3,6 +3,7 @@ use mathlib.Core.Path.{_≡_, refl, sym, ap, _∙_}
 use mathlib.Core.Bool.{true, false}
 use mathlib.Core.List.{List}
 use Prim.Native.Nat.{ℕ, suc, _+_, _*_, _-_, _/_, _^_, _<_, _≤_}
+use native.Mathlib.Nat.{sub-zero}
 use native.Mathlib.Omega.{arith}
 use native.Mathlib.Decide.{ℕ-discrete, decLt}
 use lib.ListN.{length}
@@ -18,8 +19,8 @@ use Rattle.image_laws.proofs.Digits.{on-digit, bit-none, bit-not}
 use Rattle.image_laws.proofs.Lengths.{sized-as, sized-width}
 use Rattle.image_laws.proofs.Masks.{withoutBit-same, withoutBit-less, withoutBit-other}
 use Rattle.image_laws.proofs.Places.{by-width, place-in, words-full}
-use Rattle.finish_laws.specs.Gaps.{Edged, edged, keptAt, passed, sweptFrom}
-use Rattle.image_laws.proofs.Leading.{Highest, Leading, bit-past, word-leading}
+use Rattle.finish_laws.specs.Gaps.{Edged, edged, keptAt, sweptFrom}
+use Rattle.image_laws.proofs.Leading.{Leading, bit-past, word-leading}
 use Rattle.finish_laws.proofs.gaps.Granules.{from-marks, passed-keep, from-suc, from-unmarked, from-full}
 
 module _ (w k : ℕ) (ws : List ℕ) (i : ℕ) where
@@ -31,10 +32,10 @@ module _ (w k : ℕ) (ws : List ℕ) (i : ℕ) where
   pub word-full : (e f x : ℕ) → x ≡ nth (imageOf w k ws .marks) i → x + 1 ≡ 2 ^ w → e ≡ w * i + w → edged (w * i) f (imageOf w k ws) ≡ sweptFrom (w * i + w) (edged e f (imageOf w k ws)) w
   word-full e f x ex u ee =
       let q : w * i + w - w ≡ w * i = omega arith in
-      rw ee (ap (λ (s : ℕ). edged s f (imageOf w k ws)) (sym q) ∙ sym (from-full (w * i + w) f (imageOf w k ws) w (omega arith) all))
+      rw ee (sym (rw q at (from-full (w * i + w) f (imageOf w k ws) w (omega arith) all)))
     where
       all : (h : ℕ) → w * i + w ≤ h + w → h < w * i + w → marked (imageOf w k ws) h ≡ true
-      all h p q =
+      all h a b =
           let r : h ≡ w * i + (h - w * i) = omega arith in
           rw r (word-mark x ex (h - w * i) (omega arith) ∙ on-digit _ (omega (arith, bit-not w 0 x (h - w * i) (omega arith) (omega arith), bit-none (h - w * i))))
 
@@ -77,19 +78,16 @@ module _ {w k i e₀ f₀ : ℕ} {im₀ : List ℕ} {x : ℕ} {im : List ℕ} {e
   unmarked : (j : ℕ) → j ≤ t .at → ((b : ℕ) → j ≤ b → b < t .at → testBit x b ≡ false) → sweptFrom (w * i + w) s₀ (w - j) ≡ edged e f (imageOf w k im)
   unmarked j l c =
       let u : w - j ≡ w - t .at + (t .at - j) = omega (arith, t .high) in
-      ap (sweptFrom (w * i + w) s₀) u ∙ from-unmarked (w * i + w) s₀ (w - t .at) (t .at - j) (omega (arith, t .high)) none ∙ sym (t .state)
+      rw u (from-unmarked (w * i + w) s₀ (w - t .at) (t .at - j) (omega (arith, t .high)) none ∙ sym (t .state))
     where
       none : (h : ℕ) → w * i + w ≤ h + (w - t .at + (t .at - j)) → h + (w - t .at) < w * i + w → marked (imageOf w k im₀) h ≡ false
       none h a b =
-          let p : j ≤ h - w * i = omega (arith, t .high) in
           let q : h - w * i < t .at = omega (arith, t .high) in
           let r : h ≡ w * i + (h - w * i) = omega (arith, t .high) in
-          rw r (t .below (h - w * i) q ∙ c (h - w * i) p q)
+          rw r (t .below (h - w * i) q ∙ c (h - w * i) (omega (arith, t .high)) q)
 
   pub taking-end : x ≡ 0 → edged e f (imageOf w k im) ≡ sweptFrom (w * i + w) s₀ w
-  taking-end z =
-      let q : w - 0 ≡ w = omega arith in
-      sym (ap (sweptFrom (w * i + w) s₀) (sym q) ∙ unmarked 0 (omega arith) (λ b l h. zero-bit x b z))
+  taking-end z = sym (rw sub-zero at (unmarked 0 (omega arith) (λ b l h. zero-bit x b z)))
 
   module _ (nz : x ≡ 0 → ⊥) where
     abbrev j : ℕ
@@ -98,48 +96,38 @@ module _ {w k i e₀ f₀ : ℕ} {im₀ : List ℕ} {x : ℕ} {im : List ℕ} {e
     leading : Leading w x
     leading = word-leading w x (by-width (λ (w : ℕ). w ≤ 64) (omega arith) (omega arith) (sized-width (t .sized))) (t .fits) nz
 
-    top : Highest w x j
-    top = leading .top
-
     pub taking-few : leadingZeros 64 x ≤ 63
     taking-few = leading .few
 
     pub taking-within : j < w
-    taking-within = top .within
+    taking-within = leading .top .within
 
     pub taking-less : withoutBit x j < x
-    taking-less = withoutBit-less x j (top .is-set)
+    taking-less = withoutBit-less x j (leading .top .is-set)
 
     below-at : j < t .at
-    below-at = go (decLt j (t .at))
-      where
-        go : Dec (j < t .at) → j < t .at
-        go (yes p) = p
-        go (no p) = false≢ (sym (t .above j (omega arith)) ∙ top .is-set)
+    below-at = elim (decLt j (t .at)) [ yes p ↦ p | no p ↦ false≢ (sym (t .above j (omega arith)) ∙ leading .top .is-set) ]
 
     pub taking-room : i < 64 * k / w → (w * i + j < 64 * k) × (e + f ≤ 64 * k) × (w * i + j ≤ e)
-    taking-room h = (rw (words-full w k (sized-width (t .sized))) at (place-in w i j (top .within) (64 * k / w) h), t .room, omega (arith, below-at, t .low))
+    taking-room h = (rw (words-full w k (sized-width (t .sized))) at (place-in w i j (leading .top .within) (64 * k / w) h), t .room, omega (arith, below-at, t .low))
 
     -- to the next bit, and past it
     at-bit : sweptFrom (w * i + w) s₀ (w - j) ≡ keptAt (w * i + j) (edged e f (imageOf w k im))
     at-bit =
-        let p : w - j ≡ suc (w - suc j) = omega (arith, top .within) in
-        let v : w * i + w - suc (w - suc j) ≡ w * i + j = omega (arith, top .within) in
-        ap (sweptFrom (w * i + w) s₀) p
-        ∙ from-suc (w * i + w) s₀ (w - suc j)
-        ∙ ap (passed (sweptFrom (w * i + w) s₀ (w - suc j))) v
-        ∙ ap (λ (y : Edged). passed y (w * i + j)) (unmarked (suc j) below-at (λ b l h. top .clear-above b l))
-        ∙ passed-keep (edged e f (imageOf w k im)) (w * i + j)
-        (ap (λ (y : Edged). marked (y .image) (w * i + j)) (t .state) ∙ from-marks (w * i + w) s₀ (w - t .at) (w * i + j) ∙ t .below j below-at ∙ top .is-set)
+        let p : w - j ≡ suc (w - suc j) = omega (arith, leading .top .within) in
+        let v : w * i + w - suc (w - suc j) ≡ w * i + j = omega (arith, leading .top .within) in
+        rw (p, from-suc, v, unmarked (suc j) below-at (λ b l h. leading .top .clear-above b l))
+        (passed-keep (edged e f (imageOf w k im)) (w * i + j)
+        (ap (λ (y : Edged). marked (y .image) (w * i + j)) (t .state) ∙ from-marks (w * i + w) s₀ (w - t .at) (w * i + j) ∙ t .below j below-at ∙ leading .top .is-set))
 
     pub taking-more : (x' : ℕ) → x' ≡ withoutBit x j → (im' : List ℕ) (e' f' : ℕ) → length im' ≡ length im → edged e' f' (imageOf w k im') ≡ keptAt (w * i + j) (edged e f (imageOf w k im))
         → (e' ≡ w * i + j) × (e' + f' ≤ 64 * k) → Taking w k i e₀ f₀ im₀ x' im' e' f'
     taking-more x' ex im' e' f' ll s r =
         record {
           at = j;
-          high = omega (arith, top .within);
+          high = omega (arith, leading .top .within);
           fits = rw ex (omega (arith, t .fits, taking-less));
-          above = λ b l. rw ex (above b l (ℕ-discrete b j));
+          above = λ b l. rw ex (elim (ℕ-discrete b j) [ yes u ↦ rw u (withoutBit-same x j) | no u ↦ withoutBit-other x b j u ∙ leading .top .clear-above b (omega arith) ]);
           below = λ b l. t .below b (omega (arith, below-at)) ∙ rw ex (sym (withoutBit-other x b j (λ u. omega arith)));
           sized = sized-as (t .sized) ll;
           same = ll ∙ t .same;
@@ -147,7 +135,3 @@ module _ {w k i e₀ f₀ : ℕ} {im₀ : List ℕ} {x : ℕ} {im : List ℕ} {e
           room = r .1;
           state = s ∙ sym at-bit;
         }
-      where
-        above : (b : ℕ) → j ≤ b → Dec (b ≡ j) → testBit (withoutBit x j) b ≡ false
-        above b l (yes u) = rw u (withoutBit-same x j)
-        above b l (no u) = withoutBit-other x b j u ∙ top .clear-above b (omega arith)

@@ -76,7 +76,7 @@ sweeping-none {w} {k} {im} z =
     }
 
 module _ {w k : ℕ} {im₀ im : List ℕ} {e f i : ℕ} (t : Sweeping w k im₀ im e f i) where
-  s₀ : Edged
+  abbrev s₀ : Edged
   s₀ = edged (64 * k) 0 (imageOf w k im₀)
 
   -- the word before word i
@@ -88,7 +88,6 @@ module _ {w k : ℕ} {im₀ im : List ℕ} {e f i : ℕ} (t : Sweeping w k im₀
 
   pub sweeping-more : 0 < i → (e' f' : ℕ) (im' : List ℕ) → length im' ≡ length im → edged e' f' (imageOf w k im') ≡ sweptFrom (w * (i - 1) + w) (edged e f (imageOf w k im)) w
       → (w * (i - 1) ≤ e') × (e' + f' ≤ 64 * k) → Sweeping w k im₀ im' e' f' (i - 1)
-  unfolding s₀
   sweeping-more l e' f' im' ll s r =
       let b : w * i ≡ w * (i - 1) + w = word-before l in
       record {
@@ -99,19 +98,14 @@ module _ {w k : ℕ} {im₀ im : List ℕ} {e f i : ℕ} (t : Sweeping w k im₀
         top = omega (arith, t .top);
         room = r .1;
         state =
-            (let q : 64 * k - w * (i - 1) ≡ 64 * k - w * i + w = omega (arith, t .top) in
+            let q : 64 * k - w * (i - 1) ≡ 64 * k - w * i + w = omega (arith, t .top) in
             let p : 64 * k - (64 * k - w * i) ≡ w * (i - 1) + w = omega (arith, t .top) in
-            s
-            ∙ ap (λ (y : Edged). sweptFrom (w * (i - 1) + w) y w) (t .state)
-            ∙ ap (λ (n : ℕ). sweptFrom n (sweptFrom (64 * k) s₀ (64 * k - w * i)) w) (sym p)
-            ∙ sym (from-add (64 * k) s₀ (64 * k - w * i) w)
-            ∙ ap (sweptFrom (64 * k) s₀) (sym q));
+            s ∙ rw (t .state, q, from-add (64 * k) s₀ (64 * k - w * i) w, p);
       }
 
   pub sweeping-end : (m : Image) → imageOf w k im₀ ≡ setFirstRun m 0 → i ≤ 0 → (im' : List ℕ) → imageOf w k im' ≡ gap (imageOf w k im) 1 e → (n : ℕ) → n ≡ e - 1 → edged 0 (f + n) (imageOf w k im') ≡ sweptAll k m
   unfolding sweptAll closedAt
   sweeping-end m em l im' s n en =
-      let z : w * i ≡ 0 = (let q : i ≡ 0 = omega arith in ap (λ (j : ℕ). w * j) q ∙ omega arith) in
-      let q : 64 * k - w * i ≡ 64 * k = omega arith in
-      let st : edged e f (imageOf w k im) ≡ sweptFrom (64 * k) (edged (64 * k) 0 (setFirstRun m 0)) (64 * k) = t .state ∙ ap (sweptFrom (64 * k) (edged (64 * k) 0 (imageOf w k im₀))) q ∙ ap (λ (i : Image). sweptFrom (64 * k) (edged (64 * k) 0 i) (64 * k)) em in
-      rw (s, en) (ap (closedAt 0 1) st)
+      let z : i ≡ 0 = omega arith in
+      let q : 64 * k - w * i ≡ 64 * k = rw z (omega arith) in
+      rw (s, en) (ap (closedAt 0 1) (rw (q, em) at (t .state)))

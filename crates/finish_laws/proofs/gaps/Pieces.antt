@@ -4,11 +4,11 @@ use mathlib.Core.Bool.{Bool, true, false, cond}
 use mathlib.Core.List.{List, [], _∷_, _++_, append-assoc, append-nil}
 use Prim.Native.Nat.{ℕ, zero, suc, _+_, _*_, _-_, _<_, _≤_}
 use native.Mathlib.Omega.{arith}
+use native.Mathlib.Decide.{ℕ-discrete}
 use native.Mathlib.Nat.{add-zero}
-use lib.Dec.{eqb}
 use lib.ListN.{length, take, drop, length-append}
 use lib.Seq.{take-add, take-at, take-all, drop-at, drop-drop, length-take-le}
-use borrow.Author.Tests.{eqb-true}
+use borrow.Author.Tests.{eq-eqb, ne-eqb}
 use Rattle.model.specs.Base.{nth}
 use Rattle.model.specs.Image.{Image, word, isStart, marked, size, withHeap, withGeneral, setFirstRun}
 use Rattle.model.specs.Mutate.{freeFrom}
@@ -18,38 +18,25 @@ use Rattle.theory.specs.Heap.{Filled, f-end, f-object, f-run, runWords, Bare}
 use Rattle.theory.proofs.heap.Free.{chain-end}
 use Rattle.theory.proofs.heap.Lists.{nth-head, nth-left, length-run, run-next}
 use Rattle.theory.proofs.finish.Sweep.{not-kept, sweep-piece}
-use Rattle.finish_laws.specs.Gaps.{Edged, edged, gap, closedAt, keptAt, passed, sweptFrom, sweptAll}
+use Rattle.finish_laws.specs.Gaps.{Edged, edged, closedAt, keptAt, passed, sweptFrom, sweptAll}
 use Rattle.finish_laws.proofs.gaps.Granules.{passed-none, passed-keep, from-suc}
 use Rattle.finish_laws.proofs.gaps.Runs.{withSweep, from, gap-zero, gap-done}
 
 -- ---- one granule
 
-closed-at : (h a : ℕ) (s : Edged) → closedAt h a s ≡ edged h (s .free + (s .start - a)) (gap (s .image) a (s .start))
-unfolding closedAt
-closed-at h a s = refl
-
 -- the size of a kept object need not be read where the next one starts right behind its first granule
 kept-closed : (h : ℕ) (s : Edged) → 1 ≤ size (s .image) h → keptAt h s ≡ closedAt h (h + size (s .image) h) s
-unfolding keptAt
-kept-closed h s l = go (eqb (s .start) (h + 1)) refl
-  where
-    a : ℕ
-    a = h + size (s .image) h
-
-    go : (b : Bool) → eqb (s .start) (h + 1) ≡ b → cond b (edged h (s .free) (s .image)) (closedAt h a s) ≡ closedAt h a s
-    go true q =
-        let u : s .start ≡ h + 1 = eqb-true _ _ q in
-        let z : s .free ≡ s .free + (s .start - a) = omega arith in
-        ap (λ (f : ℕ). edged h f (s .image)) z ∙ ap (edged h (s .free + (s .start - a))) (sym (gap-zero (s .image) a (s .start) (omega arith))) ∙ sym (closed-at h a s)
-    go false q = refl
+unfolding keptAt closedAt
+kept-closed h s l = elim (ℕ-discrete (s .start) (h + 1)) [
+  | yes u ↦
+      let z : s .free + (s .start - (h + size (s .image) h)) ≡ s .free = omega arith in
+      rw (eq-eqb (s .start) (h + 1) u, z, gap-zero (s .image) (h + size (s .image) h) (s .start) (omega arith))
+  | no n ↦ rw (ne-eqb (s .start) (h + 1) n)
+]
 
 marked-with-sweep : (m : Image) (hs : List ℕ) (f h : ℕ) → marked (withSweep m hs f) h ≡ marked m h
 unfolding withSweep setFirstRun withHeap withGeneral marked
 marked-with-sweep m hs f h = refl
-
-size-with-sweep : (m : Image) (hs : List ℕ) (f h : ℕ) → size (withSweep m hs f) h ≡ nth hs (4 * h)
-unfolding withSweep setFirstRun withHeap withGeneral size word
-size-with-sweep m hs f h = ap (nth hs) (add-zero (4 * h))
 
 -- ---- the words of a piece
 
@@ -80,51 +67,36 @@ module _ (G : ℕ) (m old : Image) (H : List ℕ) (lH : length H ≡ 4 * G) (hg 
   skip g s r c hG d ba zero l = ap (sweptFrom G s₀) (omega arith) ∙ d
   skip g s r c hG d ba (suc j) l =
       let q : G - (g + s) + suc j ≡ suc (G - (g + s) + j) = omega arith in
-      ap (sweptFrom G s₀) q
-      ∙ from-suc G s₀ (G - (g + s) + j)
-      ∙ ap (λ (p : Edged). passed p (G - suc (G - (g + s) + j))) (skip g s r c hG d ba j (omega arith))
+      rw (q, from-suc)
+      (ap (λ (p : Edged). passed p (G - suc (G - (g + s) + j))) (skip g s r c hG d ba j (omega arith))
       ∙ passed-none (done (g + s) r c) (G - suc (G - (g + s) + j))
-      (marked-with-sweep m _ _ (G - suc (G - (g + s) + j)) ∙ not-kept (isStart m) (marked m) kept _ (ba (G - suc (G - (g + s) + j)) (omega arith) (omega arith)))
+      (marked-with-sweep m _ _ (G - suc (G - (g + s) + j)) ∙ not-kept (isStart m) (marked m) kept _ (ba (G - suc (G - (g + s) + j)) (omega arith) (omega arith))))
 
   -- the first granule of a piece, after those behind it
   at-first : (g s : ℕ) (r : Swept) (c : ℕ) → 1 ≤ s → g + s ≤ G → sweptFrom G s₀ (G - (g + s)) ≡ done (g + s) r c → Bare (isStart m) g s → sweptFrom G s₀ (G - g) ≡ passed (done (g + s) r c) g
   at-first g s r c h1 hG d ba =
       let q : G - g ≡ suc (G - (g + s) + (s - 1)) = omega arith in
       let k : G - suc (G - (g + s) + (s - 1)) ≡ g = omega arith in
-      ap (sweptFrom G s₀) q
-      ∙ from-suc G s₀ (G - (g + s) + (s - 1))
-      ∙ ap (λ (p : Edged). passed p (G - suc (G - (g + s) + (s - 1)))) (skip g s r c hG d ba (s - 1) (omega arith))
-      ∙ ap (passed (done (g + s) r c)) k
-
-  -- a piece that goes
-  gone : (g s x : ℕ) (r : Swept) (c : ℕ) → marked m g ≡ false → passed (done (g + s) r c) g ≡ done g (record { free = s + r .free; rest = r .rest; next = r .next; freed = x }) c
-  gone g s x r c u =
-      let q : g + s + r .free ≡ g + (s + r .free) = omega arith in
-      passed-none (done (g + s) r c) g (marked-with-sweep m _ _ g ∙ u)
-      ∙ ap (λ (i : ℕ). edged i c (withSweep m (take (4 * i) H ++ r .rest) (r .next))) q
+      rw (q, from-suc, skip g s r c hG d ba (s - 1) (omega arith), k)
 
   -- a piece that is kept
   module _ (g s x : ℕ) (ws rest : List ℕ) (r : Swept) (c : ℕ) (ew : drop (4 * g) H ≡ (s ∷ ws) ++ rest) (lw : suc (length ws) ≡ 4 * s) (hl : 4 * (g + s + r .free) ≤ length H) where
-    front : take (4 * (g + s)) H ≡ take (4 * g) H ++ (s ∷ ws)
-    front =
-        let q : 4 * (g + s) ≡ 4 * g + 4 * s = omega arith in
-        ap (λ (i : ℕ). take i H) q ∙ take-add (4 * g) (4 * s) H ∙ ap (λ (l : List ℕ). take (4 * g) H ++ l) (ap (take (4 * s)) ew ∙ take-at (s ∷ ws) rest (4 * s) lw)
-
     size-here : size (from m H hg (g + s) r) g ≡ s
+    unfolding withSweep setFirstRun withHeap withGeneral size word
     size-here =
         let k : length (take (4 * (g + s + r .free)) H) ≡ 4 * (g + s + r .free) = length-take-le _ H hl in
-        size-with-sweep m _ _ g ∙ nth-left (take (4 * (g + s + r .free)) H) (r .rest) (4 * g) (omega arith) ∙ nth-take (4 * (g + s + r .free)) H (4 * g) (omega arith) ∙ size-first H g s ws rest ew
+        rw (add-zero, nth-left (take (4 * (g + s + r .free)) H) (r .rest) (4 * g) (omega arith), nth-take (4 * (g + s + r .free)) H (4 * g) (omega arith))
+        (size-first H g s ws rest ew)
 
     stays : marked m g ≡ true → passed (done (g + s) r c) g ≡ done g (record { free = 0; rest = (s ∷ ws) ++ sweptWords r; next = firstOf (g + s) r; freed = x }) (c + r .free)
+    unfolding closedAt
     stays u =
         let q : g + s + r .free - (g + s) ≡ r .free = omega arith in
+        let d : 4 * (g + s) ≡ 4 * g + 4 * s = omega arith in
+        let front : take (4 * (g + s)) H ≡ take (4 * g) H ++ (s ∷ ws) = rw (d, take-add (4 * g) (4 * s) H, ew, take-at (s ∷ ws) rest (4 * s) lw) in
         passed-keep (done (g + s) r c) g (marked-with-sweep m _ _ g ∙ u)
         ∙ kept-closed g (done (g + s) r c) (omega (arith, size-here))
-        ∙ ap (λ (n : ℕ). closedAt g (g + n) (done (g + s) r c)) size-here
-        ∙ closed-at g (g + s) (done (g + s) r c)
-        ∙ ap (λ (n : ℕ). edged g (c + n) (gap (from m H hg (g + s) r) (g + s) (g + s + r .free))) q
-        ∙ ap (edged g (c + r .free)) (gap-done m H hg (g + s) r hl ∙ ap (λ (l : List ℕ). withSweep m l (firstOf (g + s) r)) (ap (λ (l : List ℕ). l ++ sweptWords r) front ∙ append-assoc (take (4 * g) H) (s ∷ ws) (sweptWords r)))
-        ∙ ap (λ (i : ℕ). edged i (c + r .free) (withSweep m (take (4 * i) H ++ ((s ∷ ws) ++ sweptWords r)) (firstOf (g + s) r))) (sym (add-zero g))
+        ∙ rw (size-here, q, gap-done m H hg (g + s) r hl, front, append-assoc (take (4 * g) H) (s ∷ ws) (sweptWords r), add-zero)
 
   -- the state; and the granules of its runs, which are those freed and those of the chain from `next` on
   pub record Good (g next : ℕ) (r : Swept) : Type 0 where
@@ -140,7 +112,7 @@ module _ (G : ℕ) (m old : Image) (H : List ℕ) (lH : length H ≡ 4 * G) (hg 
       let w : G ≡ g + 0 = omega arith in
       record {
         runs = 0;
-        state = rw q (ap (λ (i : ℕ). edged i 0 (withSweep m H 0)) w ∙ ap (λ (l : List ℕ). edged (g + 0) 0 (withSweep m l 0)) (sym (append-nil _ ∙ take-all (4 * (g + 0)) H (omega (arith, lH)))));
+        state = rw (q, ← w, append-nil, take-all (4 * G) H (omega (arith, lH)));
         inside = omega (arith, lH);
         count = λ n l. omega (arith, chain-end old n);
       }
@@ -160,9 +132,10 @@ module _ (G : ℕ) (m old : Image) (H : List ℕ) (lH : length H ≡ 4 * G) (hg 
         count = λ n l. omega (arith, cc n l (d .runs + r .free) (λ i q. d .count i q));
       }
   good-piece g s next next' ws rest r ba ew lw hG d false u cc =
+      let q : g + s + r .free ≡ g + (s + r .free) = omega arith in
       record {
         runs = d .runs;
-        state = at-first g s r (d .runs) (omega arith) hG (d .state) ba ∙ gone g s (cond (isStart m g) s 0 + r .freed) r (d .runs) u;
+        state = at-first g s r (d .runs) (omega arith) hG (d .state) ba ∙ passed-none (done (g + s) r (d .runs)) g (marked-with-sweep m _ _ g ∙ u) ∙ rw q;
         inside = omega (arith, d .inside);
         count = λ n l. omega (arith, cc n l (d .runs + r .free) (λ i q. d .count i q));
       }
@@ -176,21 +149,15 @@ module _ (G : ℕ) (m old : Image) (H : List ℕ) (lH : length H ≡ 4 * G) (hg 
   unfolding swept freeFrom
   run-counts zero j next rest ws r t h hG ew n l c f = absurd (omega arith)
   run-counts (suc g) j next rest ws r t h hG ew zero l c f = absurd (omega arith)
-  run-counts (suc g) j next rest ws r t h hG ew (suc n) l c f = rw (t, second) (omega (arith, first, f n (omega arith)))
-    where
-      first : word old (suc g) 0 ≡ suc j
-      first = let z : 4 * suc g + 0 ≡ 4 * suc g = omega arith in rd (suc g) 0 ∙ ap (nth H) z ∙ size-first H (suc g) (suc j) (runTail j next) rest ew
-
-      second : word old (suc g) 1 ≡ next
-      second = rd (suc g) 1 ∙ sym (nth-drop (4 * suc g) H 1) ∙ ap (λ (l : List ℕ). nth l 1) ew ∙ run-next j next rest
-
-  sweep-end : (n g : ℕ) → sweep (isStart m) (marked m) (suc n) g [] ≡ record { free = 0; rest = []; next = 0; freed = 0 }
-  unfolding sweep
-  sweep-end n g = refl
+  run-counts (suc g) j next rest ws r t h hG ew (suc n) l c f =
+      let z : 4 * suc g + 0 ≡ 4 * suc g = omega arith in
+      let first : word old (suc g) 0 ≡ suc j = rd (suc g) 0 ∙ rw z (size-first H (suc g) (suc j) (runTail j next) rest ew) in
+      let second : word old (suc g) 1 ≡ next = rd (suc g) 1 ∙ sym (nth-drop (4 * suc g) H 1) ∙ rw ew (run-next j next rest) in
+      rw (t, second) (omega (arith, f n (omega arith)))
 
   pub fold : {g next : ℕ} {b : Bool} {ws : List ℕ} (n : ℕ) → Filled (isStart m) g ws next b → 1 ≤ g → length ws < 4 * n → 4 * g + length ws ≡ 4 * G → drop (4 * g) H ≡ ws → Good g next (sweep (isStart m) (marked m) n g ws)
   fold zero f h l e ew = absurd (omega arith)
-  fold {g} (suc n) f-end h l e ew = subst (Good g 0) (sym (sweep-end n g)) (good-end g e)
+  fold {g} (suc n) f-end h l e ew = unfold sweep in good-end g e
   fold {g} {next} (suc n) (f-object s ws rest t o ba f) h l e ew =
       let la : length (ws ++ rest) ≡ length ws + length rest = length-append ws rest in
       let lo : suc (length ws) ≡ 4 * s = o .long in
@@ -209,10 +176,6 @@ module _ (G : ℕ) (m old : Image) (H : List ℕ) (lH : length H ≡ 4 * G) (hg 
 
 -- ---- the whole sweep
 
-first-with-sweep : (m : Image) (f : ℕ) → setFirstRun m f ≡ withSweep m (m .heap) f
-unfolding withSweep setFirstRun withHeap withGeneral
-first-with-sweep m f = refl
-
 -- what the sweep leaves, where r is the model's
 pub record SweptRuns (k : ℕ) (m old : Image) (next : ℕ) (r : Swept) : Type 0 where
   pub runs : ℕ
@@ -222,37 +185,17 @@ pub record SweptRuns (k : ℕ) (m old : Image) (next : ℕ) (r : Swept) : Type 0
 module _ (k : ℕ) (m old : Image) (hk : 1 ≤ k) (lH : length (m .heap) ≡ 4 * (64 * k)) (hg : 1 < length (m .general)) (eh : m .heap ≡ old .heap) (kept : (g : ℕ) → marked m g ≡ true → isStart m g ≡ true) where
   pub swept-all : {next : ℕ} {b : Bool} (n : ℕ) → Filled (isStart m) 1 (drop 4 (m .heap)) next b → isStart m 0 ≡ false → length (drop 4 (m .heap)) < 4 * n → 4 + length (drop 4 (m .heap)) ≡ 4 * (64 * k)
       → SweptRuns k m old next (sweep (isStart m) (marked m) n 1 (drop 4 (m .heap)))
-  unfolding sweptAll
-  swept-all {next} n f none l e = record { runs = q .runs + r .free; image = image-is; count = q .count (64 * k) (omega arith) }
-    where
-      r : Swept
-      r = sweep (isStart m) (marked m) n 1 (drop 4 (m .heap))
-
-      rd : (g i : ℕ) → word old g i ≡ nth (m .heap) (4 * g + i)
-      rd g i = unfold word in ap (λ (l : List ℕ). nth l (4 * g + i)) (sym eh)
-
-      q : Good (64 * k) m old (m .heap) lH hg rd kept 1 next r
-      q = fold (64 * k) m old (m .heap) lH hg rd kept n f (omega arith) l (omega arith) refl
-
-      t : Edged
-      t = edged (64 * k) 0 (withSweep m (m .heap) 0)
-
+  unfolding sweptAll closedAt withSweep setFirstRun withHeap withGeneral
+  swept-all {next} n f none l e =
+      let r : Swept = sweep (isStart m) (marked m) n 1 (drop 4 (m .heap)) in
+      let rd : (g i : ℕ) → word old g i ≡ nth (m .heap) (4 * g + i) = λ g i. unfold word in rw eh in
+      let q : Good (64 * k) m old (m .heap) lH hg rd kept 1 next r = fold (64 * k) m old (m .heap) lH hg rd kept n f (omega arith) l (omega arith) refl in
+      let t : Edged = edged (64 * k) 0 (withSweep m (m .heap) 0) in
+      let u : 64 * k ≡ suc (64 * k - 1) = omega arith in
+      let z : 64 * k - suc (64 * k - 1) ≡ 0 = omega arith in
+      let v : 1 + r .free - 1 ≡ r .free = omega arith in
+      let d : Edged = edged (1 + r .free) (q .runs) (from m (m .heap) hg 1 r) in
       -- granule 0 is not marked
-      last : sweptFrom (64 * k) t (64 * k) ≡ edged (1 + r .free) (q .runs) (from m (m .heap) hg 1 r)
-      last =
-          let u : 64 * k ≡ suc (64 * k - 1) = omega arith in
-          let z : 64 * k - suc (64 * k - 1) ≡ 0 = omega arith in
-          ap (sweptFrom (64 * k) t) u
-          ∙ from-suc (64 * k) t (64 * k - 1)
-          ∙ ap (λ (p : Edged). passed p (64 * k - suc (64 * k - 1))) (q .state)
-          ∙ ap (passed (edged (1 + r .free) (q .runs) (from m (m .heap) hg 1 r))) z
-          ∙ passed-none (edged (1 + r .free) (q .runs) (from m (m .heap) hg 1 r)) 0 (marked-with-sweep m _ _ 0 ∙ not-kept (isStart m) (marked m) kept 0 none)
-
-      image-is : closedAt 0 1 (sweptFrom (64 * k) (edged (64 * k) 0 (setFirstRun m 0)) (64 * k)) ≡ edged 0 (q .runs + r .free) (withSweep m (take 4 (m .heap) ++ sweptWords r) (firstOf 1 r))
-      image-is =
-          let u : 1 + r .free - 1 ≡ r .free = omega arith in
-          ap (λ (i : Image). closedAt 0 1 (sweptFrom (64 * k) (edged (64 * k) 0 i) (64 * k))) (first-with-sweep m 0)
-          ∙ ap (closedAt 0 1) last
-          ∙ closed-at 0 1 (edged (1 + r .free) (q .runs) (from m (m .heap) hg 1 r))
-          ∙ ap (λ (x : ℕ). edged 0 (q .runs + x) (gap (from m (m .heap) hg 1 r) 1 (1 + r .free))) u
-          ∙ ap (edged 0 (q .runs + r .free)) (gap-done m (m .heap) hg 1 r (q .inside))
+      let zeroth : passed d 0 ≡ d = passed-none d 0 (marked-with-sweep m _ _ 0 ∙ not-kept (isStart m) (marked m) kept 0 none) in
+      let last : sweptFrom (64 * k) t (64 * k) ≡ d = ap (sweptFrom (64 * k) t) u ∙ rw (from-suc, q .state, z) zeroth in
+      record { runs = q .runs + r .free; image = rw (last, v, gap-done m (m .heap) hg 1 r (q .inside)); count = q .count (64 * k) (omega arith) }

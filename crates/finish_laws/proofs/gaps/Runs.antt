@@ -48,34 +48,22 @@ module _ (H R : List ℕ) (a n : ℕ) (hl : 4 * (a + suc n) ≤ length H) where
   run-words : (next : ℕ) → zeroed (4 * a + 4) (4 * (a + suc n)) (headPut (4 * a) (suc n) next (take (4 * (a + suc n)) H ++ R)) ≡ take (4 * a) H ++ (runWords n next ++ R)
   unfolding runTail
   run-words next =
+      let p : List ℕ = take (4 * a) H in
+      let l : List ℕ = take (4 * suc n) (drop (4 * a) H) in
+      let h : List ℕ = suc n ∷ next ∷ 0 ∷ 0 ∷ [] in
+      let lp : length p ≡ 4 * a = length-take-le _ H (omega arith) in
+      let ll : length l ≡ 4 * suc n = length-take-le _ (drop (4 * a) H) (omega (arith, length-drop (4 * a) H)) in
+      let ld : length (drop 4 l) ≡ 4 * suc n - 4 = omega (arith, length-drop 4 l) in
+      let q : 4 * (a + suc n) ≡ 4 * a + 4 * suc n = omega arith in
+      let parted : take (4 * (a + suc n)) H ++ R ≡ p ++ (l ++ R) = rw (q, take-add (4 * a) (4 * suc n) H) (append-assoc p l R) in
+      let zeros : suc (suc (length (drop 4 l))) ≡ 4 * suc n - 2 = omega arith in
       ap (λ (l : List ℕ). zeroed (4 * a + 4) (4 * (a + suc n)) (headPut (4 * a) (suc n) next l)) parted
-      ∙ ap (zeroed (4 * a + 4) (4 * (a + suc n))) (head-words p (l ++ R) (4 * a) (suc n) next lp (omega (arith, length-append l R, ll)) ∙ ap (λ (t : List ℕ). p ++ (suc n ∷ next ∷ 0 ∷ 0 ∷ t)) (drop-append-le 4 l R (omega (arith, ll))) ∙ sym (append-assoc p h (drop 4 l ++ R)))
-      ∙ cleared (p ++ h) (drop 4 l) R (4 * a + 4) (4 * (a + suc n)) (length-append p h ∙ omega (arith, lp)) (omega (arith, length-drop 4 l, ll))
+      ∙ ap (zeroed (4 * a + 4) (4 * (a + suc n)))
+      (head-words p (l ++ R) (4 * a) (suc n) next lp (omega (arith, length-append l R))
+      ∙ ap (λ (t : List ℕ). p ++ (suc n ∷ next ∷ 0 ∷ 0 ∷ t)) (drop-append-le 4 l R (omega arith)) ∙ sym (append-assoc p h (drop 4 l ++ R)))
+      ∙ cleared (p ++ h) (drop 4 l) R (4 * a + 4) (4 * (a + suc n)) (length-append p h ∙ omega arith) (omega arith)
       ∙ append-assoc p h (replicate (length (drop 4 l)) 0 ++ R)
-      ∙ ap (λ (t : List ℕ). p ++ (suc n ∷ next ∷ (t ++ R))) zeros
-    where
-      p : List ℕ
-      p = take (4 * a) H
-
-      l : List ℕ
-      l = take (4 * suc n) (drop (4 * a) H)
-
-      h : List ℕ
-      h = suc n ∷ next ∷ 0 ∷ 0 ∷ []
-
-      lp : length (take (4 * a) H) ≡ 4 * a
-      lp = length-take-le _ H (omega arith)
-
-      ll : length (take (4 * suc n) (drop (4 * a) H)) ≡ 4 * suc n
-      ll = length-take-le _ (drop (4 * a) H) (omega (arith, length-drop (4 * a) H))
-
-      parted : take (4 * (a + suc n)) H ++ R ≡ p ++ (l ++ R)
-      parted =
-          let q : 4 * (a + suc n) ≡ 4 * a + 4 * suc n = omega arith in
-          ap (λ (i : ℕ). take i H ++ R) q ∙ ap (λ (t : List ℕ). t ++ R) (take-add (4 * a) (4 * suc n) H) ∙ append-assoc p l R
-
-      zeros : 0 ∷ 0 ∷ replicate {A = ℕ} (length (drop 4 l)) 0 ≡ replicate {A = ℕ} (4 * suc n - 2) 0
-      zeros = let e : suc (suc (length (drop 4 l))) ≡ 4 * suc n - 2 = omega (arith, length-drop 4 l, ll) in ap (λ (i : ℕ). replicate {A = ℕ} i 0) e
+      ∙ ap (λ (i : ℕ). p ++ (suc n ∷ next ∷ (replicate {A = ℕ} i 0 ++ R))) zeros
 
 -- ---- a gap in an image, of which only the heap and the first run change
 
@@ -84,27 +72,8 @@ unfoldable pub withSweep : Image → List ℕ → ℕ → Image
 withSweep m hs f = setFirstRun (withHeap m hs) f
 
 run-with-sweep : (m : Image) (hs : List ℕ) (f a e : ℕ) → 1 < length (m .general) → runFrom (withSweep m hs f) a e ≡ withSweep m (zeroed (4 * a + 4) (4 * e) (headPut (4 * a) (e - a) f hs)) a
-unfolding runFrom headAt headPut setWord withSweep setFirstRun withHeap withGeneral firstRun
-run-with-sweep m hs f a e h = rw (nth-put-same (m .general) 1 f h, put-put)
-  where
-    put-put : put (put (m .general) 1 f) 1 a ≡ put (m .general) 1 a
-    put-put = unfold put in set-set (m .general) 1 f a
-
-swept-zero : (r : Swept) → r .free ≡ 0 → sweptWords r ≡ r .rest
-unfolding sweptWords
-swept-zero r e = rw e
-
-swept-suc : (r : Swept) (n : ℕ) → r .free ≡ suc n → sweptWords r ≡ runWords n (r .next) ++ r .rest
-unfolding sweptWords
-swept-suc r n e = rw e
-
-first-zero : (a : ℕ) (r : Swept) → r .free ≡ 0 → firstOf a r ≡ r .next
-unfolding firstOf
-first-zero a r e = rw e
-
-first-suc : (a : ℕ) (r : Swept) (n : ℕ) → r .free ≡ suc n → firstOf a r ≡ a
-unfolding firstOf
-first-suc a r n e = rw e
+unfolding runFrom headAt headPut setWord withSweep setFirstRun withHeap withGeneral firstRun put
+run-with-sweep m hs f a e h = rw (nth-put-same (m .general) 1 f h, set-set)
 
 pub gap-zero : (m : Image) (a e : ℕ) → e ≤ a → gap m a e ≡ m
 unfolding gap
@@ -120,15 +89,16 @@ module _ (m : Image) (H : List ℕ) (hg : 1 < length (m .general)) where
   from g r = withSweep m (take (4 * (g + r .free)) H ++ r .rest) (r .next)
 
   pub gap-done : (a : ℕ) (r : Swept) → 4 * (a + r .free) ≤ length H → gap (from a r) a (a + r .free) ≡ withSweep m (take (4 * a) H ++ sweptWords r) (firstOf a r)
+  unfolding sweptWords firstOf
   gap-done a r hl = go (r .free) refl
     where
       go : (f : ℕ) → r .free ≡ f → gap (from a r) a (a + r .free) ≡ withSweep m (take (4 * a) H ++ sweptWords r) (firstOf a r)
       go zero e =
           let q : 4 * (a + r .free) ≡ 4 * a = omega arith in
-          gap-zero (from a r) a (a + r .free) (omega arith) ∙ rw (q, swept-zero r e, first-zero a r e)
+          gap-zero (from a r) a (a + r .free) (omega arith) ∙ rw (q, e, sweptWords, firstOf)
       go (suc n) e =
           let k : 4 * (a + suc n) ≤ length H = rw e at hl in
           let q : a + suc n - a ≡ suc n = omega arith in
           gap-suc (from a r) a (a + r .free) (omega arith)
           ∙ run-with-sweep m (take (4 * (a + r .free)) H ++ r .rest) (r .next) a (a + r .free) hg
-          ∙ rw (swept-suc r n e, first-suc a r n e, e, q, run-words H (r .rest) a n k (r .next))
+          ∙ rw (e, sweptWords, firstOf, q, run-words H (r .rest) a n k (r .next))

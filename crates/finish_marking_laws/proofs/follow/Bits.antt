@@ -1,13 +1,11 @@
--- What becoming pending and settling do to an image: its bits, and that all else stays.
+-- What becoming pending and settling do to an image: its bits.
 use mathlib.Core.Path.{_≡_, refl, ap}
 use Prim.Native.Nat.{ℕ, _*_, _<_}
-use Rattle.model.specs.Base.{setBit}
 use Rattle.model.specs.Image.{Image, isStart, marked, withStarts, withMarks, setStart, setMark, imageOf}
 use Rattle.model.proofs.Bits.{setBit-same, setBit-other}
-use Rattle.model.proofs.Laws.{length-put}
-use Rattle.finish_marking_laws.specs.Follow.{pend, untouched}
+use Rattle.finish_marking_laws.specs.Follow.{pend}
 use Rattle.finish_marking_laws.specs.Marking.{Shape}
-use Rattle.image_laws.specs.Bits.{clearBit, clearStart}
+use Rattle.image_laws.specs.Bits.{clearStart}
 use Rattle.image_laws.specs.Digits.{digit, markBit, startBit}
 use Rattle.image_laws.specs.Sized.{Sized}
 use Rattle.image_laws.proofs.Digits.{digit-on, digit-off}
@@ -42,20 +40,6 @@ pended k m a s h =
       starts = λ g n. ap digit (clear-other (m .width) (m .starts) a g n);
     }
 
-pub pend-shape : (k : ℕ) (m : Image) (a : ℕ) → Shape k m → Shape k (pend m a)
-unfolding pend clearStart setMark withStarts withMarks clearBit setBit
-pend-shape k m a s =
-    record {
-      starts = λ g h. rw length-put (s .starts g h);
-      marks = λ g h. rw length-put (s .marks g h);
-      cards = s .cards;
-    }
-
--- all else stays
-pub pend-frame : (m : Image) (a : ℕ) → (pend m a .heap ≡ m .heap) × (pend m a .cards ≡ m .cards) × (untouched (pend m a) ≡ untouched m)
-unfolding pend clearStart setMark withStarts withMarks
-pend-frame m a = (refl, refl, refl)
-
 -- ---- a pending object is settled
 
 pub record Settled (m m' : Image) (a : ℕ) : Type 0 where
@@ -71,11 +55,3 @@ settled-bits k m a s h =
       marks = λ g. refl;
       starts = λ g n. ap digit (setBit-other (m .width) (m .starts) a g n);
     }
-
-pub start-shape : (k : ℕ) (m : Image) (a : ℕ) → Shape k m → Shape k (setStart m a)
-unfolding setStart withStarts setBit
-start-shape k m a s = record { starts = λ g h. rw length-put (s .starts g h); marks = s .marks; cards = s .cards }
-
-pub start-frame : (m : Image) (a : ℕ) → (setStart m a .heap ≡ m .heap) × (setStart m a .cards ≡ m .cards) × (untouched (setStart m a) ≡ untouched m)
-unfolding setStart withStarts
-start-frame m a = (refl, refl, refl)

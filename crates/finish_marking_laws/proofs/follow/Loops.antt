@@ -1,5 +1,5 @@
 -- The loop over an object's links, and the loop of turns.
-use mathlib.Core.Path.{_≡_, refl, ap, subst, _∙_}
+use mathlib.Core.Path.{_≡_, refl, ap, _∙_}
 use mathlib.Core.List.{List}
 use Prim.Native.Nat.{ℕ, zero, suc, _+_, _*_, _-_, _<_, _≤_}
 use native.Mathlib.Omega.{arith}
@@ -89,7 +89,7 @@ turns-none z u t = record { sized = z; same = refl; marking = begins (image-shap
 
 module _ {w k : ℕ} {im₀ im : List ℕ} {h l : ℕ} (t : TurnLoop w k im₀ im h l) where
   pub turns-end : h ≡ 1 → Followed k (imageOf w k im₀) (imageOf w k im)
-  turns-end e = marking-done (subst (λ (x : ℕ). Marking k (imageOf w k im₀) (imageOf w k im) Nowhere x 1) e (subst (λ (x : ℕ). Marking k (imageOf w k im₀) (imageOf w k im) Nowhere h x) (t .last e) (t .marking)))
+  turns-end e = marking-done (rw (t .last e, e) at (t .marking))
 
   module _ (n : h ≡ 1 → ⊥) where
     pub turns-card : (2 ≤ h) × (h - 2 < k)
@@ -118,4 +118,4 @@ module _ {w k : ℕ} {im₀ im : List ℕ} {h l : ℕ} (t : TurnLoop w k im₀ i
 
           -- else those that were listed later
           pub turns-round : r ≡ 1 → TurnLoop w k im₀ im' l' 1
-          turns-round o = record { sized = sized-as (t .sized) s; same = s ∙ t .same; marking = next-round (subst (λ (x : ℕ). Marking k (imageOf w k im₀) (imageOf w k im') Nowhere x l') o turned); last = λ _. refl }
+          turns-round o = record { sized = sized-as (t .sized) s; same = s ∙ t .same; marking = next-round (rw o at turned); last = λ _. refl }

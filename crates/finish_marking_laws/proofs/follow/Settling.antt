@@ -28,19 +28,17 @@ use Rattle.finish_marking_laws.proofs.follow.Turns.{marking-as, later-f
 
 -- marks x without starts s, whose complement is y
 pub pending-word : (w : ℕ) (m : Image) → m .width ≡ w → (i x s y : ℕ) → x ≡ nth (m .marks) i → s ≡ nth (m .starts) i → s + y + 1 ≡ 2 ^ w → PendingWord w m i (bitAnd x y)
-pending-word w m e i x s y ex es h = record { some = λ j l q. yes j l (digit-on q); all = λ j l p. on-digit _ (bits j l ∙ omega (arith, p .is-marked, p .bare)) }
+pending-word w m e i x s y ex es h = record {
+  some = λ j l q.
+      let b : 1 ≡ min (markBit m (w * i + j)) (1 - startBit m (w * i + j)) = sym (digit-on q) ∙ bits j l in
+      record { is-marked = omega (arith, digit-le (marked m (w * i + j))); bare = omega (arith, digit-le (isStart m (w * i + j))) };
+  all = λ j l p. on-digit _ (bits j l ∙ omega (arith, p .is-marked, p .bare));
+}
   where
-    marks : (j : ℕ) → j < w → markBit m (w * i + j) ≡ bitOf x j
-    marks j l = mark-digit w m e (w * i + j) ∙ rw (place-word w i j l, place-bit w i j l, ex)
-
-    starts : (j : ℕ) → j < w → startBit m (w * i + j) ≡ bitOf s j
-    starts j l = start-digit w m e (w * i + j) ∙ rw (place-word w i j l, place-bit w i j l, es)
-
     bits : (j : ℕ) → j < w → bitOf (bitAnd x y) j ≡ min (markBit m (w * i + j)) (1 - startBit m (w * i + j))
-    bits j l = rw (marks j l, starts j l, bit-and x y j) (ap (min (bitOf x j)) (omega (arith, bit-not w s y j h l)))
-
-    yes : (j : ℕ) → j < w → bitOf (bitAnd x y) j ≡ 1 → Pending m (w * i + j)
-    yes j l q = record { is-marked = omega (arith, bits j l, digit-le (marked m (w * i + j))); bare = omega (arith, bits j l, digit-le (isStart m (w * i + j))) }
+    bits j l =
+        rw (mark-digit w m e (w * i + j), start-digit w m e (w * i + j), place-word w i j l, place-bit w i j l, ← ex, ← es, bit-and x y j)
+        (ap (min (bitOf x j)) (omega (arith, bit-not w s y j h l)))
 
 -- ---- the objects of a word
 
@@ -63,14 +61,14 @@ word-none {w} {k} {im} l {i} {x} hx z b = record {
   sized = z;
   same = refl;
   pending = b .some;
-  goes-on = λ m₀ a e u. record { marking = marking-as u (BitOrBehind w i x e) (λ g q n. at e g q n (decLt g (w * i + w))); less = omega arith };
+  goes-on = λ m₀ a e u. record {
+    marking = marking-as u (BitOrBehind w i x e) (λ g q n. elim (decLt g (w * i + w)) [
+      | yes d ↦ let s : w * i + (g - w * i) ≡ g = omega (arith, n .low) in here (g - w * i) (omega arith) (b .all (g - w * i) (omega arith) (rw s q)) (sym s)
+      | no d ↦ behind (record { low = omega arith; high = n .high })
+    ]);
+    less = omega arith;
+  };
 }
-  where
-    at : (e g : ℕ) → Pending (imageOf w k im) g → Between (w * i) e g → Dec (g < w * i + w) → BitOrBehind w i x e g
-    at e g q n (yes d) =
-        let s : w * i + (g - w * i) ≡ g = omega (arith, n .low) in
-        here (g - w * i) (omega (arith, n .low)) (b .all (g - w * i) (omega (arith, n .low)) (rw s q)) (sym s)
-    at e g q n (no d) = behind (record { low = omega arith; high = n .high })
 
 module _ {w k : ℕ} {im₀ : List ℕ} {l i : ℕ} {im : List ℕ} {h x : ℕ} (t : WordSettled w k im₀ l i im h x) where
   only-behind : x ≡ 0 → (e g : ℕ) → BitOrBehind w i x e g → Between (w * i + w) e g
@@ -122,61 +120,48 @@ module _ {w k : ℕ} {im₀ : List ℕ} {l i : ℕ} {im : List ℕ} {h x : ℕ} 
           small = let f : x' < x = rw ex (withoutBit-less x _ (word-bit .is-set)) in omega (arith, t .small);
           sized = sized-as (t .sized) s;
           same = s ∙ t .same;
-          pending = λ j d b. still j d (rw ex at b) (ℕ-discrete j (trailingZeros 64 x));
-          goes-on = λ m₀ a c v. on m₀ a c (t .goes-on m₀ a c v);
+          pending = λ j d b. elim (ℕ-discrete j (trailingZeros 64 x)) [
+            | yes q ↦ false≢ (sym (withoutBit-same x (trailingZeros 64 x)) ∙ (rw (ex, q) at b))
+            | no q ↦ one-more (so-far .marking) .others (w * i + j) (t .pending j d (rw (ex, withoutBit-other x j (trailingZeros 64 x) q) at b)) (λ z. q (omega arith))
+          ];
+          goes-on = λ m₀ a c v.
+              let r = t .goes-on m₀ a c v in
+              let o : ObjectSettled k m₀ (imageOf w k im) (BitOrBehind w i x c) a object (headed h' (imageOf w k im')) = one-more (r .marking) in
+              record {
+                marking = marking-as (o .marking) (BitOrBehind w i x' c) (λ g q. elim [
+                  | behind b ↦ behind b
+                  | here j d b p ↦ here j d (rw (ex, withoutBit-other x j (trailingZeros 64 x) (λ z. o .done (subst (Pending (imageOf w k im')) (p ∙ rw z) q))) b) p
+                ]);
+                less = omega (arith, o .less, r .less);
+              };
         }
-          where
-            left : (c g : ℕ) → (g ≡ object → ⊥) → BitOrBehind w i x c g → BitOrBehind w i x' c g
-            left c g ne (behind b) = behind b
-            left c g ne (here j d b q) = here j d (rw (ex, withoutBit-other x j (trailingZeros 64 x) (λ z. ne (q ∙ rw z))) b) q
-
-            on : (m₀ : Image) (a c : ℕ) → GoneOn k m₀ (imageOf w k im₀) (BitOrBehind w i x c) a (headed h (imageOf w k im)) → GoneOn k m₀ (imageOf w k im₀) (BitOrBehind w i x' c) a (headed h' (imageOf w k im'))
-            on m₀ a c r =
-                let o : ObjectSettled k m₀ (imageOf w k im) (BitOrBehind w i x c) a object (headed h' (imageOf w k im')) = one-more (r .marking) in
-                record {
-                  marking = marking-as (o .marking) (BitOrBehind w i x' c) (λ g q b. left c g (λ z. o .done (subst (Pending (imageOf w k im')) z q)) b);
-                  less = omega (arith, o .less, r .less);
-                }
-
-            still : (j : ℕ) → j < w → testBit (withoutBit x (trailingZeros 64 x)) j ≡ true → Dec (j ≡ trailingZeros 64 x) → Pending (imageOf w k im') (w * i + j)
-            still j d b (yes q) = false≢ (sym (withoutBit-same x (trailingZeros 64 x)) ∙ (rw q at b))
-            still j d b (no q) = one-more (so-far .marking) .others (w * i + j) (t .pending j d (sym (withoutBit-other x j (trailingZeros 64 x) q) ∙ b)) (λ z. q (omega arith))
 
 -- ---- the words of a card
-
-pub settled-none : (k : ℕ) (m : Image) (a l : ℕ) → SettledTo k m a l a (headed l m)
-settled-none k m a l = record { goes-on = λ m₀ h e w. record { marking = w; less = omega arith } }
-
-module _ {k : ℕ} {m : Image} {a l b : ℕ} {p : Headed} (t : SettledTo k m a l b p) where
-  pub settled-underway : Underway k m a l → Underway k (p .image) b (p .head)
-  settled-underway u = record { from = u .from; head = u .head; end = u .end; marking = t .goes-on (u .from) (u .head) (u .end) (u .marking) .marking }
-
-  pub settled-more : {c : ℕ} {q : Headed} → SettledTo k (p .image) b (p .head) c q → SettledTo k m a l c q
-  settled-more s = record {
-    goes-on = λ m₀ h e w.
-        let r = t .goes-on m₀ h e w in
-        let v = s .goes-on m₀ h e (r .marking) in
-        record { marking = v .marking; less = omega (arith, v .less, r .less) };
-  }
 
 -- the first i words of card c
 pub record CardSettled (w k : ℕ) (m : Image) (c l h : ℕ) (m' : Image) (i : ℕ) : Type 0 where
   pub so-far : SettledTo k m (64 * c) l (w * (64 / w * c + i)) (headed h m')
 
 pub card-none : (w k : ℕ) (m : Image) (c l : ℕ) → (w ≡ 16) ⊎ (w ≡ 32) → CardSettled w k m c l l m 0
-card-none w k m c l o =
-    let e : w * (64 / w * c + 0) ≡ 64 * c = words-begin w c (64 / w * c + 0) o (omega arith) in
-    record { so-far = subst (λ (b : ℕ). SettledTo k m (64 * c) l b (headed l m)) (sym e) (settled-none k m (64 * c) l) }
+card-none w k m c l o = record {
+  so-far = rw (words-begin w c (64 / w * c + 0) o (omega arith)) (record { goes-on = λ m₀ h e u. record { marking = u; less = omega arith } });
+}
 
 module _ {w k : ℕ} {m : Image} {c l h : ℕ} {m' : Image} {i : ℕ} (t : CardSettled w k m c l h m' i) where
   pub card-underway : Underway k m (64 * c) l → Underway k m' (w * (64 / w * c + i)) h
-  card-underway u = settled-underway (t .so-far) u
+  card-underway u = record { from = u .from; head = u .head; end = u .end; marking = t .so-far .goes-on (u .from) (u .head) (u .end) (u .marking) .marking }
 
   pub card-more : (h' : ℕ) (m'' : Image) → SettledTo k m' (w * (64 / w * c + i)) h (w * (64 / w * c + i) + w) (headed h' m'') → CardSettled w k m c l h' m'' (i + 1)
   card-more h' m'' s =
       let e : w * (64 / w * c + (i + 1)) ≡ w * (64 / w * c + i) + w = rw (← add-assoc, add-one) (mul-suc w (64 / w * c + i)) in
-      record { so-far = subst (λ (b : ℕ). SettledTo k m (64 * c) l b (headed h' m'')) (sym e) (settled-more (t .so-far) s) }
+      record {
+        so-far = rw e (record {
+          goes-on = λ m₀ a b u.
+              let r = t .so-far .goes-on m₀ a b u in
+              let v = s .goes-on m₀ a b (r .marking) in
+              record { marking = v .marking; less = omega (arith, v .less, r .less) };
+        });
+      }
 
 pub card-end : {w k : ℕ} {m : Image} {c l h : ℕ} {m' : Image} → (w ≡ 16) ⊎ (w ≡ 32) → CardSettled w k m c l h m' (64 / w) → SettledTo k m (64 * c) l (64 * c + 64) (headed h m')
-card-end {w} {k} {m} {c} {l} {h} {m'} o t =
-    subst (λ (b : ℕ). SettledTo k m (64 * c) l b (headed h m')) (by-width (λ w. w * (64 / w * c + 64 / w) ≡ 64 * c + 64) (omega arith) (omega arith) o) (t .so-far)
+card-end {c = c} o t = rw (by-width (λ w. w * (64 / w * c + 64 / w) ≡ 64 * c + 64) (omega arith) (omega arith) o) at (t .so-far)

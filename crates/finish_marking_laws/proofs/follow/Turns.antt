@@ -1,18 +1,18 @@
 -- Settling a pending object, and a card's turn, keep the marking, and less is left; with an empty list the marks are what is found.
 use mathlib.Core.Path.{_≡_, refl, sym, _∙_}
-use mathlib.Core.Logic.{_⊎_, inl, inr, ⊎-elim}
+use mathlib.Core.Logic.{inl, inr, ⊎-elim}
 use Prim.Native.Nat.{ℕ, zero, suc, _+_, _*_, _-_, _/_, _<_, _≤_}
 use native.Mathlib.Omega.{arith}
 use native.Mathlib.Decide.{ℕ-discrete}
-use Rattle.model.specs.Base.{nth, put}
+use Rattle.model.specs.Base.{setBit}
 use Rattle.model.specs.Image.{Image, isStart, marked, links, link, withStarts, withCards, setStart, setState}
-use Rattle.model.proofs.Laws.{nth-put-other}
-use Rattle.finish_marking_laws.specs.Follow.{cardWord, Pending, Headed, headed, visited, visits, settled, LinksIn, Reach, objectBit, Listed, Nowhere, Followed, follow, seed}
-use Rattle.finish_marking_laws.specs.Marking.{Grown, Marking, sum, onList, workLeft, Between}
-use Rattle.finish_marking_laws.proofs.follow.Bits.{Settled, settled-bits, start-shape, start-frame}
+use Rattle.model.proofs.Laws.{length-put, nth-put-other}
+use Rattle.finish_marking_laws.specs.Follow.{cardWord, Pending, Headed, visited, visits, settled, LinksIn, Reach, objectBit, Nowhere, Followed, follow, seed}
+use Rattle.finish_marking_laws.specs.Marking.{Shape, Marking, weight, onList, workLeft, Between}
+use Rattle.finish_marking_laws.proofs.follow.Bits.{Settled, settled-bits}
 use Rattle.finish_marking_laws.proofs.follow.Grown.{same-links, same-link, grown-settle, grown-cards, links-found}
-use Rattle.finish_marking_laws.proofs.follow.Measure.{weights-settle, list-off}
-use Rattle.finish_marking_laws.proofs.follow.Visiting.{Visited, visit-keeps, card-weights}
+use Rattle.finish_marking_laws.proofs.follow.Measure.{weights-settle, cards-change}
+use Rattle.finish_marking_laws.proofs.follow.Visiting.{visit-keeps}
 use Rattle.finish_marking_laws.proofs.follow.Worklist.{turned-around, list-empty, head-taken, head-in, later-high}
 use Rattle.image_laws.specs.Digits.{markBit, startBit}
 use Rattle.image_laws.proofs.Digits.{digit-two, digit-le}
@@ -50,33 +50,26 @@ module _ {k : ℕ} {m₀ m : Image} {N : ℕ → Type 0} {h l : ℕ} (w : Markin
   pub links-inside : g < 64 * k → LinksIn k m g
   links-inside hg = record {
     inside = rw (same-links m₀ m (w .grown .heap) g) (w .world .inside g is-object);
-    target = λ i b. rw (same-link m₀ m (w .grown .heap) g i) (to i (rw (same-links m₀ m (w .grown .heap) g) at b) (link m₀ g i) refl);
+    target = λ i b. rw (same-link m₀ m (w .grown .heap) g i) (elim (ℕ-discrete (link m₀ g i) 0) [
+      | yes e ↦ omega arith
+      | no n ↦ w .world .target g i is-object (rw (same-links m₀ m (w .grown .heap) g) at b) n .0
+    ]);
   }
-    where
-      to : (i : ℕ) → i < links m₀ g → (a : ℕ) → a ≡ link m₀ g i → a < 64 * k
-      to i b zero e = omega arith
-      to i b (suc a) e = rw e (w .world .target g i is-object b (λ z. absurd (omega arith)) .0)
-
-  -- what a link of g leads to, in any later image
-  leads : (m' : Image) → Grown k m₀ m' → Pending m' g → (i : ℕ) → i < links m₀ g → (link m₀ g i ≡ 0 → ⊥) → Reach m₀ (link m₀ g i) × (link m₀ g i < 64 * k) × (objectBit m' (link m₀ g i) ≡ 1)
-  leads m' w' q' i b nz =
-      let t = w .world .target g i is-object b nz in
-      (links-found k m₀ m' g i w' q' b nz, t .0, w' .same (link m₀ g i) ∙ t .1)
 
   through-more : (n : ℕ) (p : Headed) → LinksVisited k m₀ m N h g n p → n < links m₀ g → LinksVisited k m₀ m N h g (suc n) (visited (p .image) (p .head) (link m₀ g n))
-  through-more n p t b = record {
-    marking = v .marking;
-    all = λ i li nz. at i li nz (ℕ-discrete i n);
-    pending = λ a o. v .pending a (t .pending a o);
-    less = omega (arith, v .less, t .less);
-  }
-    where
-      v : Visited k m₀ (p .image) N h (link m₀ g n) (visited (p .image) (p .head) (link m₀ g n))
-      v = visit-keeps (link m₀ g n) (t .marking) (λ nz. leads (p .image) (t .marking .grown) (t .pending g q) n b nz)
-
-      at : (i : ℕ) → i < suc n → (link m₀ g i ≡ 0 → ⊥) → Dec (i ≡ n) → markBit (visited (p .image) (p .head) (link m₀ g n) .image) (link m₀ g i) ≡ 1
-      at i li nz (yes e) = rw e (v .now-marked (rw e at nz))
-      at i li nz (no ne) = omega (arith, t .all i (omega arith) nz, v .grow (link m₀ g i), digit-le (marked (visited (p .image) (p .head) (link m₀ g n) .image) (link m₀ g i)))
+  through-more n p t b =
+      let o = w .world .target g n is-object b in
+      let v = visit-keeps (link m₀ g n) (t .marking)
+      (λ nz. (links-found k m₀ (p .image) g n (t .marking .grown) (t .pending g q) b nz, o nz .0, t .marking .grown .same (link m₀ g n) ∙ o nz .1)) in
+      record {
+        marking = v .marking;
+        all = λ i li nz. elim (ℕ-discrete i n) [
+          | yes e ↦ rw e (v .now-marked (rw e at nz))
+          | no ne ↦ omega (arith, t .all i (omega arith) nz, v .grow (link m₀ g i), digit-le (marked (visited (p .image) (p .head) (link m₀ g n) .image) (link m₀ g i)))
+        ];
+        pending = λ a o. v .pending a (t .pending a o);
+        less = omega (arith, v .less, t .less);
+      }
 
   through : (n : ℕ) → n ≤ links m₀ g → LinksVisited k m₀ m N h g n (visits m l g n)
   unfolding visits
@@ -92,42 +85,30 @@ pub record ObjectSettled (k : ℕ) (m₀ m : Image) (N : ℕ → Type 0) (h g : 
   pub done : Pending (p .image) g → ⊥
   pub others : (a : ℕ) → Pending m a → (a ≡ g → ⊥) → Pending (p .image) a
 
-start-list : (k : ℕ) (m : Image) (g : ℕ) → sum k (onList (setStart m g)) ≡ sum k (onList m)
-unfolding setStart withStarts onList
-start-list k m g = refl
-
-settle-pending : (m m' : Image) (a : ℕ) → Settled m m' a → (g : ℕ) → Pending m' g → Pending m g
-settle-pending m m' a p g q = go (ℕ-discrete g a)
-  where
-    go : Dec (g ≡ a) → Pending m g
-    go (yes e) = absurd (let z : startBit m' a ≡ 0 = rw e at (q .bare) in omega (arith, p .start))
-    go (no n) = record { is-marked = sym (p .marks g) ∙ q .is-marked; bare = sym (p .starts g n) ∙ q .bare }
-
-module _ {k : ℕ} {m₀ m : Image} {N : ℕ → Type 0} {h g : ℕ} (hg : g < 64 * k) (q : Pending m g) (p : Headed) (t : LinksVisited k m₀ m N h g (links m₀ g) p) where
-  settle-last : ObjectSettled k m₀ m N h g (headed (p .head) (setStart (p .image) g))
-  unfolding workLeft
-  settle-last = record {
-    marking = record {
-      world = t .marking .world;
-      grown = grown-settle k m₀ (p .image) (setStart (p .image) g) g (t .marking .grown) s (start-shape k (p .image) g (t .marking .grown .shape)) (start-frame (p .image) g .0) (start-frame (p .image) g .2) (t .pending g q) (t .all);
-      listed = record {
-        list = rw (start-frame (p .image) g .1) (t .marking .listed .list);
-        holds = λ a o. rw (start-frame (p .image) g .1) (t .marking .listed .holds a (settle-pending (p .image) (setStart (p .image) g) g s a o));
-      };
-    };
-    less = rw (start-list k (p .image) g) (omega (arith, weights-settle (64 * k) (p .image) (setStart (p .image) g) g hg s (t .pending g q), t .less));
-    done = λ o. omega (arith, o .bare, s .start);
-    others = λ a o n. record { is-marked = s .marks a ∙ t .pending a o .is-marked; bare = s .starts a n ∙ t .pending a o .bare };
-  }
-    where
-      s : Settled (p .image) (setStart (p .image) g) g
-      s = settled-bits k (p .image) g (t .marking .grown .shape) hg
+settle-pending : {m m' : Image} {a : ℕ} → Settled m m' a → (g : ℕ) → Pending m' g → Pending m g
+settle-pending {a = a} p g q = elim (ℕ-discrete g a) [
+  | yes e ↦ absurd (omega (arith, p .start, rw e at (q .bare)))
+  | no n ↦ record { is-marked = sym (p .marks g) ∙ q .is-marked; bare = sym (p .starts g n) ∙ q .bare }
+]
 
 pub object-settled : {k : ℕ} {m₀ m : Image} {N : ℕ → Type 0} {h l : ℕ} → Marking k m₀ m N h l → (g : ℕ) → g < 64 * k → Pending m g → ObjectSettled k m₀ m N h g (settled m l g)
-unfolding settled
-object-settled {k} {m₀} {m} {N} {h} {l} w g hg q =
-    rw (same-links m₀ m (w .grown .heap) g)
-    (settle-last hg q (visits m l g (links m₀ g)) (through w g q (links m₀ g) (omega arith)))
+unfolding settled workLeft setStart withStarts setBit onList
+object-settled {k} {m₀} {m} {N} {h} {l} v g hg q =
+    let p : Headed = visits m l g (links m₀ g) in
+    let t : LinksVisited k m₀ m N h g (links m₀ g) p = through v g q (links m₀ g) (omega arith) in
+    let w = t .marking .grown in
+    let s : Settled (p .image) (setStart (p .image) g) g = settled-bits k (p .image) g (w .shape) hg in
+    let s' : Shape k (setStart (p .image) g) = record { starts = λ a b. rw length-put (w .shape .starts a b); marks = w .shape .marks; cards = w .shape .cards } in
+    rw (same-links m₀ m (v .grown .heap) g) (record {
+      marking = record {
+        world = t .marking .world;
+        grown = grown-settle w s' refl refl s (t .pending g q) (t .all);
+        listed = record { list = t .marking .listed .list; holds = λ a o. t .marking .listed .holds a (settle-pending s a o) };
+      };
+      less = omega (arith, weights-settle (64 * k) hg s (t .pending g q), t .less);
+      done = λ o. omega (arith, o .bare, s .start);
+      others = λ a o n. record { is-marked = s .marks a ∙ t .pending a o .is-marked; bare = s .starts a n ∙ t .pending a o .bare };
+    })
 
 -- ---- a card is taken from the list: its pending objects are to be settled
 
@@ -136,18 +117,21 @@ pub record CardTaken (k : ℕ) (m₀ m : Image) (h l : ℕ) : Type 0 where
   pub less : workLeft k (setState m (h - 2) 0) < workLeft k m
 
 pub card-taken : {k : ℕ} {m₀ m : Image} {h l : ℕ} → Marking k m₀ m Nowhere h l → (h ≡ 1 → ⊥) → CardTaken k m₀ m h l
-unfolding workLeft
+unfolding workLeft weight setState withCards marked isStart
 card-taken {k} {m₀} {m} {h} {l} w n = record {
-  marking = record { world = w .world; grown = grown-cards k m₀ m (h - 2) 0 (w .grown); listed = listed };
-  less = rw (card-weights k m (h - 2) 0) (omega (arith, list-off k m (h - 2) 0 (head-card w n .1) (w .grown .shape .cards) (head-taken (w .listed .list) n .on) refl));
+  marking = record {
+    world = w .world;
+    grown = grown-cards k m₀ m (h - 2) 0 (w .grown);
+    listed = record {
+      list = head-taken (w .listed .list) n .list;
+      holds = λ g q. elim (ℕ-discrete (g / 64) (h - 2)) [
+        | yes e ↦ inr (record { low = omega arith; high = omega arith })
+        | no e ↦ inl (rw nth-put-other (⊎-elim (λ o. o) (λ z. absurd z) (w .listed .holds g (record { is-marked = q .is-marked; bare = q .bare }))))
+      ];
+    };
+  };
+  less = omega (arith, cards-change k m (h - 2) 0 (head-card w n .1) (w .grown .shape .cards), head-taken (w .listed .list) n .on);
 }
-  where
-    at : (g : ℕ) → Pending m g → Dec (g / 64 ≡ h - 2) → (1 ≤ nth (put (m .cards) (h - 2) 0) (g / 64)) ⊎ Between (64 * (h - 2)) (64 * (h - 2) + 64) g
-    at g q (yes e) = inr (record { low = omega arith; high = omega arith })
-    at g q (no e) = inl (rw (nth-put-other (m .cards) (h - 2) (g / 64) 0 e) (⊎-elim (λ o. o) (λ z. absurd z) (w .listed .holds g q)))
-
-    listed : Listed (setState m (h - 2) 0) (Between (64 * (h - 2)) (64 * (h - 2) + 64)) (cardWord m (h - 2)) l
-    listed = unfold setState withCards marked isStart in record { list = head-taken (w .listed .list) n .list; holds = λ g q. at g (record { is-marked = q .is-marked; bare = q .bare }) (ℕ-discrete (g / 64) (h - 2)) }
 
 -- ---- with an empty list
 
@@ -160,10 +144,9 @@ module _ {k : ℕ} {m₀ m : Image} (w : Marking k m₀ m Nowhere 1 1) where
   done g em = ⊎-elim (λ e. ⊎-elim (λ o. absurd (omega (arith, clean (g / 64)))) (λ z. absurd z) (w .listed .holds g (record { is-marked = em; bare = e }))) (λ e. e) (digit-two (isStart m g))
 
   reach-marked : {a : ℕ} → Reach m₀ a → markBit m a ≡ 1
-  reach-marked (seed g i q l e nz) = rw (sym e) (w .grown .closed g i em (done g em) (inl (q .bare)) l (rw (sym e) at nz))
-    where
-      em : markBit m g ≡ 1
-      em = omega (arith, w .grown .grow g, q .is-marked, digit-le (marked m g))
+  reach-marked (seed g i q l e nz) =
+      let em : markBit m g ≡ 1 = omega (arith, w .grown .grow g, q .is-marked, digit-le (marked m g)) in
+      rw (sym e) (w .grown .closed g i em (done g em) (inl (q .bare)) l (rw (sym e) at nz))
   reach-marked (follow g i r u l e nz) =
       let em : markBit m g ≡ 1 = reach-marked r in
       rw (sym e) (w .grown .closed g i em (done g em) (inr u) l (rw (sym e) at nz))
@@ -172,12 +155,8 @@ module _ {k : ℕ} {m₀ m : Image} (w : Marking k m₀ m Nowhere 1 1) where
   marking-done = record {
     heap = w .grown .heap;
     rest = w .grown .rest;
-    starts = λ g. at g (digit-two (marked m g));
+    starts = λ g. elim (digit-two (marked m g)) [ inl e ↦ omega (arith, w .grown .same g) | inr e ↦ omega (arith, w .grown .same g, done g e) ];
     kept = w .grown .only;
     keeps = λ g s. ⊎-elim (λ e. omega (arith, w .grown .grow g, digit-le (marked m g))) (λ r. reach-marked r) s;
     cards = clean;
   }
-    where
-      at : (g : ℕ) → (markBit m g ≡ 0) ⊎ (markBit m g ≡ 1) → startBit m g ≡ objectBit m₀ g
-      at g (inl e) = omega (arith, w .grown .same g)
-      at g (inr e) = omega (arith, w .grown .same g, done g e)

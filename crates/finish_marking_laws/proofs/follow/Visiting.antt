@@ -1,23 +1,21 @@
 -- What a visit leaves: the invariant, more marks, and no more to do.
-use mathlib.Core.Path.{_≡_, refl, sym, ap, _∙_}
+use mathlib.Core.Path.{_≡_, refl, sym, _∙_}
 use mathlib.Core.Logic.{_⊎_, inl, inr, ⊎-elim}
-use Prim.Native.Nat.{ℕ, _+_, _*_, _/_, _<_, _≤_}
+use Prim.Native.Nat.{ℕ, _*_, _/_, _<_, _≤_}
 use native.Mathlib.Omega.{arith}
 use native.Mathlib.Decide.{ℕ-discrete}
-use lib.ListN.{length}
-use Rattle.model.specs.Base.{nth, put}
+use Rattle.model.specs.Base.{setBit}
 use Rattle.model.specs.Image.{Image, isStart, withStarts, withMarks, withCards, setMark, setState, marked}
-use Rattle.model.proofs.Laws.{nth-put-same, nth-put-other}
-use Rattle.finish_marking_laws.specs.Follow.{cardWord, Pending, Headed, pend, visited, Reach, objectBit, Listed}
-use Rattle.finish_marking_laws.specs.Marking.{Grown, Marking, sum, weight, onList, workLeft}
-use Rattle.finish_marking_laws.proofs.follow.Bits.{Pended, pended, pend-shape, pend-frame}
-use Rattle.finish_marking_laws.proofs.follow.Grown.{grown-pend, grown-cards}
-use Rattle.finish_marking_laws.proofs.follow.Measure.{weights-pend, list-on}
+use Rattle.model.proofs.Laws.{length-put, nth-put-same, nth-put-other}
+use Rattle.finish_marking_laws.specs.Follow.{Pending, Headed, pend, visited, Reach, objectBit}
+use Rattle.finish_marking_laws.specs.Marking.{Shape, Grown, Marking, weight, onList, workLeft}
+use Rattle.finish_marking_laws.proofs.follow.Bits.{Pended, pended}
+use Rattle.finish_marking_laws.proofs.follow.Grown.{pend-grow, grown-pend, grown-cards}
+use Rattle.finish_marking_laws.proofs.follow.Measure.{weights-pend, cards-change}
 use Rattle.finish_marking_laws.proofs.follow.Visits.{Visit, visit-cases, past, on, new}
 use Rattle.finish_marking_laws.proofs.follow.Worklist.{later-low, push}
-use Rattle.image_laws.specs.Bits.{clearStart}
+use Rattle.image_laws.specs.Bits.{clearBit, clearStart}
 use Rattle.image_laws.specs.Digits.{markBit}
-use Rattle.image_laws.proofs.Digits.{digit-le}
 
 pub record Visited (k : ℕ) (m₀ m : Image) (N : ℕ → Type 0) (h a : ℕ) (p : Headed) : Type 0 where
   pub marking : Marking k m₀ (p .image) N h (p .head)
@@ -27,94 +25,67 @@ pub record Visited (k : ℕ) (m₀ m : Image) (N : ℕ → Type 0) (h a : ℕ) (
   pub less : workLeft k (p .image) ≤ workLeft k m
 
 -- what is pending after, where a became so
-pend-pending : (m m' : Image) (a : ℕ) → Pended m m' a → (g : ℕ) → Pending m' g → (g ≡ a) ⊎ Pending m g
-pend-pending m m' a p g q = go (ℕ-discrete g a)
-  where
-    go : Dec (g ≡ a) → (g ≡ a) ⊎ Pending m g
-    go (yes e) = inl e
-    go (no n) = inr (record { is-marked = sym (p .marks g n) ∙ q .is-marked; bare = sym (p .starts g n) ∙ q .bare })
+pend-pending : {m m' : Image} {a : ℕ} → Pended m m' a → (g : ℕ) → Pending m' g → (g ≡ a) ⊎ Pending m g
+pend-pending {a = a} p g q = elim (ℕ-discrete g a) [
+  | yes e ↦ inl e
+  | no n ↦ inr (record { is-marked = sym (p .marks g n) ∙ q .is-marked; bare = sym (p .starts g n) ∙ q .bare })
+]
 
-pend-keeps : (m m' : Image) (a : ℕ) → Pended m m' a → (g : ℕ) → Pending m g → Pending m' g
-pend-keeps m m' a p g q = go (ℕ-discrete g a)
-  where
-    go : Dec (g ≡ a) → Pending m' g
-    go (yes e) = rw e (record { is-marked = p .mark; bare = p .start })
-    go (no n) = record { is-marked = p .marks g n ∙ q .is-marked; bare = p .starts g n ∙ q .bare }
-
-pend-grow : (m m' : Image) (a : ℕ) → Pended m m' a → (g : ℕ) → markBit m g ≤ markBit m' g
-pend-grow m m' a p g = go (ℕ-discrete g a)
-  where
-    go : Dec (g ≡ a) → markBit m g ≤ markBit m' g
-    go (yes e) = rw (e, p .mark) (digit-le (marked m a))
-    go (no n) = omega (arith, p .marks g n)
-
-pub card-weights : (k : ℕ) (m : Image) (c v : ℕ) → sum (64 * k) (weight (setState m c v)) ≡ sum (64 * k) (weight m)
-unfolding setState withCards marked isStart weight
-card-weights k m c v = refl
-
-pend-list : (k : ℕ) (m : Image) (a : ℕ) → sum k (onList (pend m a)) ≡ sum k (onList m)
-unfolding pend clearStart setMark withStarts withMarks onList
-pend-list k m a = refl
-
-card-bits : (m m' : Image) (a c v : ℕ) → Pended m m' a → Pended m (setState m' c v) a
-unfolding setState withCards marked isStart
-card-bits m m' a c v p = record { mark = p .mark; start = p .start; marks = p .marks; starts = p .starts }
-
--- the list with a card whose object became pending
-module _ {m : Image} (m' : Image) {N : ℕ → Type 0} {h l a : ℕ} (t : Listed m N h l) (p : Pended m m' a) (ec : m' .cards ≡ m .cards) where
-  listed-on : 1 ≤ cardWord m (a / 64) → Listed m' N h l
-  listed-on o = record { list = rw ec (t .list); holds = λ g q. rw ec (⊎-elim (λ e. inl (rw e o)) (λ r. t .holds g r) (pend-pending m m' a p g q)) }
-
-  listed-new : a / 64 < length (m .cards) → cardWord m (a / 64) ≡ 0 → Listed (setState m' (a / 64) l) N h (a / 64 + 2)
-  unfolding setState withCards marked isStart
-  listed-new hc z = record {
-    list = rw ec (push (t .list) (a / 64) hc z);
-    holds = λ g q. rw ec (here g (record { is-marked = q .is-marked; bare = q .bare }) (ℕ-discrete (g / 64) (a / 64)));
-  }
-    where
-      here : (g : ℕ) → Pending m' g → Dec (g / 64 ≡ a / 64) → (1 ≤ nth (put (m .cards) (a / 64) l) (g / 64)) ⊎ N g
-      here g q (yes e) = inl (rw (e, nth-put-same (m .cards) (a / 64) l hc) (later-low (t .list)))
-      here g q (no n) = rw (nth-put-other (m .cards) (a / 64) (g / 64) l n) (⊎-elim (λ e. absurd (n (ap (λ x. x / 64) e))) (λ r. t .holds g r) (pend-pending m m' a p g q))
+pend-keeps : {m m' : Image} {a : ℕ} → Pended m m' a → (g : ℕ) → Pending m g → Pending m' g
+pend-keeps {a = a} p g q = elim (ℕ-discrete g a) [
+  | yes e ↦ rw e (record { is-marked = p .mark; bare = p .start })
+  | no n ↦ record { is-marked = p .marks g n ∙ q .is-marked; bare = p .starts g n ∙ q .bare }
+]
 
 module _ {k : ℕ} {m₀ m : Image} {N : ℕ → Type 0} {h l : ℕ} (a : ℕ) (w : Marking k m₀ m N h l) (f : (a ≡ 0 → ⊥) → Reach m₀ a × (a < 64 * k) × (objectBit m a ≡ 1)) where
   module _ (n : a ≡ 0 → ⊥) (u : markBit m a ≡ 0) where
-    inside : a < 64 * k
-    inside = f n .1
-
     bits : Pended m (pend m a) a
-    bits = pended k m a (w .grown .shape) inside
+    bits = pended k m a (w .grown .shape) (f n .1)
 
     grown : Grown k m₀ (pend m a)
-    grown = grown-pend k m₀ m (pend m a) a (w .grown) bits (pend-shape k m a (w .grown .shape)) (pend-frame m a .0) (pend-frame m a .2) u (f n .2) (f n .0)
+    unfolding pend clearStart setMark withStarts withMarks clearBit setBit
+    grown =
+        let s = w .grown .shape in
+        let s' : Shape k (pend m a) = record { starts = λ g h. rw length-put (s .starts g h); marks = λ g h. rw length-put (s .marks g h); cards = s .cards } in
+        grown-pend (w .grown) s' refl refl bits (f n .2) u (f n .0)
 
   visit-any : {p : Headed} → Visit m l a p → Visited k m₀ m N h a p
-  unfolding workLeft
+  unfolding workLeft pend clearStart setMark withStarts withMarks setState withCards marked isStart weight onList
   visit-any (past e) = record { marking = w; now-marked = λ n. ⊎-elim (λ z. absurd (n z)) (λ z. z) e; grow = λ g. omega arith; pending = λ g q. q; less = omega arith }
   visit-any (on n u o) =
       let p : Pended m (pend m a) a = bits n u in
       record {
-        marking = record { world = w .world; grown = grown n u; listed = listed-on (pend m a) (w .listed) p (pend-frame m a .1) o };
+        marking = record {
+          world = w .world;
+          grown = grown n u;
+          listed = record { list = w .listed .list; holds = λ g q. ⊎-elim (λ e. inl (rw e o)) (λ r. w .listed .holds g r) (pend-pending p g q) };
+        };
         now-marked = λ _. p .mark;
-        grow = pend-grow m (pend m a) a p;
-        pending = pend-keeps m (pend m a) a p;
-        less = rw (pend-list k m a) (omega (arith, weights-pend (64 * k) m (pend m a) a (inside n u) p u));
+        grow = pend-grow p;
+        pending = pend-keeps p;
+        less = omega (arith, weights-pend (64 * k) (f n .1) p u);
       }
   visit-any (new n u z) =
       let p : Pended m (pend m a) a = bits n u in
-      let p' : Pended m (setState (pend m a) (a / 64) l) a = card-bits m (pend m a) a (a / 64) l p in
-      let hc : a / 64 < k = omega (arith, inside n u) in
+      let hc : a / 64 < k = omega (arith, f n .1) in
       record {
         marking = record {
           world = w .world;
           grown = grown-cards k m₀ (pend m a) (a / 64) l (grown n u);
-          listed = listed-new (pend m a) (w .listed) p (pend-frame m a .1) (omega (arith, w .grown .shape .cards)) z;
+          listed = record {
+            list = push (w .listed .list) (a / 64) (omega (arith, w .grown .shape .cards)) z;
+            holds = λ g q. elim (ℕ-discrete (g / 64) (a / 64)) [
+              | yes e ↦ inl (rw (e, nth-put-same (m .cards) (a / 64) l (omega (arith, w .grown .shape .cards))) (later-low (w .listed .list)))
+              | no d ↦
+                  let q' : Pending (pend m a) g = record { is-marked = q .is-marked; bare = q .bare } in
+                  rw nth-put-other (⊎-elim (λ e. absurd (d (rw e))) (λ r. w .listed .holds g r) (pend-pending p g q'))
+            ];
+          };
         };
-        now-marked = λ _. p' .mark;
-        grow = pend-grow m (setState (pend m a) (a / 64) l) a p';
-        pending = pend-keeps m (setState (pend m a) (a / 64) l) a p';
-        less =
-            rw (card-weights k (pend m a) (a / 64) l, list-on k (pend m a) (a / 64) l hc (rw (pend-frame m a .1) (w .grown .shape .cards)) (rw (pend-frame m a .1) z) (later-low (w .listed .list)), pend-list k m a)
-            (omega (arith, weights-pend (64 * k) m (pend m a) a (inside n u) p u));
+        now-marked = λ _. p .mark;
+        grow = pend-grow p;
+        pending = λ g q. let o = pend-keeps p g q in record { is-marked = o .is-marked; bare = o .bare };
+        less = omega (arith, cards-change k (pend m a) (a / 64) l hc (w .grown .shape .cards), later-low (w .listed .list), weights-pend (64 * k) (f n .1) p u);
       }
 
   pub visit-keeps : Visited k m₀ m N h a (visited m l a)

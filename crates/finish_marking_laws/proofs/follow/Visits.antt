@@ -1,14 +1,14 @@
 -- A visit by cases, and each way out of it from the facts as the code finds them.
-use mathlib.Core.Path.{_≡_, refl, _∙_}
+use mathlib.Core.Path.{_≡_, _∙_}
 use mathlib.Core.Logic.{_⊎_, inl, inr}
-use mathlib.Core.Bool.{Bool, true, false, cond}
+use mathlib.Core.Bool.{Bool, true, false}
 use Prim.Native.Nat.{ℕ, _+_, _/_, _≤_}
 use native.Mathlib.Omega.{arith}
-use lib.Dec.{eqb}
-use borrow.Author.Tests.{eqb-true, eqb-false, eq-eqb, ne-eqb}
-use Rattle.model.specs.Image.{Image, setMark, setState, marked, state}
+use native.Mathlib.Decide.{ℕ-discrete}
+use borrow.Author.Tests.{eq-eqb, ne-eqb}
+use Rattle.model.specs.Image.{Image, withStarts, withMarks, setMark, setState, marked, state}
+use Rattle.model.proofs.Laws.{bool-cases}
 use Rattle.finish_marking_laws.specs.Follow.{cardWord, Headed, headed, pend, enlisted, visited}
-use Rattle.finish_marking_laws.proofs.follow.Bits.{pend-frame}
 use Rattle.image_laws.specs.Bits.{clearStart}
 use Rattle.image_laws.specs.Digits.{markBit}
 use Rattle.image_laws.proofs.Digits.{digit-on, digit-off}
@@ -19,20 +19,17 @@ pub data Visit (m : Image) (h a : ℕ) : Headed → Type 0 where
   new : (a ≡ 0 → ⊥) → markBit m a ≡ 0 → cardWord m (a / 64) ≡ 0 → Visit m h a (headed (a / 64 + 2) (setState (pend m a) (a / 64) h))
 
 pub visit-cases : (m : Image) (h a : ℕ) → Visit m h a (visited m h a)
-unfolding visited enlisted
-visit-cases m h a = one (eqb a 0) refl
-  where
-    three : (a ≡ 0 → ⊥) → marked m a ≡ false → (b : Bool) → eqb (cardWord (pend m a) (a / 64)) 0 ≡ b → Visit m h a (cond b (headed (a / 64 + 2) (setState (pend m a) (a / 64) h)) (headed h (pend m a)))
-    three n u true e = new n (digit-off u) (rw (pend-frame m a .1) at (eqb-true (cardWord (pend m a) (a / 64)) 0 e))
-    three n u false e = on n (digit-off u) (let z : cardWord m (a / 64) ≡ 0 → ⊥ = rw (pend-frame m a .1) at (eqb-false (cardWord (pend m a) (a / 64)) 0 e) in omega arith)
-
-    two : (a ≡ 0 → ⊥) → (b : Bool) → marked m a ≡ b → Visit m h a (cond b (headed h m) (cond (eqb (cardWord (pend m a) (a / 64)) 0) (headed (a / 64 + 2) (setState (pend m a) (a / 64) h)) (headed h (pend m a))))
-    two n true e = past (inr (digit-on e))
-    two n false e = three n e (eqb (cardWord (pend m a) (a / 64)) 0) refl
-
-    one : (b : Bool) → eqb a 0 ≡ b → Visit m h a (cond b (headed h m) (cond (marked m a) (headed h m) (cond (eqb (cardWord (pend m a) (a / 64)) 0) (headed (a / 64 + 2) (setState (pend m a) (a / 64) h)) (headed h (pend m a)))))
-    one true e = past (inl (eqb-true _ _ e))
-    one false e = two (eqb-false _ _ e) (marked m a) refl
+unfolding visited enlisted pend clearStart setMark withStarts withMarks
+visit-cases m h a = elim (ℕ-discrete a 0) [
+  | yes e ↦ rw (eq-eqb a 0 e) (past (inl e))
+  | no n ↦ rw (ne-eqb a 0 n) (elim (bool-cases (marked m a)) [
+    | inl e ↦ rw e (past (inr (digit-on e)))
+    | inr u ↦ rw u (elim (ℕ-discrete (cardWord m (a / 64)) 0) [
+      | yes e ↦ rw (eq-eqb (cardWord m (a / 64)) 0 e) (new n (digit-off u) e)
+      | no z ↦ rw (ne-eqb (cardWord m (a / 64)) 0 z) (on n (digit-off u) (omega arith))
+    ])
+  ])
+]
 
 -- ---- the ways out of the code
 

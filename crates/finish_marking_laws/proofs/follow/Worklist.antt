@@ -20,19 +20,14 @@ pub times-there : (c x : ℕ) (l : List ℕ) → (x ≡ c → ⊥) → times c (
 unfolding times digit
 times-there c x l n = rw (ne-eqb x c n) (omega arith)
 
-pub times-none : (c : ℕ) → times c [] ≡ 0
-unfolding times
-times-none c = refl
-
 -- a write to a card that is not listed
 pub chained-put : (cards : List ℕ) (c v : ℕ) (l : List ℕ) (h : ℕ) → times c l ≡ 0 → Chained cards l h → Chained (put cards c v) l h
 unfolding Chained
 chained-put cards c v [] h e q = q
-chained-put cards c v (x ∷ l) h e q = go (λ z. chained-put cards c v l (nth cards x) z (q .1)) (ℕ-discrete x c)
-  where
-    go : (times c l ≡ 0 → Chained (put cards c v) l (nth cards x)) → Dec (x ≡ c) → (h ≡ x + 2) × Chained (put cards c v) l (nth (put cards c v) x)
-    go ih (yes s) = absurd (let z : times c (x ∷ l) ≡ 1 + times c l = rw s (times-here c l) in omega arith)
-    go ih (no s) = (q .0, rw (nth-put-other cards c x v s) (ih (sym (times-there c x l s) ∙ e)))
+chained-put cards c v (x ∷ l) h e q = elim (ℕ-discrete x c) [
+  | yes s ↦ absurd (let z : times c (x ∷ l) ≡ 1 + times c l = rw s (times-here c l) in omega arith)
+  | no s ↦ (q .0, rw (nth-put-other cards c x v s) (chained-put cards c v l (nth cards x) (sym (times-there c x l s) ∙ e) (q .1)))
+]
 
 chained-low : (cards l : List ℕ) (h : ℕ) → Chained cards l h → 1 ≤ h
 unfolding Chained
@@ -40,8 +35,8 @@ chained-low cards [] h q = omega arith
 chained-low cards (x ∷ l) h q = omega arith
 
 chained-none : (cards l : List ℕ) → Chained cards l 1 → (c : ℕ) → times c l ≡ 0
-unfolding Chained
-chained-none cards [] q c = times-none c
+unfolding Chained times
+chained-none cards [] q c = refl
 chained-none cards (x ∷ l) q c = absurd (omega arith)
 
 module _ {cards : List ℕ} {h l : ℕ} (t : WorkList cards h l) where
@@ -52,20 +47,18 @@ module _ {cards : List ℕ} {h l : ℕ} (t : WorkList cards h l) where
   turned-around = record { waiting = t .later; later = t .waiting; chained = t .chained-later; chained-later = t .chained; once = λ c. omega (arith, t .once c) }
 
   -- a card comes on
-  module _ (c : ℕ) (hc : c < length cards) (e : nth cards c ≡ 0) where
-    push-once : (d : ℕ) → Dec (d ≡ c) → times d (t .waiting) + times d (c ∷ t .later) ≡ min 1 (nth (put cards c l) d)
-    push-once d (yes s) = rw (s, nth-put-same cards c l hc) (omega (arith, times-here c (t .later), t .once c, later-low))
-    push-once d (no s) = rw (nth-put-other cards c d l s, times-there d c (t .later) (λ z. s (sym z))) (t .once d)
-
-    pub push : WorkList (put cards c l) h (c + 2)
-    unfolding Chained
-    push = record {
-      waiting = t .waiting;
-      later = c ∷ t .later;
-      chained = chained-put cards c l (t .waiting) h (omega (arith, t .once c)) (t .chained);
-      chained-later = (refl, rw (nth-put-same cards c l hc) (chained-put cards c l (t .later) l (omega (arith, t .once c)) (t .chained-later)));
-      once = λ d. push-once d (ℕ-discrete d c);
-    }
+  pub push : (c : ℕ) → c < length cards → nth cards c ≡ 0 → WorkList (put cards c l) h (c + 2)
+  unfolding Chained
+  push c hc e = record {
+    waiting = t .waiting;
+    later = c ∷ t .later;
+    chained = chained-put cards c l (t .waiting) h (omega (arith, t .once c)) (t .chained);
+    chained-later = (refl, rw (nth-put-same cards c l hc) (chained-put cards c l (t .later) l (omega (arith, t .once c)) (t .chained-later)));
+    once = λ d. elim (ℕ-discrete d c) [
+      | yes s ↦ rw (s, nth-put-same) (omega (arith, times-here c (t .later), t .once c, later-low))
+      | no s ↦ rw (nth-put-other cards c d l s, times-there d c (t .later) (λ z. s (sym z))) (t .once d)
+    ];
+  }
 
 -- no card is listed
 pub list-empty : {cards : List ℕ} → WorkList cards 1 1 → (c : ℕ) → nth cards c ≡ 0
@@ -77,29 +70,27 @@ pub record HeadTaken (cards : List ℕ) (h l : ℕ) : Type 0 where
   pub on : 1 ≤ nth cards (h - 2)
   pub list : WorkList (put cards (h - 2) 0) (nth cards (h - 2)) l
 
-head-taken-at : (cards : List ℕ) (x : ℕ) (o u : List ℕ) (l : ℕ) → Chained cards o (nth cards x) → Chained cards u l → ((c : ℕ) → times c (x ∷ o) + times c u ≡ min 1 (nth cards c)) → x < length cards → HeadTaken cards (x + 2) l
-head-taken-at cards x o u l ch chu once hx = record { above = omega arith; on = rw e (omega (arith, once x, times-here x o)); list = rw e list }
-  where
-    e : x + 2 - 2 ≡ x
-    e = omega arith
-
-    go : (c : ℕ) → Dec (c ≡ x) → times c o + times c u ≡ min 1 (nth (put cards x 0) c)
-    go c (yes s) = rw (s, nth-put-same cards x 0 hx) (omega (arith, once x, times-here x o))
-    go c (no s) = rw (nth-put-other cards x c 0 s, ← (once c), times-there c x o (λ z. s (sym z)))
-
-    list : WorkList (put cards x 0) (nth cards x) l
-    list = record {
-      waiting = o;
-      later = u;
-      chained = chained-put cards x 0 o (nth cards x) (omega (arith, once x, times-here x o)) ch;
-      chained-later = chained-put cards x 0 u l (omega (arith, once x, times-here x o)) chu;
-      once = λ c. go c (ℕ-discrete c x);
-    }
-
 head-taken-of : (cards o u : List ℕ) (h l : ℕ) → Chained cards o h → Chained cards u l → ((c : ℕ) → times c o + times c u ≡ min 1 (nth cards c)) → (h ≡ 1 → ⊥) → HeadTaken cards h l
 unfolding Chained
 head-taken-of cards [] u h l q r once n = absurd (n q)
-head-taken-of cards (x ∷ o) u h l q r once n = rw (q .0) (head-taken-at cards x o u l (q .1) r once (nth-in cards x (omega (arith, once x, times-here x o))))
+head-taken-of cards (x ∷ o) u h l q r once n =
+    let e : h - 2 ≡ x = omega (arith, q .0) in
+    let a : 1 ≤ nth cards x = omega (arith, once x, times-here x o) in
+    let hx : x < length cards = nth-in cards x a in
+    record {
+      above = omega (arith, q .0);
+      on = rw e a;
+      list = rw e (record {
+        waiting = o;
+        later = u;
+        chained = chained-put cards x 0 o (nth cards x) (omega (arith, once x, times-here x o)) (q .1);
+        chained-later = chained-put cards x 0 u l (omega (arith, once x, times-here x o)) r;
+        once = λ c. elim (ℕ-discrete c x) [
+          | yes s ↦ rw (s, nth-put-same) (omega (arith, once x, times-here x o))
+          | no s ↦ rw (nth-put-other cards x c 0 s, ← (once c), times-there c x o (λ z. s (sym z)))
+        ];
+      });
+    }
 
 module _ {cards : List ℕ} {h l : ℕ} (t : WorkList cards h l) where
   pub head-taken : (h ≡ 1 → ⊥) → HeadTaken cards h l
@@ -109,11 +100,7 @@ module _ {cards : List ℕ} {h l : ℕ} (t : WorkList cards h l) where
   head-in n = nth-in cards (h - 2) (head-taken n .on)
 
   head-high : h ≤ length cards + 1
-  head-high = go (ℕ-discrete h 1)
-    where
-      go : Dec (h ≡ 1) → h ≤ length cards + 1
-      go (yes e) = omega arith
-      go (no n) = omega (arith, head-in n)
+  head-high = elim (ℕ-discrete h 1) [ yes e ↦ omega arith | no n ↦ omega (arith, head-in n) ]
 
 pub later-high : {cards : List ℕ} {h l : ℕ} → WorkList cards h l → l ≤ length cards + 1
 later-high t = head-high (turned-around t)
@@ -125,18 +112,17 @@ cardsDown zero = []
 cardsDown (suc n) = n ∷ cardsDown n
 
 pub cardsDown-out : (n c : ℕ) → n ≤ c → times c (cardsDown n) ≡ 0
-unfolding cardsDown
-cardsDown-out zero c l = times-none c
+unfolding cardsDown times
+cardsDown-out zero c l = refl
 cardsDown-out (suc n) c l = times-there c n (cardsDown n) (omega arith) ∙ cardsDown-out n c (omega arith)
 
 pub cardsDown-in : (n c : ℕ) → c < n → times c (cardsDown n) ≡ 1
 unfolding cardsDown
 cardsDown-in zero c l = absurd (omega arith)
-cardsDown-in (suc n) c l = go (λ h. cardsDown-in n c h) (ℕ-discrete n c)
-  where
-    go : (c < n → times c (cardsDown n) ≡ 1) → Dec (n ≡ c) → times c (n ∷ cardsDown n) ≡ 1
-    go ih (yes e) = rw e (times-here c (cardsDown c) ∙ omega (arith, cardsDown-out c c (omega arith)))
-    go ih (no e) = times-there c n (cardsDown n) e ∙ ih (omega arith)
+cardsDown-in (suc n) c l = elim (ℕ-discrete n c) [
+  | yes e ↦ rw e (times-here c (cardsDown c) ∙ omega (arith, cardsDown-out c c (omega arith)))
+  | no e ↦ times-there c n (cardsDown n) e ∙ cardsDown-in n c (omega arith)
+]
 
 pub cardsDown-chained : (cards : List ℕ) (n : ℕ) → ((c : ℕ) → c < n → nth cards c ≡ c + 1) → Chained cards (cardsDown n) (n + 1)
 unfolding cardsDown Chained

@@ -8,64 +8,40 @@ use lib.ListN.{length, getD}
 use Rattle.model.specs.Image.{Image, imageOf}
 use mathlib.Core.List.{List, []}
 use Rattle.finish_marking_laws.specs.Seeds.{Upto, EnteredAt, HandAt, DirtyAt, Bared}
-use Rattle.image_laws.specs.Digits.{markBit, startBit}
+use Rattle.image_laws.specs.Digits.{markBit}
 use Rattle.image_laws.specs.Sized.{Sized}
 use Rattle.image_laws.proofs.Loops.{Looped, looped-none, looped-more}
 
 -- ---- none, one, and more
 
-pub bared-none : (m : Image) (N : ℕ → Type 0) → ((g : ℕ) → N g → ⊥) → Bared m m N
-bared-none m N n = record { heap = refl; marks = refl; cards = refl; rest = refl; has = λ g q. absurd (n g q); only = λ g. inr refl }
+pub bared-none : {m : Image} {N : ℕ → Type 0} → ((g : ℕ) → N g → ⊥) → Bared m m N
+bared-none n = record { heap = refl; marks = refl; cards = refl; rest = refl; has = λ g q. absurd (n g q); only = λ g. inr refl }
 
-module _ (m m1 m2 : Image) (N N1 N2 : ℕ → Type 0) (a : Bared m m1 N) (b : Bared m1 m2 N1) (split : (g : ℕ) → N2 g → N g ⊎ N1 g) (left : (g : ℕ) → N g → N2 g) (right : (g : ℕ) → N1 g → N2 g) where
+module _ {m m1 m2 : Image} {N N1 N2 : ℕ → Type 0} (a : Bared m m1 N) (b : Bared m1 m2 N1) (split : (g : ℕ) → N2 g → N g ⊎ N1 g) (left : (g : ℕ) → N g → N2 g) (right : (g : ℕ) → N1 g → N2 g) where
   pub bared-both : Bared m m2 N2
   bared-both = record {
     heap = b .heap ∙ a .heap;
     marks = b .marks ∙ a .marks;
     cards = b .cards ∙ a .cards;
     rest = b .rest ∙ a .rest;
-    has = λ g q. has g (split g q) (b .only g);
-    only = λ g. only g (a .only g) (b .only g);
+    has = λ g q. elim (b .only g) [ inl r ↦ b .has g r | inr r ↦ ⊎-elim (λ p. r ∙ a .has g p) (λ p. b .has g p) (split g q) ];
+    only = λ g. elim (b .only g) [ inl r ↦ inl (right g r) | inr r ↦ ⊎-elim (λ p. inl (left g p)) (λ p. inr (r ∙ p)) (a .only g) ];
   }
-    where
-      has : (g : ℕ) → N g ⊎ N1 g → N1 g ⊎ (startBit m2 g ≡ startBit m1 g) → startBit m2 g ≡ 0
-      has g q (inl r) = b .has g r
-      has g (inr q) (inr r) = b .has g q
-      has g (inl q) (inr r) = r ∙ a .has g q
-
-      only : (g : ℕ) → N g ⊎ (startBit m1 g ≡ startBit m g) → N1 g ⊎ (startBit m2 g ≡ startBit m1 g) → N2 g ⊎ (startBit m2 g ≡ startBit m g)
-      only g q (inl r) = inl (right g r)
-      only g (inl q) (inr r) = inl (left g q)
-      only g (inr q) (inr r) = inr (r ∙ q)
 
 -- the places one after the other
-pub upto-none : (m : Image) (P : ℕ → ℕ → Type 0) → Bared m m (Upto P 0)
-upto-none m P = bared-none m (Upto P 0) (λ g q. absurd (omega (arith, q .below)))
-
-pub upto-more : (m m1 m2 : Image) (P : ℕ → ℕ → Type 0) (i : ℕ) → Bared m m1 (Upto P i) → Bared m1 m2 (P i) → Bared m m2 (Upto P (i + 1))
-upto-more m m1 m2 P i a b = bared-both m m1 m2 (Upto P i) (P i) (Upto P (i + 1)) a b
-    (λ g q. split g q (ℕ-discrete (q .place) i))
+upto-more : {m m1 m2 : Image} {P : ℕ → ℕ → Type 0} {i : ℕ} → Bared m m1 (Upto P i) → Bared m1 m2 (P i) → Bared m m2 (Upto P (i + 1))
+upto-more {P = P} {i} a b = bared-both {N2 = Upto P (i + 1)} a b
+    (λ g q. elim (ℕ-discrete (q .place) i) [ yes e ↦ inr (rw e at (q .here)) | no n ↦ inl (record { place = q .place; below = omega (arith, q .below); here = q .here }) ])
     (λ g q. record { place = q .place; below = omega (arith, q .below); here = q .here })
     (λ g q. record { place = i; below = omega arith; here = q })
-  where
-    split : (g : ℕ) (q : Upto P (i + 1) g) → Dec (q .place ≡ i) → Upto P i g ⊎ P i g
-    split g q (yes e) = inr (rw e at (q .here))
-    split g q (no n) = inl (record { place = q .place; below = omega (arith, q .below); here = q .here })
 
 -- the same set said otherwise
-pub bared-as : (m m' : Image) (N N' : ℕ → Type 0) → ((g : ℕ) → N g → N' g) → ((g : ℕ) → N' g → N g) → Bared m m' N → Bared m m' N'
-bared-as m m' N N' f h b = record {
-  heap = b .heap;
-  marks = b .marks;
-  cards = b .cards;
-  rest = b .rest;
-  has = λ g q. b .has g (h g q);
-  only = λ g. ⊎-elim (λ q. inl (f g q)) (λ e. inr e) (b .only g);
-}
+pub bared-as : {m m' : Image} {N N' : ℕ → Type 0} → ((g : ℕ) → N g → N' g) → ((g : ℕ) → N' g → N g) → Bared m m' N → Bared m m' N'
+bared-as f h b = bared-both (bared-none {N = λ g. ⊥} (λ g z. z)) b (λ g q. inr (h g q)) (λ g z. absurd z) f
 
--- the same set, of an equal list or equal marks
-pub bared-along : {A : Type 0} (m m' : Image) (F : A → ℕ → Type 0) {x y : A} → x ≡ y → Bared m m' (F x) → Bared m m' (F y)
-bared-along {A} m m' F e b = subst (λ (l : A). Bared m m' (F l)) e b
+-- the same set, of equal lists and equal marks
+pub bared-along : {m m' : Image} (F : List ℕ → (ℕ → ℕ) → ℕ → Type 0) {x y : List ℕ} {u v : ℕ → ℕ} → x ≡ y → u ≡ v → Bared m m' (F x u) → Bared m m' (F y v)
+bared-along {m} {m'} F {y = y} {u} e d b = subst (λ (l : ℕ → ℕ). Bared m m' (F y l)) d (subst (λ (l : List ℕ). Bared m m' (F l u)) e b)
 
 -- ---- sections that stay
 
@@ -76,13 +52,13 @@ same-section e i = ap (λ (l : List (List ℕ)). getD l i []) e
 -- a set of the image as it is, as a set of the first one
 module _ {m m1 m2 : Image} {N : ℕ → Type 0} (a : Bared m m1 N) where
   pub entry-as : {i : ℕ} → Bared m1 m2 (EnteredAt (m1 .packets) i) → Bared m1 m2 (EnteredAt (m .packets) i)
-  entry-as {i} b = bared-along m1 m2 (λ (l : List ℕ). EnteredAt l i) (same-section (a .rest) 1) b
+  entry-as {i} b = subst (λ (l : List ℕ). Bared m1 m2 (EnteredAt l i)) (same-section (a .rest) 1) b
 
   pub hand-as : {t : ℕ} → Bared m1 m2 (HandAt (m1 .tracers) (markBit m1) t) → Bared m1 m2 (HandAt (m .tracers) (markBit m) t)
-  hand-as {t} b = bared-along m1 m2 (λ (l : ℕ → ℕ). HandAt (m .tracers) l t) (a .marks) (bared-along m1 m2 (λ (l : List ℕ). HandAt l (markBit m1) t) (same-section (a .rest) 2) b)
+  hand-as {t} b = bared-along (λ l marks. HandAt l marks t) (same-section (a .rest) 2) (a .marks) b
 
   pub dirty-as : {c : ℕ} → Bared m1 m2 (DirtyAt (m1 .cards) (markBit m1) c) → Bared m1 m2 (DirtyAt (m .cards) (markBit m) c)
-  dirty-as {c} b = bared-along m1 m2 (λ (l : ℕ → ℕ). DirtyAt (m .cards) l c) (a .marks) (bared-along m1 m2 (λ (l : List ℕ). DirtyAt l (markBit m1) c) (a .cards) b)
+  dirty-as {c} b = bared-along (λ l marks. DirtyAt l marks c) (a .cards) (a .marks) b
 
 -- ---- the loops that open
 
@@ -90,7 +66,7 @@ abbrev pub Opening : (w k n : ℕ) → (ℕ → ℕ → Type 0) → List ℕ →
 Opening w k n P im₀ im i = Looped w k n (λ m i. Bared (imageOf w k im₀) m (Upto P i)) im₀ im i
 
 pub opening-none : {w k n : ℕ} {P : ℕ → ℕ → Type 0} {im : List ℕ} → Sized w k im → Opening w k n P im im 0
-opening-none {w} {k} {n} {P} {im} z = looped-none z (upto-none (imageOf w k im) P)
+opening-none z = looped-none z (bared-none (λ g q. absurd (omega (arith, q .below))))
 
 pub opening-more : {w k n : ℕ} {P : ℕ → ℕ → Type 0} {im₀ im im' : List ℕ} {i : ℕ} → Opening w k n P im₀ im i → i < n → length im' ≡ length im → Bared (imageOf w k im) (imageOf w k im') (P i) → Opening w k n P im₀ im' (i + 1)
-opening-more {w} {k} {n} {P} {im₀} {im} {im'} {i} t l e b = looped-more t l e (upto-more (imageOf w k im₀) (imageOf w k im) (imageOf w k im') P i (t .state) b)
+opening-more t l e b = looped-more t l e (upto-more (t .state) b)

@@ -7,15 +7,15 @@ use native.Mathlib.Omega.{arith}
 use native.Mathlib.Decide.{ℕ-discrete}
 use lib.ListN.{length}
 use lib.Bits.{bitAnd}
-use Rattle.model.specs.Base.{nth, put, bit}
+use Rattle.model.specs.Base.{nth, put}
 use Rattle.model.specs.Image.{Image, isStart, marked, withStarts, state, dirty, imageOf}
 use Rattle.model.proofs.Laws.{nth-put-same, nth-put-other, false≢}
 use mathlib.Core.List.{List}
 use mathlib.Core.Bool.{Bool, true, false}
 use Rattle.finish_marking_laws.specs.Seeds.{Upto, Refers, EnteredAt, WordAt, CardAt, HandAt, DirtyAt, Bared, object, card}
 use Rattle.finish_marking_laws.specs.Marking.{Shape}
-use Rattle.finish_marking_laws.proofs.seeds.Bared.{bared-none, bared-both, bared-as, bared-along}
-use Rattle.image_laws.specs.Bits.{clearBit, clearStart}
+use Rattle.finish_marking_laws.proofs.seeds.Bared.{bared-none, bared-both, bared-as}
+use Rattle.image_laws.specs.Bits.{clearStart}
 use Rattle.image_laws.specs.Digits.{digit, bitOf, markBit, startBit}
 use Rattle.image_laws.specs.Sized.{Sized}
 use Rattle.image_laws.proofs.Digits.{digit-two, digit-le, digit-off, bit-and, bit-not, mark-digit, start-digit}
@@ -26,7 +26,7 @@ use Rattle.image_laws.proofs.Places.{some-bits, word-on-card, card-in-word}
 -- ---- one object
 
 pub one-nil : (m : Image) (a : ℕ) → a ≡ 0 → Bared m m (Refers a)
-one-nil m a e = bared-none m (Refers a) (λ g q. q .some e)
+one-nil m a e = bared-none (λ g q. q .some e)
 
 pub one-some : (k : ℕ) (m m' : Image) (a : ℕ) → Shape k m → a < 64 * k → (a ≡ 0 → ⊥) → m' ≡ clearStart m a → Bared m m' (Refers a)
 unfolding clearStart withStarts marked isStart
@@ -38,52 +38,38 @@ one-some k m m' a s h n e =
       cards = refl;
       rest = refl;
       has = λ g q. rw (q .eq) (digit-off (clear-same (m .width) (m .starts) a (s .starts a h)));
-      only = λ g. go g (ℕ-discrete g a);
+      only = λ g. elim (ℕ-discrete g a) [ yes q ↦ inl (record { eq = q; some = n }) | no q ↦ inr (ap digit (clear-other (m .width) (m .starts) a g q)) ];
     })
-  where
-    go : (g : ℕ) → Dec (g ≡ a) → Refers a g ⊎ (digit (bit (m .width) (clearBit (m .width) (m .starts) a) g) ≡ digit (bit (m .width) (m .starts) g))
-    go g (yes q) = inl (record { eq = q; some = n })
-    go g (no q) = inr (ap digit (clear-other (m .width) (m .starts) a g q))
 
 -- ---- one word of w bits, with marks x, whose complement is y, and starts s
 
 module _ (w : ℕ) (m : Image) (e : m .width ≡ w) (o : 0 < w) (i x s y : ℕ) (ex : x ≡ nth (m .marks) i) (es : s ≡ nth (m .starts) i) (h : i < length (m .starts)) (f : x + y + 1 ≡ 2 ^ w) where
-  after-word : Image
+  abbrev after-word : Image
   after-word = withStarts m (put (m .starts) i (bitAnd s y))
 
-  width-after : after-word .width ≡ w
-  unfolding after-word withStarts
-  width-after = e
-
   after : (g : ℕ) → g / w ≡ i → startBit after-word g ≡ min (startBit m g) (1 - markBit m g)
-  after g q = start-digit w after-word width-after g ∙ rw (word, bit-and s y (g % w), mark-digit w m e g, start-digit w m e g, q, ← ex, ← es) (ap (min (bitOf s (g % w))) (omega (arith, bit-not w x y (g % w) f (mod-lt g o))))
-    where
-      word : nth (after-word .starts) (g / w) ≡ bitAnd s y
-      word = unfold after-word withStarts in rw (q, nth-put-same (m .starts) i (bitAnd s y) h)
-
-  elsewhere : (g : ℕ) → (g / w ≡ i → ⊥) → startBit after-word g ≡ startBit m g
-  elsewhere g n = start-digit w after-word width-after g ∙ word ∙ sym (start-digit w m e g)
-    where
-      word : bitOf (nth (after-word .starts) (g / w)) (g % w) ≡ bitOf (nth (m .starts) (g / w)) (g % w)
-      word = unfold after-word withStarts in rw (nth-put-other (m .starts) i (g / w) (bitAnd s y) n)
-
-  word-only : (g : ℕ) → Dec (g / w ≡ i) → WordAt w (markBit m) i g ⊎ (startBit after-word g ≡ startBit m g)
-  word-only g (no n) = inr (elsewhere g n)
-  word-only g (yes q) = ⊎-elim (λ z. inr (omega (arith, after g q, digit-le (isStart m g)))) (λ u. inl (record { on = q; is-marked = u })) (digit-two (marked m g))
+  unfolding withStarts
+  after g q =
+      start-digit w after-word e g
+      ∙ rw (mark-digit w m e g, start-digit w m e g, q, nth-put-same, bit-and s y (g % w), ← ex, ← es)
+      (ap (min (bitOf s (g % w))) (omega (arith, bit-not w x y (g % w) f (mod-lt g o))))
 
   word-bared : Bared m after-word (WordAt w (markBit m) i)
+  unfolding withStarts marked
   word-bared = record {
-    heap = unfold after-word withStarts in refl;
-    marks = unfold after-word withStarts marked in refl;
-    cards = unfold after-word withStarts in refl;
-    rest = unfold after-word withStarts in refl;
+    heap = refl;
+    marks = refl;
+    cards = refl;
+    rest = refl;
     has = λ g p. omega (arith, after g (p .on), p .is-marked);
-    only = λ g. word-only g (ℕ-discrete (g / w) i);
+    only = λ g. elim (ℕ-discrete (g / w) i) [
+      | yes q ↦ ⊎-elim (λ z. inr (omega (arith, after g q, digit-le (isStart m g)))) (λ u. inl (record { on = q; is-marked = u })) (digit-two (marked m g))
+      | no n ↦ inr (start-digit w after-word e g ∙ rw nth-put-other (sym (start-digit w m e g)))
+    ];
   }
 
 pub open-word : (w k : ℕ) (ws : List ℕ) → Sized w k ws → (i x s y : ℕ) → i < 64 * k / w → x ≡ nth (imageOf w k ws .marks) i → s ≡ nth (imageOf w k ws .starts) i → x + y + 1 ≡ 2 ^ w → (m : Image)
     → m ≡ withStarts (imageOf w k ws) (put (imageOf w k ws .starts) i (bitAnd s y)) → Bared (imageOf w k ws) m (WordAt w (markBit (imageOf w k ws)) i)
-unfolding after-word
 open-word w k ws z i x s y h ex es f m e =
     rw e (word-bared w (imageOf w k ws) (width-image w k ws) (some-bits w k (sized-width z)) i x s y ex es (omega (arith, starts-words z)) f)
 
@@ -93,10 +79,10 @@ abbrev pub CardWord : ℕ → (ℕ → ℕ) → ℕ → ℕ → ℕ → Type 0
 CardWord w mark c i g = WordAt w mark (64 / w * c + i) g
 
 pub card-word : (w c i : ℕ) {m m1 m2 : Image} {N : ℕ → Type 0} → Bared m m1 N → Bared m1 m2 (WordAt w (markBit m1) (64 / w * c + i)) → Bared m1 m2 (CardWord w (markBit m) c i)
-card-word w c i {m} {m1} {m2} a b = bared-along m1 m2 (λ (l : ℕ → ℕ). WordAt w l (64 / w * c + i)) (a .marks) b
+card-word w c i {m} {m1} {m2} a b = rw (a .marks) at b
 
 pub card-whole : (w : ℕ) (m m' : Image) (c : ℕ) → (w ≡ 16) ⊎ (w ≡ 32) → Bared m m' (Upto (CardWord w (markBit m) c) (64 / w)) → Bared m m' (CardAt (markBit m) c)
-card-whole w m m' c o b = bared-as m m' (Upto (CardWord w (markBit m) c) (64 / w)) (CardAt (markBit m) c)
+card-whole w m m' c o b = bared-as
     (λ g q. record { on = word-on-card w c (q .place) o g (q .below) (q .here .on); is-marked = q .here .is-marked })
     (λ g q. let r = card-in-word w c (g / w - 64 / w * c) o g refl (q .on) in record { place = g / w - 64 / w * c; below = r .0; here = record { on = r .1; is-marked = q .is-marked } })
     b
@@ -104,27 +90,22 @@ card-whole w m m' c o b = bared-as m m' (Upto (CardWord w (markBit m) c) (64 / w
 -- ---- an entry
 
 pub entry-none : (m : Image) (i : ℕ) → i % 32 < 2 → Bared m m (EnteredAt (m .packets) i)
-entry-none m i l = bared-none m (EnteredAt (m .packets) i) (λ g q. absurd (omega (arith, q .place)))
+entry-none m i l = bared-none (λ g q. absurd (omega (arith, q .place)))
 
 pub entry-one : (m m' : Image) (i a : ℕ) → 2 ≤ i % 32 → a ≡ nth (m .packets) i → Bared m m' (Refers a) → Bared m m' (EnteredAt (m .packets) i)
-entry-one m m' i a l e b = bared-as m m' (Refers a) (EnteredAt (m .packets) i) (λ g q. record { place = l; is = rw e at q }) (λ g q. rw e (q .is)) b
+entry-one m m' i a l e b = bared-as (λ g q. record { place = l; is = rw e at q }) (λ g q. rw e (q .is)) b
 
 -- ---- a tracer
 
 module _ (m m1 : Image) (t a c : ℕ) (ea : a ≡ nth (m .tracers) (8 * t + 2)) (ec : c ≡ nth (m .tracers) (8 * t + 4)) (b : Bared m m1 (Refers a)) where
   pub hand-object : c ≡ 0 → Bared m m1 (HandAt (m .tracers) (markBit m) t)
-  hand-object z = bared-as m m1 (Refers a) (HandAt (m .tracers) (markBit m) t) (λ g q. object (rw ea at q)) back b
-    where
-      back : (g : ℕ) → HandAt (m .tracers) (markBit m) t g → Refers a g
-      back g (object q) = rw ea q
-      back g (card e o) = absurd (omega arith)
+  hand-object z = bared-as (λ g q. object (rw ea at q)) (λ g. elim [ object q ↦ rw ea q | card e o ↦ absurd (omega arith) ]) b
 
   pub hand-both : (c ≡ 0 → ⊥) → (m2 : Image) → Bared m1 m2 (CardAt (markBit m1) (c - 1)) → Bared m m2 (HandAt (m .tracers) (markBit m) t)
-  hand-both n m2 d = bared-both m m1 m2 (Refers a) (CardAt (markBit m) (c - 1)) (HandAt (m .tracers) (markBit m) t) b (bared-along m1 m2 (λ (l : ℕ → ℕ). CardAt l (c - 1)) (b .marks) d) split (λ g q. object (rw ea at q)) (λ g q. card (omega (arith, q .on)) (q .is-marked))
-    where
-      split : (g : ℕ) → HandAt (m .tracers) (markBit m) t g → Refers a g ⊎ CardAt (markBit m) (c - 1) g
-      split g (object q) = inl (rw ea q)
-      split g (card e o) = inr (record { on = omega arith; is-marked = o })
+  hand-both n m2 d =
+      bared-both b (rw (b .marks) at d)
+      (λ g. elim [ object q ↦ inl (rw ea q) | card e o ↦ inr (record { on = omega arith; is-marked = o }) ])
+      (λ g q. object (rw ea at q)) (λ g q. card (omega (arith, q .on)) (q .is-marked))
 
 -- ---- a dirty card
 
@@ -132,11 +113,11 @@ module _ (m : Image) (c : ℕ) (r : Bool) (er : r ≡ dirty m c) where
   pub dirty-some : r ≡ true → (m' : Image) → Bared m m' (CardAt (markBit m) c) → Bared m m' (DirtyAt (m .cards) (markBit m) c)
   unfolding dirty state
   dirty-some q m' b =
-      bared-as m m' (CardAt (markBit m) c) (DirtyAt (m .cards) (markBit m) c)
+      bared-as
       (λ g p. record { on = p .on; is-dirty = sym er ∙ q; is-marked = p .is-marked })
       (λ g p. record { on = p .on; is-marked = p .is-marked })
       b
 
   pub dirty-none : r ≡ false → Bared m m (DirtyAt (m .cards) (markBit m) c)
   unfolding dirty state
-  dirty-none q = bared-none m (DirtyAt (m .cards) (markBit m) c) (λ g p. false≢ (sym q ∙ er ∙ p .is-dirty))
+  dirty-none q = bared-none (λ g p. false≢ (sym q ∙ er ∙ p .is-dirty))

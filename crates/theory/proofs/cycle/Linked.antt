@@ -1,6 +1,6 @@
 -- Successive events: each is a step of an image in order; the parts b, c and d of the claim hold of them.
 use mathlib.Core.Path.{_≡_, refl, sym, ap, subst, _∙_}
-use mathlib.Core.Logic.{_⊎_, inl, inr}
+use mathlib.Core.Logic.{⊎-elim}
 use mathlib.Core.Bool.{true, false, cond}
 use mathlib.Core.List.{List, [], _∷_, _++_, List·Memᴰ, List·Memᴰ·head, List·Memᴰ·tail}
 use Prim.Native.Nat.{ℕ}
@@ -77,38 +77,30 @@ module _ (Ok : Image → Type 0) (st : Steady Ok) where
         → Accepted begin b → ((e : Event) → List·Memᴰ e mid → Accepted finish e → ⊥) → Accepted finish f
         → (g : ℕ) → isStart (b .got) g ≡ true → (Chain (b .got) g → ⊥)
         → (isStart (f .got) g ≡ true) × (isStart (f .done .image) g ≡ false)
-    unreached-freed b f before mid behind q ab nf af g sg un = at-begin (linked-parted m before (b ∷ (mid ++ (f ∷ behind))) n (subst (λ l. Successive m l n) q p))
+    unreached-freed b f before mid behind q ab nf af g sg un =
+        let r = linked-parted m before (b ∷ (mid ++ (f ∷ behind))) n (subst (λ l. Successive m l n) q p) in
+        from-begin (r .second-part) (linked-ok (r .first-part) o)
       where
         Freed : Type 0
         Freed = (isStart (f .got) g ≡ true) × (isStart (f .done .image) g ≡ false)
 
         -- what is live at the finish and an object of the begin's image is reached there
-        dead : Live (Since (b .got)) (f .got) → Fine Ok f → Freed
-        dead v k = (there (bool-cases (isStart (f .got) g)), gone (bool-cases (isStart (f .done .image) g)))
-          where
-            reached : Since (b .got) g → ⊥
-            reached s = un (unfold Since in s sg)
-
-            there : (isStart (f .got) g ≡ true) ⊎ (isStart (f .got) g ≡ false) → isStart (f .got) g ≡ true
-            there (inl t) = t
-            there (inr t) = absurd (reached (v .live-free g t))
-
-            gone : (isStart (f .done .image) g ≡ true) ⊎ (isStart (f .done .image) g ≡ false) → isStart (f .done .image) g ≡ false
-            gone (inr t) = t
-            gone (inl t) = absurd (reached (kept-live (Since (b .got)) (f .got) ((st .facts (f .got) (k .got-ok)) .proper) v g (((finish-event f k af) .only-kept g t) .1)))
+        reached : Since (b .got) g → ⊥
+        reached s = un (unfold Since in s sg)
 
         at-finish : {x y : Image} → Successive x (f ∷ behind) y → Ok x → Live (Since (b .got)) x → Freed
-        at-finish (l-cons _ h d r) ox v = dead (subst (Live (Since (b .got))) (sym h) v) (record { got-ok = subst Ok (sym h) ox; is-step = d })
-
-        behind-begin : {x y : Image} → Parted x mid (f ∷ behind) y → Ok x → Live (Since (b .got)) x → Freed
-        behind-begin r ox v = at-finish (r .second-part) (linked-ok (r .first-part) ox) (linked-live (r .first-part) ox nf (Since (b .got)) v)
+        at-finish (l-cons _ h d r) ox w =
+            let v : Live (Since (b .got)) (f .got) = subst (Live (Since (b .got))) (sym h) w in
+            let k : Fine Ok f = record { got-ok = subst Ok (sym h) ox; is-step = d } in
+            let live = kept-live (Since (b .got)) (f .got) (st .facts (f .got) (k .got-ok) .proper) v g in (
+              ⊎-elim (λ t. t) (λ t. absurd (reached (v .live-free g t))) (bool-cases (isStart (f .got) g)),
+              ⊎-elim (λ t. absurd (reached (live (finish-event f k af .only-kept g t .1)))) (λ t. t) (bool-cases (isStart (f .done .image) g)),
+            )
 
         from-begin : {x y : Image} → Successive x (b ∷ (mid ++ (f ∷ behind))) y → Ok x → Freed
         from-begin {y = y} (l-cons _ h d r) ox =
             let k : Fine Ok b = record { got-ok = subst Ok (sym h) ox; is-step = d } in
             let z : (step (b .got) (b .request)) .number ≡ 0 = sym (ap (λ r. r .number) d) ∙ ab .no-number in
-            behind-begin (linked-parted (b .done .image) mid (f ∷ behind) y r) (done-ok b k)
-            (subst (λ r. Live (Since (b .got)) (r .image)) (sym d) (begin-live (b .got) (b .request) (st .facts (b .got) (k .got-ok)) (ab .is-kind) z))
-
-        at-begin : Parted m before (b ∷ (mid ++ (f ∷ behind))) n → Freed
-        at-begin r = from-begin (r .second-part) (linked-ok (r .first-part) o)
+            let v = subst (λ r. Live (Since (b .got)) (r .image)) (sym d) (begin-live (b .got) (b .request) (st .facts (b .got) (k .got-ok)) (ab .is-kind) z) in
+            let t = linked-parted (b .done .image) mid (f ∷ behind) y r in
+            at-finish (t .second-part) (linked-ok (t .first-part) (done-ok b k)) (linked-live (t .first-part) (done-ok b k) nf (Since (b .got)) v)

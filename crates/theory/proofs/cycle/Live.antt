@@ -1,6 +1,6 @@
 -- What is live from a begin on: it holds at the begin, is carried by every step but an accepted finish, and holds all that a finish keeps.
 use mathlib.Core.Path.{_≡_, refl, sym, subst, _∙_}
-use mathlib.Core.Logic.{_⊎_, inl, inr}
+use mathlib.Core.Logic.{⊎-elim}
 use mathlib.Core.Bool.{true, false}
 use Prim.Native.Nat.{ℕ, _<_}
 use Rattle.model.specs.Image.{Image, isStart, marked, links, link, reg}
@@ -8,7 +8,7 @@ use Rattle.model.specs.Finish.{Found, found-reg, found-link, found-due, Kept, k
 use Rattle.model.specs.Claim.{chain-reg, chain-link}
 use Rattle.model.proofs.Laws.{false≢, bool-cases}
 use Rattle.theory.specs.Heap.{Proper}
-use Rattle.theory.specs.Cycle.{Source, in-reg, in-link, is-marked, no-start, LinkFrom, had-link, to-source, Carries, Live, Since}
+use Rattle.theory.specs.Cycle.{Source, in-reg, in-link, is-marked, no-start, had-link, to-source, Carries, Live, Since}
 
 pub live-source : (S : ℕ → Type 0) (m : Image) → Live S m → {a : ℕ} → Source m a → S a
 live-source S m v (in-reg p r hp hr e nz) = subst S e (v .live-regs p r hp hr (λ z. nz (sym e ∙ z)))
@@ -19,18 +19,13 @@ live-source S m v (no-start f) = v .live-free _ f
 pub live-carried : (S : ℕ → Type 0) (m n : Image) → Carries m n → Live S m → Live S n
 live-carried S m n c v = record {
   live-regs = λ p r hp hr nz. live-source S m v (c .regs-from p r hp hr nz);
-  live-links = λ g i st s l nz. along g s (c .links-from g i st l nz) nz;
+  live-links = λ g i st s l nz. elim (c .links-from g i st l nz) [
+    | had-link j sj lj e ↦ subst S e (v .live-links g j sj s lj (λ z. nz (sym e ∙ z)))
+    | to-source q ↦ live-source S m v q
+  ];
   live-marks = λ g k. live-source S m v (c .marks-from g k);
-  live-free = λ g f. v .live-free g (was g f (bool-cases (isStart m g)));
+  live-free = λ g f. v .live-free g (⊎-elim (λ t. false≢ (sym f ∙ c .starts-stay g t)) (λ q. q) (bool-cases (isStart m g)));
 }
-  where
-    along : (g : ℕ) {a : ℕ} → S g → LinkFrom m g a → (a ≡ 0 → ⊥) → S a
-    along g s (had-link i st l e) nz = subst S e (v .live-links g i st s l (λ z. nz (sym e ∙ z)))
-    along g s (to-source q) nz = live-source S m v q
-
-    was : (g : ℕ) → isStart n g ≡ false → (isStart m g ≡ true) ⊎ (isStart m g ≡ false) → isStart m g ≡ false
-    was g f (inl t) = false≢ (sym f ∙ c .starts-stay g t)
-    was g f (inr q) = q
 
 -- at the begin, where nothing is marked
 pub live-begin : (m₀ : Image) → ((g : ℕ) → marked m₀ g ≡ false) → Live (Since m₀) m₀
@@ -44,7 +39,8 @@ live-begin m₀ un = record {
 
 -- what a finish keeps is live
 pub kept-live : (S : ℕ → Type 0) (m : Image) → Proper m → Live S m → (a : ℕ) → Kept m a → S a
-kept-live S m o v a k = keptS k
+kept-live S m o v a (kept-marked q) = v .live-marks a q
+kept-live S m o v a (kept-found q) = found q .1
   where
     P : ℕ → Type 0
     P b = (isStart m b ≡ true) × S b
@@ -56,7 +52,3 @@ kept-live S m o v a k = keptS k
     found (found-reg p r hp hr e nz) = let ne : reg m p r ≡ 0 → ⊥ = λ z. nz (sym e ∙ z) in subst P e (o .reg-start p r hp hr ne, v .live-regs p r hp hr ne)
     found (found-link g i q u l e nz) = via g i (found q) l e nz
     found (found-due g i hg k d l e nz) = via g i (o .mark-start g k, v .live-marks g k) l e nz
-
-    keptS : Kept m a → S a
-    keptS (kept-marked q) = v .live-marks a q
-    keptS (kept-found q) = (found q) .1

@@ -48,16 +48,14 @@ module _ (m : Image) (s : Step) (f : Facts m) where
   unfolding object
   held-start r hp hr nz = f .proper .reg-start (s .who) r (not-above 15 (s .who) hp) (not-above 15 r hr) nz
 
-  load-carries : refusal m s load ≡ 0 → Carries m ((act m s load) .image)
-  unfolding act accept offDesk noObject pastEnd
-  load-carries e =
+  act-carries : NewLeaves m s → (n : Kind) → refusal m s n ≡ 0 → (n ≡ finish → ⊥) → Carries m ((act m s n) .image)
+  unfolding act accept offDesk noObject pastEnd levels setOwed withPlayers dirtyCard setState withCards
+  act-carries np new e nf = new-carries m _ (f .laid) (np e) (good-size s (line m s new e 5) .2)
+  act-carries np load e nf =
       let d = some-false _ (line m s load e 1) in
       let nz : object m s (s .b) ≡ 0 → ⊥ = eqb-false _ _ (line m s load e 3) in
       setReg-carries m (s .who) (s .a) _ (λ z. in-link (object m s (s .b)) (s .c) (held (s .b) (d 0) (d 2) nz) (held-start (s .b) (d 0) (d 2) nz) (leb-false _ _ (line m s load e 4)) refl z)
-
-  store-carries : refusal m s store ≡ 0 → Carries m ((act m s store) .image)
-  unfolding act accept offDesk noObject pastEnd setOwed withPlayers
-  store-carries e =
+  act-carries np store e nf =
       let d = some-false _ (line m s store e 1) in
       let g : ℕ = object m s (s .a) in
       let nz : g ≡ 0 → ⊥ = eqb-false _ _ (line m s store e 3) in
@@ -65,10 +63,11 @@ module _ (m : Image) (s : Step) (f : Facts m) where
       let l : s .b < links m g = leb-false _ _ (line m s store e 4) in
       carries-silent m (setWord m g (2 + s .b) (object m s (s .c))) _ _ _ _ _
       (setWord-carries m (f .laid) g (s .b) (object m s (s .c)) st (omega (arith, l, (f .laid .inside g st) .0)) (λ k. held (s .c) (d 0) (d 3)))
-
-  write-carries : refusal m s write ≡ 0 → Carries m ((act m s write) .image)
-  unfolding act accept offDesk noObject pastEnd levels
-  write-carries e =
+  act-carries np barrier e nf = carries-silent m m _ _ _ _ _ (carries-refl m)
+  act-carries np handOver e nf = let d = some-false _ (line m s handOver e 1) in setReg-carries m (s .b) (s .c) _ (held (s .a) (d 0) (d 1))
+  act-carries np dropReg e nf = setReg-carries m (s .who) (s .a) 0 (λ z. absurd (z refl))
+  act-carries np read e nf = carries-refl m
+  act-carries np write e nf =
       let d = some-false _ (line m s write e 1) in
       let g : ℕ = object m s (s .a) in
       let nz : g ≡ 0 → ⊥ = eqb-false _ _ (line m s write e 3) in
@@ -76,54 +75,16 @@ module _ (m : Image) (s : Step) (f : Facts m) where
       let a : 2 + links m g + s .b ≡ 2 + (links m g + s .b) = omega arith in
       subst (λ i. Carries m (setWord m g i (s .c))) (sym a)
       (setWord-carries m (f .laid) g (links m g + s .b) (s .c) (held-start (s .a) (d 0) (d 1) nz) (omega arith) (λ k. absurd (omega arith)))
-
-  hand-carries : refusal m s handOver ≡ 0 → Carries m ((act m s handOver) .image)
-  unfolding act accept offDesk
-  hand-carries e = let d = some-false _ (line m s handOver e 1) in setReg-carries m (s .b) (s .c) _ (held (s .a) (d 0) (d 1))
-
-  drop-carries : Carries m ((act m s dropReg) .image)
-  unfolding act accept
-  drop-carries = setReg-carries m (s .who) (s .a) 0 (λ z. absurd (z refl))
-
-  barrier-carries : Carries m ((act m s barrier) .image)
-  unfolding act accept setOwed withPlayers dirtyCard setState withCards
-  barrier-carries = carries-silent m m _ _ _ _ _ (carries-refl m)
-
-  scan-carries : refusal m s scan ≡ 0 → Carries m ((act m s scan) .image)
-  unfolding act accept offDesk
-  scan-carries e = let d = some-false _ (line m s scan e 1) in quiet-carries m _ (quiet-scan m (s .who) (s .a) (scan-source m (s .a) (not-above 15 (s .a) (d 1))))
-
-  trace-carries : refusal m s trace ≡ 0 → Carries m ((act m s trace) .image)
-  unfolding act accept offDesk
-  trace-carries e = quiet-carries m _ (quiet-trace m (s .who) (next-source m f (s .who) (not-above 7 (s .who) (some-false _ (line m s trace e 1) 0))))
-
-  clean-carries : refusal m s clean ≡ 0 → Carries m ((act m s clean) .image)
-  unfolding act accept offDesk
-  clean-carries e = quiet-carries m _ (quiet-clean m (s .who) (next-source m f (s .who) (not-above 7 (s .who) (some-false _ (line m s clean e 1) 0))))
-
-  act-carries : NewLeaves m s → (n : Kind) → refusal m s n ≡ 0 → (n ≡ finish → ⊥) → Carries m ((act m s n) .image)
-  unfolding act accept
-  act-carries np new e nf = new-carries m _ (f .laid) (np e) (good-size s (line m s new e 5) .2)
-  act-carries np load e nf = load-carries e
-  act-carries np store e nf = store-carries e
-  act-carries np barrier e nf = barrier-carries
-  act-carries np handOver e nf = hand-carries e
-  act-carries np dropReg e nf = drop-carries
-  act-carries np read e nf = carries-refl m
-  act-carries np write e nf = write-carries e
   act-carries np begin e nf = quiet-carries m _ (quiet-begin m)
-  act-carries np scan e nf = scan-carries e
-  act-carries np trace e nf = trace-carries e
-  act-carries np clean e nf = clean-carries e
+  act-carries np scan e nf = quiet-carries m _ (quiet-scan m (s .who) (s .a) (scan-source m (s .a) (not-above 15 (s .a) (some-false _ (line m s scan e 1) 1))))
+  act-carries np trace e nf = quiet-carries m _ (quiet-trace m (s .who) (next-source m f (s .who) (not-above 7 (s .who) (some-false _ (line m s trace e 1) 0))))
+  act-carries np clean e nf = quiet-carries m _ (quiet-clean m (s .who) (next-source m f (s .who) (not-above 7 (s .who) (some-false _ (line m s clean e 1) 0))))
   act-carries np finish e nf = absurd (nf refl)
   act-carries np isDue e nf = carries-refl m
   act-carries np unknown e nf = carries-refl m
 
   -- ---- every step but an accepted finish
 
-  pub step-carries : NewLeaves m s → NoFinish m s → Carries m ((step m s) .image)
-  step-carries np nf = step-cases m s (Carries m) (carries-refl m) (λ n k e. act-carries np n e (λ q. nf (k ∙ q) (step-number m s k ∙ e)))
-
   -- what is live stays so
   pub step-live : NewLeaves m s → NoFinish m s → (S : ℕ → Type 0) → Live S m → Live S ((step m s) .image)
-  step-live np nf S = live-carried S m _ (step-carries np nf)
+  step-live np nf S = live-carried S m _ (step-cases m s (Carries m) (carries-refl m) (λ n k e. act-carries np n e (λ q. nf (k ∙ q) (step-number m s k ∙ e))))

@@ -1,6 +1,6 @@
 -- The collector's steps but finish leave heap, start bits, registers and owed cards as they are, and mark only what they reach.
 use mathlib.Core.Path.{_≡_, refl, sym, subst, _∙_}
-use mathlib.Core.Logic.{_⊎_, inl, inr}
+use mathlib.Core.Logic.{inl, inr, ⊎-elim}
 use mathlib.Core.Bool.{Bool, true, false, cond}
 use mathlib.Core.List.{List, [], _∷_, List·Memᴰ, List·Memᴰ·head, List·Memᴰ·tail}
 use Prim.Native.Nat.{ℕ, zero, suc, _+_, _*_, _-_, _/_}
@@ -9,7 +9,7 @@ use native.Mathlib.Omega.{arith}
 use lib.Dec.{eqb, ltb}
 use lib.ListN.{getD, take, drop}
 use borrow.Author.Tests.{eqb-false, not-true}
-use Rattle.model.specs.Base.{some, bit, setBit}
+use Rattle.model.specs.Base.{some}
 use Rattle.model.specs.Image.{Image, word, isStart, marked, links, link, reg, owed, hand, nextLink, handCard, nextGranule, input, entry, count, dirty, setMark, setState, setTracer, setScanned, withMarks, withCards, withPackets, withTracers, withPlayers, withGeneral, fields-open}
 use Rattle.model.specs.Collect.{append, pop, takeOutput, enter, reach, reachAll, scanPlayer, beginCycle, putHand, takeObject, traceHand, traceInput, tracePool, traceOutput, traceLine, traceStep, putCard, nextMarked, cleanTo, cleanCard, lowestDirty, takeCard, cleanLine, cleanStep}
 use Rattle.model.proofs.Laws.{some-false, nth-put-other, first-passes}
@@ -30,17 +30,13 @@ module _ {P : ℕ → Type 0} where
   quiet-refl m = record { same-word = λ g i. refl; same-start = λ g. refl; same-reg = λ p r. refl; same-owed = λ p. refl; new-marks = λ g k. inl k }
 
   pub quiet-trans : {l m n : Image} → Quiet P l m → Quiet P m n → Quiet P l n
-  quiet-trans {l} {m} x y = record {
+  quiet-trans x y = record {
     same-word = λ g i. y .same-word g i ∙ x .same-word g i;
     same-start = λ g. y .same-start g ∙ x .same-start g;
     same-reg = λ p r. y .same-reg p r ∙ x .same-reg p r;
     same-owed = λ p. y .same-owed p ∙ x .same-owed p;
-    new-marks = λ g k. two g (y .new-marks g k);
+    new-marks = λ g k. ⊎-elim (λ j. x .new-marks g j) (λ p. inr p) (y .new-marks g k);
   }
-    where
-      two : (g : ℕ) → (marked m g ≡ true) ⊎ P g → (marked l g ≡ true) ⊎ P g
-      two g (inl k) = x .new-marks g k
-      two g (inr p) = inr p
 
   quiet-cond : {m x y : Image} (b : Bool) → Quiet P m x → Quiet P m y → Quiet P m (cond b x y)
   quiet-cond true p q = p
@@ -54,27 +50,25 @@ module _ {P : ℕ → Type 0} where
 
   quiet-mark : (m : Image) (g : ℕ) → P g → Quiet P m (setMark m g)
   unfolding word isStart reg owed marked setMark withMarks
-  quiet-mark m g ok = record { same-word = λ h i. refl; same-start = λ h. refl; same-reg = λ p r. refl; same-owed = λ p. refl; new-marks = λ h k. by h k (ℕ-discrete h g) }
-    where
-      by : (h : ℕ) → bit (m .width) (setBit (m .width) (m .marks) g) h ≡ true → Dec (h ≡ g) → (bit (m .width) (m .marks) h ≡ true) ⊎ P h
-      by h k (yes e) = inr (subst P (sym e) ok)
-      by h k (no ne) = inl (sym (setBit-other (m .width) (m .marks) g h ne) ∙ k)
+  quiet-mark m g ok = record {
+    same-word = λ h i. refl;
+    same-start = λ h. refl;
+    same-reg = λ p r. refl;
+    same-owed = λ p. refl;
+    new-marks = λ h k. elim (ℕ-discrete h g) [ yes e ↦ inr (subst P (sym e) ok) | no ne ↦ inl (sym (setBit-other (m .width) (m .marks) g h ne) ∙ k) ];
+  }
 
   quiet-enter : (m : Image) (t g : ℕ) → Quiet P m (enter m t g)
   quiet-enter m t g = enter-cases (Quiet P m) m t g (unfold fields-open in quiet-silent m _ _ _ _) (λ p e. unfold append withPackets in quiet-silent m _ _ _ _)
 
-  quiet-output : (m : Image) (t : ℕ) → Quiet P m (takeOutput m t)
-  unfolding takeOutput setTracer withTracers
-  quiet-output m t = quiet-silent m _ _ _ _
-
   -- what is reached, if it is an object at all, passes
   pub quiet-reach : (m : Image) (t g : ℕ) → ((g ≡ 0 → ⊥) → P g) → Quiet P m (reach m t g)
-  unfolding reach
+  unfolding reach takeOutput setTracer withTracers
   quiet-reach m t g ok = go (some (eqb g 0 ∷ marked m g ∷ [])) refl
     where
       go : (b : Bool) → some (eqb g 0 ∷ marked m g ∷ []) ≡ b → Quiet P m (elim b [ true ↦ m | false ↦ enter (takeOutput (setMark m g) t) t g ])
       go true e = quiet-refl m
-      go false e = quiet-trans (quiet-mark m g (ok (eqb-false g 0 (some-false _ e 0)))) (quiet-trans (quiet-output (setMark m g) t) (quiet-enter (takeOutput (setMark m g) t) t g))
+      go false e = quiet-trans (quiet-mark m g (ok (eqb-false g 0 (some-false _ e 0)))) (quiet-trans (quiet-silent (setMark m g) _ _ _ _) (quiet-enter (takeOutput (setMark m g) t) t g))
 
   pub quiet-reachAll : (m : Image) (t : ℕ) (l : List ℕ) → ((g : ℕ) → List·Memᴰ g l → (g ≡ 0 → ⊥) → P g) → Quiet P m (reachAll m t l)
   unfolding reachAll
@@ -111,10 +105,10 @@ module _ {P : ℕ → Type 0} where
 
   quiet-traceInput : (m : Image) (t : ℕ) → Quiet P m (traceInput m t)
   unfolding traceInput
-  quiet-traceInput m t = quiet-cond (dirty m (entry m (input m t - 1) (count m (input m t - 1) - 1) / 64)) (unfold pop fields-open in quiet-silent m _ _ _ _) (quiet-trans (quiet-pop (input m t - 1)) (quiet-take (pop m (input m t - 1)) t _))
-    where
-      quiet-pop : (p : ℕ) → Quiet P m (pop m p)
-      quiet-pop p = unfold pop withPackets in quiet-silent m _ _ _ _
+  quiet-traceInput m t =
+      quiet-cond (dirty m (entry m (input m t - 1) (count m (input m t - 1) - 1) / 64))
+      (unfold pop fields-open in quiet-silent m _ _ _ _)
+      (quiet-trans {m = pop m (input m t - 1)} (unfold pop withPackets in quiet-silent m _ _ _ _) (quiet-take (pop m (input m t - 1)) t _))
 
   pub quiet-trace : (m : Image) (t : ℕ) → NextSource P m t → Quiet P m (traceStep m t)
   unfolding traceStep traceLine tracePool traceOutput setTracer withTracers
@@ -132,12 +126,11 @@ module _ {P : ℕ → Type 0} where
   unfolding cleanCard
   quiet-cleanCard m t = go (nextMarked m (64 * handCard m t - nextGranule m t) (nextGranule m t))
     where
-      card : (c n : ℕ) → Quiet P m (putCard m t c n)
-      card c n = unfold putCard setTracer withTracers in quiet-silent m _ _ _ _
-
       go : (x : ℕ) → Quiet P m (cleanTo m t x)
       go zero = unfold cleanTo putCard fields-open in quiet-silent m _ _ _ _
-      go (suc g) = unfold cleanTo in quiet-trans (card (handCard m t) (suc g)) (quiet-take _ t g)
+      go (suc g) =
+          let c : Quiet P m (putCard m t (handCard m t) (suc g)) = unfold putCard setTracer withTracers in quiet-silent m _ _ _ _ in
+          unfold cleanTo in quiet-trans c (quiet-take _ t g)
 
   pub quiet-clean : (m : Image) (t : ℕ) → NextSource P m t → Quiet P m (cleanStep m t)
   unfolding cleanStep cleanLine takeCard putCard setTracer withTracers setState withCards

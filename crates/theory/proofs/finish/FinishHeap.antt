@@ -1,20 +1,21 @@
 -- A finish leaves a filled heap whose starts are the kept objects, with their words.
-use mathlib.Core.Path.{_≡_, refl, sym, ap, subst, fun-ext, _∙_}
+use mathlib.Core.Path.{_≡_, sym, ap, fun-ext, _∙_}
 use mathlib.Core.Bool.{Bool, true, false}
+use mathlib.Core.Logic.{⊎-elim}
 use mathlib.Core.List.{List, _++_}
-use Prim.Native.Nat.{ℕ, _+_, _*_, _-_, _≤_, _<_}
+use Prim.Native.Nat.{ℕ, _+_, _*_, _-_, _<_}
 use native.Mathlib.Decide.{decLt}
 use native.Mathlib.Omega.{arith}
 use lib.ListN.{length, getD, take, drop, replicate, length-append, length-drop, length-replicate}
 use lib.Seq.{length-take-le, drop-at}
-use Rattle.model.specs.Base.{nth, put, zeros, bit, addBits}
+use Rattle.model.specs.Base.{nth, put, zeros}
 use Rattle.model.specs.Image.{Image, granules, word, isStart, size, firstRun}
 use Rattle.model.specs.Finish.{Swept, sweptWords, firstOf, sweep, keptSet, finishWith}
-use Rattle.model.proofs.Laws.{and-split, nth-put-same, length-put}
+use Rattle.model.proofs.Laws.{bool-cases, and-split, nth-put-same, length-put}
 use Rattle.model.proofs.Bits.{length-addBits, addBits-bit, bit-zeros, addBits-past}
 use Rattle.model.proofs.Entries.{nth-take}
 use Rattle.model.proofs.Found.{table-below, table-in}
-use Rattle.theory.specs.Heap.{Filled, HeapFilled, HeapSized}
+use Rattle.theory.specs.Heap.{HeapFilled, HeapSized}
 use Rattle.theory.specs.Sweep.{Stays, SweptOk}
 use Rattle.theory.proofs.heap.Lists.{nth-left, nth-right}
 use Rattle.theory.proofs.heap.Walk.{word-behind}
@@ -51,57 +52,39 @@ module _ (m : Image) (keep : List Bool) (o : HeapFilled m) (z : HeapSized m) (ke
   -- starts are exactly what is kept
   pub finish-starts : (g : ℕ) → isStart ((finishWith m keep) .image) g ≡ getD keep g false
   unfolding finishWith isStart zeros
-  finish-starts g = cs (decLt g (granules m))
-    where
-      bits : List ℕ
-      bits = addBits (m .width) (λ g. getD keep g false) (granules m) (replicate (length (m .starts)) 0)
-
-      none : (h : ℕ) → bit (m .width) (replicate (length (m .starts)) 0) h ≡ false
-      none h = bit-zeros (m .width) (length (m .starts)) h
-
-      out : (g < granules m → ⊥) → (b : Bool) → getD keep g false ≡ b → b ≡ false
-      out n true e = absurd (n ((o .start-range g (kept g e)) .1))
-      out n false e = refl
-
-      cs : Dec (g < granules m) → bit (m .width) bits g ≡ getD keep g false
-      cs (yes l) = addBits-bit (m .width) (λ g. getD keep g false) (granules m) (replicate (length (m .starts)) 0) g l (λ h k. rw length-replicate (z .start-words h k)) none
-      cs (no l) = addBits-past (m .width) (λ g. getD keep g false) (granules m) (replicate (length (m .starts)) 0) g (omega arith) ∙ (none g ∙ sym (out l (getD keep g false) refl))
+  finish-starts g = elim (decLt g (granules m)) [
+    | yes l ↦
+        addBits-bit (m .width) keeps (granules m) (replicate (length (m .starts)) 0) g l
+        (λ h k. rw length-replicate (z .start-words h k)) (bit-zeros (m .width) (length (m .starts)))
+    | no l ↦
+        addBits-past (m .width) keeps (granules m) (replicate (length (m .starts)) 0) g (omega arith)
+        ∙ (bit-zeros (m .width) (length (m .starts)) g ∙ sym (⊎-elim (λ e. absurd (l (o .start-range g (kept g e) .1))) (λ e. e) (bool-cases (keeps g))))
+  ]
 
   pub finish-filled : HeapFilled ((finishWith m keep) .image)
   unfolding finishWith firstRun granules
   finish-filled = record {
     heap-words = omega (arith, length-append (take 4 (m .heap)) (sweptWords swept-heap), four, length-swept swept-heap, ok .long, len);
-    heap-filled = subst (λ st. Filled st 1 (drop 4 (take 4 (m .heap) ++ sweptWords swept-heap)) (nth (put (put (m .general) 0 0) 1 (firstOf 1 swept-heap)) 1) false) (sym (fun-ext finish-starts)) pieces;
+    heap-filled =
+        rw (fun-ext finish-starts, drop-at (take 4 (m .heap)) (sweptWords swept-heap) 4 four)
+        (rw (nth-put-same (put (m .general) 0 0) 1 (firstOf 1 swept-heap) (omega (arith, length-put (m .general) 0 0, z .general-words)))
+        (swept-filled (isStart m) keeps kept 1 (length ws) swept-heap ok));
     start-range = λ g e. o .start-range g (kept g (sym (finish-starts g) ∙ e));
   }
-    where
-      pieces : Filled keeps 1 (drop 4 (take 4 (m .heap) ++ sweptWords swept-heap)) (nth (put (put (m .general) 0 0) 1 (firstOf 1 swept-heap)) 1) false
-      pieces =
-          rw (drop-at (take 4 (m .heap)) (sweptWords swept-heap) 4 four, nth-put-same (put (m .general) 0 0) 1 (firstOf 1 swept-heap) (omega (arith, length-put (m .general) 0 0, z .general-words)))
-          (swept-filled (isStart m) keeps kept 1 (length ws) swept-heap ok)
 
   -- every word of every kept object is as it was
   pub finish-words : (h i : ℕ) → getD keep h false ≡ true → i < 4 * size m h → word ((finishWith m keep) .image) h i ≡ word m h i
-  unfolding finishWith word size
+  unfolding finishWith word size Stays
   finish-words h i k l =
+      let range = o .start-range h (kept h k) in
+      let e : 4 * (h - 1) ≡ 4 * (h - 1) + 0 = omega arith in
+      let size-here : nth ws (4 * (h - 1)) ≡ size m h = ap (nth ws) e ∙ word-behind m h 0 (range .0) in
+      let stays = sweep-stays (isStart m) keeps kept (granules m) (o .heap-filled) (omega (arith, len)) h i (range .0) (omega (arith, len, range .1)) k (omega arith) in
+      let j : 4 * h + i ≡ 4 + (4 * (h - 1) + i) = omega (arith, range .0) in
+      let j₁ : 4 * (h - 1) + i ≡ 4 * swept-heap .free + (4 * (h - (1 + swept-heap .free)) + i) = omega (arith, stays .0) in
       ap (nth (take 4 (m .heap) ++ sweptWords swept-heap)) j
       ∙ (nth-right (take 4 (m .heap)) (sweptWords swept-heap) _ 4 four
       ∙ (ap (nth (sweptWords swept-heap)) j₁ ∙ (nth-swept swept-heap _ ∙ (stays .1 ∙ word-behind m h i (range .0)))))
-    where
-      range : (1 ≤ h) × (h < granules m)
-      range = o .start-range h (kept h k)
-
-      size-here : nth ws (4 * (h - 1)) ≡ size m h
-      size-here = let e : 4 * (h - 1) ≡ 4 * (h - 1) + 0 = omega arith in ap (nth ws) e ∙ word-behind m h 0 (range .0)
-
-      stays : (1 + swept-heap .free ≤ h) × (nth (swept-heap .rest) (4 * (h - (1 + swept-heap .free)) + i) ≡ nth ws (4 * (h - 1) + i))
-      stays = unfold Stays in sweep-stays (isStart m) keeps kept (granules m) (o .heap-filled) (omega (arith, len)) h i (range .0) (omega (arith, len, range .1)) k (omega (arith, l, size-here))
-
-      j : 4 * h + i ≡ 4 + (4 * (h - 1) + i)
-      j = omega (arith, range .0)
-
-      j₁ : 4 * (h - 1) + i ≡ 4 * swept-heap .free + (4 * (h - (1 + swept-heap .free)) + i)
-      j₁ = omega (arith, stays .0)
 
   -- granule 0 is as it was
   pub finish-zero : (i : ℕ) → i < 4 → nth (((finishWith m keep) .image) .heap) i ≡ nth (m .heap) i

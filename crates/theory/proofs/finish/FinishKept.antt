@@ -1,14 +1,14 @@
 -- A finish keeps "undamaged": links and registers of what it leaves are nil or kept.
-use mathlib.Core.Path.{_≡_, _∙_, ap, subst}
+use mathlib.Core.Path.{_≡_, _∙_, ap}
 use mathlib.Core.Logic.{inl, inr}
 use mathlib.Core.Bool.{true, false}
 use Prim.Native.Nat.{ℕ, _*_, _<_, _+_, _/_, _%_, _≤_}
 use native.Mathlib.Decide.{ℕ-discrete, decLt}
 use native.Mathlib.Omega.{arith}
 use lib.ListN.{getD, drop}
-use Rattle.model.specs.Base.{nth, put, bit}
+use Rattle.model.specs.Base.{nth, put}
 use Rattle.model.specs.Image.{Image, granules, word, isStart, marked, links, link, running, size, reg, firstRun}
-use Rattle.model.specs.Undamaged.{fill, filled}
+use Rattle.model.specs.Undamaged.{filled}
 use Rattle.model.specs.Finish.{keptSet, Kept, finishStep, found-reg, kept-found, firstOf, sweep, finishWith}
 use Rattle.model.specs.Claim.{Finishes}
 use Rattle.model.proofs.Laws.{nth-put-same, length-put, nth-out}
@@ -28,18 +28,17 @@ use Rattle.theory.proofs.steps.Tracing.{in-hand-ok}
 -- what the list claims need of an image, from its lines
 pub facts-of : {m : Image} → Sound m → Facts m
 unfolding marked running
-facts-of {m} s = record {
-  proper = proper-of o;
-  laid = laid-of o;
-  counted = counted-of m o;
-  regs-length = o .regs-ok .sized;
-  players-length = o .players-ok .sized;
-  hand-ok = λ t h n. let r = in-hand-ok m o t h n in (r .0, r .1);
-  idle = λ n g. no-bit (m .width) (m .marks) (s .idle (omega (arith, o .general-ok .runs)) .no-marks) g;
-}
-  where
-    o : Lines m
-    o = s .lines
+facts-of {m} s =
+    let o : Lines m = s .lines in
+    record {
+      proper = proper-of o;
+      laid = laid-of o;
+      counted = counted-of m o;
+      regs-length = o .regs-ok .sized;
+      players-length = o .players-ok .sized;
+      hand-ok = λ t h n. let r = in-hand-ok m o t h n in (r .0, r .1);
+      idle = λ n g. no-bit (m .width) (m .marks) (s .idle (omega (arith, o .general-ok .runs)) .no-marks) g;
+    }
 
 module _ (m : Image) (u : Undamaged m) where
   o : Lines m
@@ -55,64 +54,39 @@ module _ (m : Image) (u : Undamaged m) where
   kept-nil : (a : ℕ) → ((a ≡ 0 → ⊥) → Kept m a) → NilOr (Start m) a → NilOr (λ x. (x < 64 * m .k) × (isStart ((finishStep m) .image) x ≡ true)) a
   unfolding isStart
   kept-nil a k (inl z) = inl z
-  kept-nil a k (inr s) = go (ℕ-discrete a 0)
-    where
-      go : Dec (a ≡ 0) → NilOr (λ x. (x < 64 * m .k) × (isStart ((finishStep m) .image) x ≡ true)) a
-      go (yes z) = inl z
-      go (no nz) = inr (s .0, finish-does .kept-stay a (s .1) (k nz) .stays)
+  kept-nil a k (inr s) = elim (ℕ-discrete a 0) [ yes z ↦ inl z | no nz ↦ inr (s .0, finish-does .kept-stay a (s .1) (k nz) .stays) ]
 
-  module _ (g : ℕ) (s : isStart ((finishStep m) .image) g ≡ true) where
-    was : (isStart m g ≡ true) × Kept m g
-    was = finish-does .only-kept g s
-
-    inside : links m g + 2 ≤ 4 * size m g
-    inside = laid-of o .inside g (was .0) .0
-
-    same : (i : ℕ) → i < 4 * size m g → word ((finishStep m) .image) g i ≡ word m g i
-    same = finish-does .kept-stay g (was .0) (was .1) .same-words
-
-    count-stays : links ((finishStep m) .image) g ≡ links m g
-    unfolding links
-    count-stays = same 1 (omega (arith, inside))
-
-    link-stays : (i : ℕ) → i < links m g → link ((finishStep m) .image) g i ≡ link m g i
-    unfolding link
-    link-stays i l = same (2 + i) (omega (arith, inside))
-
-    link-kept : (i : ℕ) → i < links ((finishStep m) .image) g → NilOr (λ x. (x < 64 * m .k) × (isStart ((finishStep m) .image) x ≡ true)) (link ((finishStep m) .image) g i)
-    link-kept i l =
-        let l′ : i < links m g = rw count-stays at l in
-        let sg = start-at o g (was .0) in
-        rw (link-stays i l′) (kept-nil (link m g i) (kept-link m (u .cover) g i (start-below m (laid-of o) g (was .0)) (was .1) l′) (link-value o g i sg l′))
+  link-kept : (g : ℕ) → isStart ((finishStep m) .image) g ≡ true → (i : ℕ) → i < links ((finishStep m) .image) g
+      → NilOr (λ x. (x < 64 * m .k) × (isStart ((finishStep m) .image) x ≡ true)) (link ((finishStep m) .image) g i)
+  unfolding links link
+  link-kept g s i l =
+      let was = finish-does .only-kept g s in
+      let inside : links m g + 2 ≤ 4 * size m g = laid-of o .inside g (was .0) .0 in
+      let same = finish-does .kept-stay g (was .0) (was .1) .same-words in
+      let l′ : i < links m g = rw (same 1 (omega arith)) at l in
+      let kept = kept-link m (u .cover) g i (start-below m (laid-of o) g (was .0)) (was .1) l′ in
+      rw (same (2 + i) (omega arith)) (kept-nil (link m g i) kept (link-value o g i (start-at o g (was .0)) l′))
 
   reg-kept : (i : ℕ) → NilOr (λ x. (x < 64 * m .k) × (isStart ((finishStep m) .image) x ≡ true)) (nth (m .regs) i)
   unfolding reg
-  reg-kept i = go (decLt i 256)
-    where
-      place : 16 * (i / 16) + i % 16 ≡ i
-      place = omega arith
-
-      go : Dec (i < 256) → NilOr (λ x. (x < 64 * m .k) × (isStart ((finishStep m) .image) x ≡ true)) (nth (m .regs) i)
-      go (yes h) = kept-nil (nth (m .regs) i) (λ nz. kept-found (found-reg (i / 16) (i % 16) (omega arith) (omega arith) (ap (nth (m .regs)) place) nz)) (o .regs-ok .values i)
-      go (no h) = inl (nth-out (m .regs) i (omega (arith, o .regs-ok .sized)))
-
-  first-free : firstRun ((finishStep m) .image) ≡ firstOf 1 (sweep (isStart m) (λ g. getD (keptSet m) g false) (granules m) 1 (drop 4 (m .heap)))
-  unfolding finishStep finishWith firstRun
-  first-free = nth-put-same (put (m .general) 0 0) 1 _ (simp length-put (omega (arith, o .general-ok .sized)))
-
-  still-filled : filled ((finishStep m) .image) ≡ true
-  unfolding finishStep finishWith granules
-  still-filled = filled-make ((finishStep m) .image) (omega (arith, some-card o)) (made .filled)
+  reg-kept i =
+      let place : 16 * (i / 16) + i % 16 ≡ i = omega arith in
+      elim (decLt i 256) [
+        | yes h ↦ kept-nil (nth (m .regs) i) (λ nz. kept-found (found-reg (i / 16) (i % 16) (omega arith) (omega arith) (rw place) nz)) (o .regs-ok .values i)
+        | no h ↦ inl (nth-out (m .regs) i (omega (arith, o .regs-ok .sized)))
+      ]
 
   heap-left : HeapOk (m .width) (m .k) (((finishStep m) .image) .heap) (((finishStep m) .image) .starts) (firstOf 1 (sweep (isStart m) (λ g. getD (keptSet m) g false) (granules m) 1 (drop 4 (m .heap))))
-  unfolding isStart granules links link word filled finishStep finishWith
+  unfolding isStart granules links link word filled finishStep finishWith firstRun
   heap-left = record {
     sized = made .filled .heap-words;
     starts-sized = made .starts-length ∙ o .heap-ok .starts-sized;
     blank = λ i h. made .granule-zero i h ∙ o .heap-ok .blank i h;
     unused = no-start-zero (made .filled);
     within = λ g s. made .filled .start-range g s .1;
-    filled = subst (λ x. fill (bit (m .width) (((finishStep m) .image) .starts)) (64 * m .k) 1 (drop 4 (((finishStep m) .image) .heap)) x false ≡ true) first-free still-filled;
+    filled =
+        rw (nth-put-same (put (m .general) 0 0) 1 _ (simp length-put (omega (arith, o .general-ok .sized))))
+        at (filled-make ((finishStep m) .image) (omega (arith, some-card o)) (made .filled));
     links-ok = λ g i h s l. link-kept g s i l;
   }
 

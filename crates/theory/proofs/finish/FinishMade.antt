@@ -1,13 +1,13 @@
--- What a finish leaves of the heap, whatever set of starts it keeps, and for the set that its rule keeps.
+-- What a finish leaves of the heap, for the set of starts that its rule keeps.
 use mathlib.Core.Path.{_≡_, _∙_}
-use mathlib.Core.Bool.{Bool, true, false}
+use mathlib.Core.Bool.{Bool, false}
 use mathlib.Core.List.{List}
 use mathlib.Core.Logic.{_⊎_}
 use Prim.Native.Nat.{ℕ, _<_}
 use native.Mathlib.Omega.{arith}
 use lib.ListN.{length, getD, replicate, length-replicate}
-use Rattle.model.specs.Base.{nth, put, zeros}
-use Rattle.model.specs.Image.{Image, granules, word, isStart}
+use Rattle.model.specs.Base.{put, zeros}
+use Rattle.model.specs.Image.{Image, granules, word}
 use Rattle.model.specs.Finish.{Finish, keptSet, finishWith, finishStep}
 use Rattle.model.proofs.Laws.{nth-put-same, nth-put-other, length-put}
 use Rattle.model.proofs.Bits.{length-addBits}
@@ -18,40 +18,22 @@ use Rattle.theory.proofs.finish.FinishHeap.{kept-start, finish-starts, 
 use Rattle.theory.proofs.heap.Free.{finish-value}
 use Rattle.theory.proofs.heap.Unused.{unused-in-run, in-run-zero}
 
-module _ (m : Image) (keep : List Bool) where
-  starts-length : length (((finishWith m keep) .image) .starts) ≡ length (m .starts)
-  unfolding finishWith zeros
-  starts-length = length-addBits (m .width) (λ g. getD keep g false) (granules m) (replicate (length (m .starts)) 0) ∙ length-replicate (length (m .starts)) 0
-
-  general-length : length (((finishWith m keep) .image) .general) ≡ length (m .general)
-  unfolding finishWith
-  general-length = length-put (put (m .general) 0 0) 1 _ ∙ length-put (m .general) 0 0
-
-  general-word : (i : ℕ) → (i ≡ 0 → ⊥) → (i ≡ 1 → ⊥) → nth (((finishWith m keep) .image) .general) i ≡ nth (m .general) i
-  unfolding finishWith
-  general-word i n₀ n₁ = nth-put-other (put (m .general) 0 0) 1 i _ n₁ ∙ nth-put-other (m .general) 0 i 0 n₀
-
-  not-running : HeapSized m → nth (((finishWith m keep) .image) .general) 0 ≡ 0
-  unfolding finishWith
-  not-running z = nth-put-other (put (m .general) 0 0) 1 0 _ (λ e. omega arith) ∙ nth-put-same (m .general) 0 0 (omega (arith, z .general-words))
-
-  pub finish-with-made : HeapFilled m → HeapSized m → ((g : ℕ) → getD keep g false ≡ true → isStart m g ≡ true) → FinishMade m keep (finishWith m keep)
-  finish-with-made o z kept = record {
-    filled = finish-filled m keep o z kept;
-    sized = finish-sized m keep o z kept;
-    starts = finish-starts m keep o z kept;
-    words = finish-words m keep o z kept;
-    grown = finish-value m keep o z kept;
-    granule-zero = finish-zero m keep o z kept;
-    starts-length = starts-length;
-    general-length = general-length;
-    general-word = general-word;
-    not-running = not-running z;
-  }
-
 pub finish-made : (m : Image) → HeapFilled m → HeapSized m → FinishMade m (keptSet m) (finishStep m)
-unfolding finishStep
-finish-made m o z = finish-with-made m (keptSet m) o z (kept-start m)
+unfolding finishStep finishWith zeros
+finish-made m o z =
+    let keep : List Bool = keptSet m in
+    record {
+      filled = finish-filled m keep o z (kept-start m);
+      sized = finish-sized m keep o z (kept-start m);
+      starts = finish-starts m keep o z (kept-start m);
+      words = finish-words m keep o z (kept-start m);
+      grown = finish-value m keep o z (kept-start m);
+      granule-zero = finish-zero m keep o z (kept-start m);
+      starts-length = length-addBits (m .width) (λ g. getD keep g false) (granules m) (replicate (length (m .starts)) 0) ∙ length-replicate (length (m .starts)) 0;
+      general-length = length-put (put (m .general) 0 0) 1 _ ∙ length-put (m .general) 0 0;
+      general-word = λ i n₀ n₁. nth-put-other (put (m .general) 0 0) 1 i _ n₁ ∙ nth-put-other (m .general) 0 i 0 n₀;
+      not-running = nth-put-other (put (m .general) 0 0) 1 0 _ (λ e. omega arith) ∙ nth-put-same (m .general) 0 0 (omega (arith, z .general-words));
+    }
 
 -- ---- "neighbouring runs joined, and freed granules are zeroed but for a run's two words"
 

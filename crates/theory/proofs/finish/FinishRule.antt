@@ -3,7 +3,7 @@ use mathlib.Core.Path.{_≡_, refl, sym, ap, _∙_}
 use mathlib.Core.Logic.{_↔_}
 use mathlib.Core.Bool.{true}
 use mathlib.Core.List.{List}
-use Prim.Native.Nat.{ℕ, _+_, _*_, _≤_, _<_}
+use Prim.Native.Nat.{ℕ, _*_, _<_}
 use native.Mathlib.Decide.{ℕ-discrete, decLt}
 use native.Mathlib.Omega.{arith}
 use lib.ListN.{length}
@@ -15,7 +15,6 @@ use Rattle.model.specs.Steps.{accept, finishDone, act, step}
 use Rattle.model.specs.Batch.{finishAt}
 use Rattle.model.proofs.Found.{kept-is}
 use Rattle.model.proofs.Words.{Fits, parts-fit, parts-words}
-use Rattle.theory.specs.Pieces.{Unused}
 use Rattle.theory.specs.Finish.{FinishMade, FinishRule, FinishSafe}
 use Rattle.theory.specs.Lines.{Lines, Undamaged}
 use Rattle.theory.proofs.steps.Beginning.{length-zeros}
@@ -58,34 +57,25 @@ module _ (w : ℕ) (ws : List ℕ) (fit : fits w (length ws) ≡ true) (ok : sou
   unfolding size
   was h s = let r = starts-are h .0 s in (r .0, r .1, kept-words h 0 (r .0) (r .1) (omega (arith, laid-of o .inside h (r .0))))
 
-  same-granules : granules (f .image) ≡ granules m
-  unfolding finishStep finishWith granules
-  same-granules = refl
-
-  unused-stays : (y : ℕ) → Unused m y → Unused (f .image) y
-  unused-stays y u = record {
-    in-range = (u .in-range .0, rw same-granules (u .in-range .1));
-    in-no-object = λ h s l q. let r = was h s in u .in-no-object h (r .0) l (omega (arith, r .2));
-  }
-
-  freed-unused : (g y : ℕ) → isStart m g ≡ true → (Kept m g → ⊥) → g ≤ y → y < g + size m g → Unused (f .image) y
-  freed-unused g y s nk l q = record {
-    in-range = (omega (arith, heap-filled-of o .start-range g s), rw same-granules (omega (arith, laid-of o .inside g s)));
-    in-no-object = λ h t a b. let r = was h t in go h (r .0) (r .1) a (omega (arith, r .2)) (ℕ-discrete h g) (decLt h g);
-  }
-    where
-      go : (h : ℕ) → isStart m h ≡ true → Kept m h → h ≤ y → y < h + size m h → Dec (h ≡ g) → Dec (h < g) → ⊥
-      go h t k a b (yes e) d = nk (rw e at k)
-      go h t k a b (no e) (yes d) = omega (arith, laid-of o .apart h g t s d)
-      go h t k a b (no e) (no d) = omega (arith, laid-of o .apart g h s t (omega arith))
-
   pub finish-rule : FinishRule m f
+  unfolding finishStep finishWith granules
   finish-rule = record {
     starts-are = starts-are;
     kept-words = kept-words;
     value-is = made .grown;
-    freed-unused = freed-unused;
-    unused-stays = unused-stays;
+    freed-unused = λ g y s nk l q. record {
+      in-range = (omega (arith, heap-filled-of o .start-range g s), omega (arith, laid-of o .inside g s));
+      in-no-object = λ h t a b.
+          let r = was h t in
+          elim (ℕ-discrete h g) [
+            | yes e ↦ nk (rw e at (r .1))
+            | no e ↦ elim (decLt h g) [
+              | yes d ↦ omega (arith, r .2, laid-of o .apart h g (r .0) s d)
+              | no d ↦ omega (arith, r .2, laid-of o .apart g h s (r .0) (omega arith))
+            ]
+          ];
+    };
+    unused-stays = λ y u. record { in-range = u .in-range; in-no-object = λ h s l q. let r = was h s in u .in-no-object h (r .0) l (omega (arith, r .2)) };
     in-run = freed-run made;
     zeroed = freed-zero made;
   }
@@ -118,10 +108,9 @@ module _ (w : ℕ) (ws : List ℕ) (fit : fits w (length ws) ≡ true) (ok : sou
 
   pub finish-rule-words : FinishRule m (record { image = parts w ((finishAt w ws) .image); value = (finishAt w ws) .value })
   unfolding finishAt
-  finish-rule-words = rw left-is finish-rule
-    where
-      left-is : parts w (words (f .image)) ≡ f .image
-      left-is = unfold finishStep finishWith parts imageOf image in parts-words (f .image) left-fits
+  finish-rule-words =
+      let left-is : parts w (words (f .image)) ≡ f .image = unfold finishStep finishWith parts imageOf image in parts-words (f .image) left-fits in
+      rw left-is finish-rule
 
 -- ---- on undamaged images
 

@@ -6,7 +6,7 @@ use Prim.Native.Nat.{ℕ, _+_, _*_, _/_, _%_}
 use native.Mathlib.Omega.{arith}
 use lib.Dec.{eqb}
 use borrow.Author.Tests.{eqb-false, lt-ltb}
-use Rattle.model.specs.Base.{nth, first}
+use Rattle.model.specs.Base.{first}
 use Rattle.model.specs.Image.{Image, isStart, reg, running}
 use Rattle.model.specs.Undamaged.{nilOrStart}
 use Rattle.model.specs.Records.{Step, begin, finish, kindOf}
@@ -64,14 +64,13 @@ facts-sited m f = record {
   regs-length = f .regs-length;
   packets-length = f .counted .packets-length;
   counts = f .counted .counts;
-  reg-in = λ i h. start-ok m f _ (λ nz. subst (λ j. (nth (m .regs) j ≡ 0 → ⊥) → isStart m (nth (m .regs) j) ≡ true) (place i) (f .proper .reg-start (i / 16) (i % 16) (omega arith) (omega arith)) nz);
+  reg-in = λ i h.
+      let place : 16 * (i / 16) + i % 16 ≡ i = omega arith in
+      start-ok m f _ (rw place at (f .proper .reg-start (i / 16) (i % 16) (omega arith) (omega arith)));
   link-in = λ g i h s l. start-ok m f _ (λ nz. f .proper .link-start g i s l nz);
   start-in = start-below m (f .laid);
   mark-start = λ g h k. f .proper .mark-start g k;
 }
-  where
-    place : (i : ℕ) → 16 * (i / 16) + i % 16 ≡ i
-    place i = omega arith
 
 pub finishes : (m : Image) → Facts m → Cover m → FinishMade m (keptSet m) (finishStep m) → Finishes m ((finishStep m) .image)
 finishes m f c w = record {
@@ -81,6 +80,4 @@ finishes m f c w = record {
 }
   where
     stay : (g : ℕ) → isStart m g ≡ true → Kept m g → Same m ((finishStep m) .image) g
-    stay g h k =
-        let i = kept-set m (facts-sited m f) g h k in
-        record { stays = w .starts g ∙ i; same-words = λ j l. w .words g j i l }
+    stay g h k = let i = kept-set m (facts-sited m f) g h k in record { stays = w .starts g ∙ i; same-words = λ j l. w .words g j i l }

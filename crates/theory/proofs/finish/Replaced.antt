@@ -12,7 +12,7 @@ use Rattle.model.specs.Finish.{scannedOff}
 use Rattle.model.specs.Steps.{run}
 use Rattle.model.proofs.Laws.{false≢, nth-put-same, nth-put-other, length-put}
 use Rattle.model.proofs.Bits.{no-bit}
-use Rattle.theory.specs.Cover.{Covered, owes-by, to-nil, to-marked, is-coming, is-owed}
+use Rattle.theory.specs.Cover.{owes-by, to-nil, to-marked, is-coming, is-owed}
 use Rattle.theory.specs.Lines.{PacketsOk, TracersOk, NilOr, GeneralOk, HeapOk, Start, Marked, Lines, Undamaged, none}
 use Rattle.theory.specs.New.{reheaped}
 use Rattle.theory.proofs.steps.Beginning.{zeros-nth, length-zeros, running-ok}
@@ -37,7 +37,7 @@ off-owed (o ∷ []) p = refl
 off-owed (o ∷ s ∷ l) zero = refl
 off-owed (o ∷ s ∷ l) (suc p) = let e : 2 * suc p ≡ suc (suc (2 * p)) = omega arith in rw e (off-owed l p)
 
-off-scanned : (l : List ℕ) (p : ℕ) → nth (scannedOff l) (2 * p + 1) ≡ 0
+pub off-scanned : (l : List ℕ) (p : ℕ) → nth (scannedOff l) (2 * p + 1) ≡ 0
 unfolding scannedOff nth
 off-scanned [] p = refl
 off-scanned (o ∷ []) p = let e : 2 * p + 1 ≡ suc (2 * p) = omega arith in rw e refl
@@ -73,25 +73,24 @@ first-run-ok {gs} o f = record {
 -- what the heap must give of a finish: it is filled, and what registers hold is kept
 pub cleared-keeps : (m : Image) → Lines m → (hs ss : List ℕ) (f : ℕ) → HeapOk (m .width) (m .k) hs ss f → ((i : ℕ) → NilOr (λ a. (a < 64 * m .k) × (bit (m .width) ss a ≡ true)) (nth (m .regs) i)) → Undamaged (cleared m hs ss f)
 unfolding marked
-cleared-keeps m o hs ss f h rs = record {
-  sound = record {
-    lines = record {
-      heap-ok = rw (nth-put-same (put (m .general) 0 0) 1 f (simp length-put (omega (arith, o .general-ok .sized)))) h;
-      regs-ok = record { sized = o .regs-ok .sized; values = rs };
-      cards-ok = record { sized = length-zeros (m .cards) ∙ o .cards-ok .sized; states = λ c. rw (zeros-nth (m .cards) c) (omega arith) };
-      marks-ok = record { exact = length-zeros (m .marks) ∙ o .marks-ok .exact; sized = λ g l. rw (length-zeros (m .marks)) (o .marks-ok .sized g l); on-starts = λ g e. false≢ (sym (unmarked g) ∙ e) };
-      packets-ok = zero-packets (length-zeros (m .packets) ∙ o .packets-ok .sized) (zeros-nth (m .packets));
-      tracers-ok = zero-tracers (length-zeros (m .tracers) ∙ o .tracers-ok .sized) (zeros-nth (m .tracers));
-      players-ok = record { sized = off-length (m .players) ∙ o .players-ok .sized; owed-ok = λ p. rw (off-owed (m .players) p) (o .players-ok .owed-ok p); scanned-ok = λ p. rw (off-scanned (m .players) p) (omega arith) };
-      general-ok = first-run-ok (running-ok (o .general-ok) 0 (omega arith)) f;
-    };
-    idle = λ z. record { no-marks = zeros-nth (m .marks); no-packets = zeros-nth (m .packets); no-tracers = zeros-nth (m .tracers); no-scanned = off-scanned (m .players) };
-  };
-  cover = λ g i hg k l. false≢ (sym (unmarked g) ∙ k);
-}
-  where
-    unmarked : (g : ℕ) → bit (m .width) (zeros (m .marks)) g ≡ false
-    unmarked g = no-bit (m .width) (zeros (m .marks)) (zeros-nth (m .marks)) g
+cleared-keeps m o hs ss f h rs =
+    let unmarked : (g : ℕ) → bit (m .width) (zeros (m .marks)) g ≡ false = λ g. no-bit (m .width) (zeros (m .marks)) (zeros-nth (m .marks)) g in
+    record {
+      sound = record {
+        lines = record {
+          heap-ok = rw (nth-put-same (put (m .general) 0 0) 1 f (simp length-put (omega (arith, o .general-ok .sized)))) h;
+          regs-ok = record { sized = o .regs-ok .sized; values = rs };
+          cards-ok = record { sized = length-zeros (m .cards) ∙ o .cards-ok .sized; states = λ c. rw (zeros-nth (m .cards) c) (omega arith) };
+          marks-ok = record { exact = length-zeros (m .marks) ∙ o .marks-ok .exact; sized = λ g l. rw (length-zeros (m .marks)) (o .marks-ok .sized g l); on-starts = λ g e. false≢ (sym (unmarked g) ∙ e) };
+          packets-ok = zero-packets (length-zeros (m .packets) ∙ o .packets-ok .sized) (zeros-nth (m .packets));
+          tracers-ok = zero-tracers (length-zeros (m .tracers) ∙ o .tracers-ok .sized) (zeros-nth (m .tracers));
+          players-ok = record { sized = off-length (m .players) ∙ o .players-ok .sized; owed-ok = λ p. rw (off-owed (m .players) p) (o .players-ok .owed-ok p); scanned-ok = λ p. rw (off-scanned (m .players) p) (omega arith) };
+          general-ok = first-run-ok (running-ok (o .general-ok) 0 (omega arith)) f;
+        };
+        idle = λ z. record { no-marks = zeros-nth (m .marks); no-packets = zeros-nth (m .packets); no-tracers = zeros-nth (m .tracers); no-scanned = off-scanned (m .players) };
+      };
+      cover = λ g i hg k l. false≢ (sym (unmarked g) ∙ k);
+    }
 
 -- ---- new: heap, starts and first run written
 
@@ -105,40 +104,32 @@ pub reheaped-keeps : (m : Image) → Undamaged m → (hs ss gs : List ℕ) → H
     → ((g i : ℕ) → Start m g → i ≤ nth (m .heap) (4 * g + 1) → nth hs (4 * g + (1 + i)) ≡ nth (m .heap) (4 * g + (1 + i)))
     → Undamaged (reheaped m hs ss gs)
 unfolding granules marked word links link dirty state reg owed count entry hand nextLink handCard nextGranule
-reheaped-keeps m u hs ss gs h gk run up same = record {
-  sound = record {
-    lines = record {
-      heap-ok = h;
-      general-ok = gk;
-      cards-ok = o .cards-ok;
-      packets-ok = o .packets-ok;
-      players-ok = o .players-ok;
-      regs-ok = record { sized = o .regs-ok .sized; values = λ i. nil-mono st (nth (m .regs) i) (o .regs-ok .values i) };
-      marks-ok = record { exact = o .marks-ok .exact; sized = o .marks-ok .sized; on-starts = λ g k. st g (o .marks-ok .on-starts g k) };
-      tracers-ok = tracers-mono (λ g i d. (d .0, rw (count-same g (d .0)) (d .1))) (λ c n d. d) (o .tracers-ok);
-    };
-    idle = λ z. u .sound .idle (sym run ∙ z);
-  };
-  cover = λ g i hg k l. go g i k (rw (count-same g k) at l) (u .cover g i hg k (rw (count-same g k) at l));
-}
-  where
-    o : Lines m
-    o = u .sound .lines
-
-    st : (g : ℕ) → Start m g → (g < 64 * m .k) × (bit (m .width) ss g ≡ true)
-    st g d = (d .0, up g (d .1))
-
-    count-same : (g : ℕ) → Marked m g → nth hs (4 * g + 1) ≡ nth (m .heap) (4 * g + 1)
-    count-same g k = same g 0 (o .marks-ok .on-starts g k) zero-le
-
-    go : (g i : ℕ) → Marked m g → i < nth (m .heap) (4 * g + 1) → Covered m g i → Covered (reheaped m hs ss gs) g i
-    go g i k l c = cs c
-      where
-        e : nth hs (4 * g + (2 + i)) ≡ nth (m .heap) (4 * g + (2 + i))
-        e = let j : 2 + i ≡ 1 + suc i = omega arith in rw j (same g (suc i) (o .marks-ok .on-starts g k) l)
-
-        cs : Covered m g i → Covered (reheaped m hs ss gs) g i
-        cs (to-nil q) = to-nil (e ∙ q)
-        cs (to-marked q) = to-marked (rw e q)
-        cs (is-coming d) = is-coming (same-coming m (reheaped m hs ss gs) refl refl refl g i d)
-        cs (is-owed (owes-by q r hq hr w d)) = is-owed (owes-by q r hq hr w (d ∙ sym e))
+reheaped-keeps m u hs ss gs h gk run up same =
+    let o : Lines m = u .sound .lines in
+    let st : (g : ℕ) → Start m g → (g < 64 * m .k) × (bit (m .width) ss g ≡ true) = λ g d. (d .0, up g (d .1)) in
+    let count-same : (g : ℕ) → Marked m g → nth hs (4 * g + 1) ≡ nth (m .heap) (4 * g + 1) = λ g k. same g 0 (o .marks-ok .on-starts g k) zero-le in
+    record {
+      sound = record {
+        lines = record {
+          heap-ok = h;
+          general-ok = gk;
+          cards-ok = o .cards-ok;
+          packets-ok = o .packets-ok;
+          players-ok = o .players-ok;
+          regs-ok = record { sized = o .regs-ok .sized; values = λ i. nil-mono st (nth (m .regs) i) (o .regs-ok .values i) };
+          marks-ok = record { exact = o .marks-ok .exact; sized = o .marks-ok .sized; on-starts = λ g k. st g (o .marks-ok .on-starts g k) };
+          tracers-ok = tracers-mono (λ g i d. (d .0, rw (count-same g (d .0)) (d .1))) (λ c n d. d) (o .tracers-ok);
+        };
+        idle = λ z. u .sound .idle (sym run ∙ z);
+      };
+      cover = λ g i hg k l.
+          let l′ : i < nth (m .heap) (4 * g + 1) = rw (count-same g k) at l in
+          let j : 2 + i ≡ 1 + suc i = omega arith in
+          let e : nth hs (4 * g + (2 + i)) ≡ nth (m .heap) (4 * g + (2 + i)) = rw j (same g (suc i) (o .marks-ok .on-starts g k) l′) in
+          elim (u .cover g i hg k l′) [
+            | to-nil q ↦ to-nil (e ∙ q)
+            | to-marked q ↦ to-marked (rw e q)
+            | is-coming d ↦ is-coming (same-coming m (reheaped m hs ss gs) refl refl refl g i d)
+            | is-owed (owes-by q r hq hr w d) ↦ is-owed (owes-by q r hq hr w (d ∙ sym e))
+          ];
+    }

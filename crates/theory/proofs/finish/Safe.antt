@@ -1,6 +1,6 @@
 -- Chains, and safety: with Cover, a finish keeps what a chain from a register reaches.
 use mathlib.Core.Path.{_≡_, refl, sym, subst, _∙_}
-use mathlib.Core.Logic.{_⊎_, inl, inr}
+use mathlib.Core.Logic.{inl, inr}
 use mathlib.Core.Bool.{true, false}
 use Prim.Native.Nat.{ℕ, _<_}
 use native.Mathlib.Omega.{arith}
@@ -9,7 +9,7 @@ use Rattle.model.specs.Finish.{Due, due-entered, due-in-hand, due-dirty, due-ca
 use Rattle.model.specs.Claim.{Chain, chain-reg, chain-link}
 use Rattle.model.proofs.Laws.{false≢, bool-cases}
 use Rattle.theory.specs.Heap.{Proper, Laid}
-use Rattle.theory.specs.Cover.{Coming, on-dirty, on-entry, on-hand, on-card, owes-by, Covered, to-nil, to-marked, is-coming, is-owed, Cover}
+use Rattle.theory.specs.Cover.{Coming, on-dirty, on-entry, on-hand, on-card, owes-by, to-nil, to-marked, is-coming, is-owed, Cover}
 
 -- what a chain reaches is in every set that holds what registers hold and what members link to
 pub chain-least : (m : Image) (P : ℕ → Type 0) → ((p r : ℕ) → p < 16 → r < 16 → (reg m p r ≡ 0 → ⊥) → P (reg m p r))
@@ -34,18 +34,15 @@ coming-due m g i (on-card t h q l) = due-card-in-hand t h q
 
 -- what a kept object links to is kept
 pub kept-link : (m : Image) → Cover m → (g i : ℕ) → g < granules m → Kept m g → i < links m g → (link m g i ≡ 0 → ⊥) → Kept m (link m g i)
-kept-link m c g i hg s l nz = go s (bool-cases (marked m g))
-  where
-    by : marked m g ≡ true → Covered m g i → Kept m (link m g i)
-    by k (to-nil q) = absurd (nz q)
-    by k (to-marked q) = kept-marked q
-    by k (is-coming q) = kept-found (found-due g i hg k (coming-due m g i q) l refl nz)
-    by k (is-owed (owes-by p r hp hr u q)) = kept-found (found-reg p r hp hr q nz)
-
-    go : Kept m g → (marked m g ≡ true) ⊎ (marked m g ≡ false) → Kept m (link m g i)
-    go s (inl k) = by k (c g i hg k l)
-    go (kept-marked k) (inr u) = false≢ (sym u ∙ k)
-    go (kept-found f) (inr u) = kept-found (found-link g i f u l refl nz)
+kept-link m c g i hg s l nz = elim (bool-cases (marked m g)) [
+  | inl k ↦ elim (c g i hg k l) [
+    | to-nil q ↦ absurd (nz q)
+    | to-marked q ↦ kept-marked q
+    | is-coming q ↦ kept-found (found-due g i hg k (coming-due m g i q) l refl nz)
+    | is-owed (owes-by p r hp hr u q) ↦ kept-found (found-reg p r hp hr q nz)
+  ]
+  | inr u ↦ elim s [ kept-marked k ↦ false≢ (sym u ∙ k) | kept-found f ↦ kept-found (found-link g i f u l refl nz) ]
+]
 
 pub safe : (m : Image) → Cover m → Proper m → Laid m → (a : ℕ) → Chain m a → Kept m a
 safe m c o d a (chain-reg p r hp hr e nz) = kept-found (found-reg p r hp hr e nz)

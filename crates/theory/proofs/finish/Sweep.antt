@@ -1,6 +1,6 @@
 -- A sweep: what it leaves fills the heap again, is as long, and has the words of the kept objects.
-use mathlib.Core.Path.{_≡_, refl, sym, ap, _∙_}
-use mathlib.Core.Logic.{_⊎_, inl, inr}
+use mathlib.Core.Path.{_≡_, sym, ap, _∙_}
+use mathlib.Core.Logic.{inl, inr, ⊎-elim}
 use mathlib.Core.Bool.{Bool, true, false}
 use mathlib.Core.List.{List, _∷_, _++_}
 use Prim.Native.Nat.{ℕ, zero, suc, _+_, _*_, _-_, _≤_, _<_}
@@ -63,11 +63,7 @@ stays-here g s h i x y l t r e p k =
 
 module _ (st keep : ℕ → Bool) (kept : (g : ℕ) → keep g ≡ true → st g ≡ true) where
   pub not-kept : (g : ℕ) → st g ≡ false → keep g ≡ false
-  not-kept g e = cs (bool-cases (keep g))
-    where
-      cs : (keep g ≡ true) ⊎ (keep g ≡ false) → keep g ≡ false
-      cs (inl k) = false≢ (sym e ∙ kept g k)
-      cs (inr k) = k
+  not-kept g e = ⊎-elim (λ k. false≢ (sym e ∙ kept g k)) (λ k. k) (bool-cases (keep g))
 
   -- a sweep takes the piece in front, then the rest
   pub sweep-piece : (n g s : ℕ) (ws rest : List ℕ) → suc (length ws) ≡ 4 * s → sweep st keep (suc n) g ((s ∷ ws) ++ rest) ≡ swept st g s (s ∷ ws) (keep g) (sweep st keep n (g + s) rest)
@@ -86,68 +82,70 @@ module _ (st keep : ℕ → Bool) (kept : (g : ℕ) → keep g ≡ true → st g
       go (suc f) b n = f-run f (r .next) (r .rest) (n g (omega arith) (omega arith)) (λ h a c. n h (omega arith) c) b
 
   freed-ok : (g s l : ℕ) (r : Swept) (x : ℕ) → 1 ≤ s → keep g ≡ false → Bare st g s → SweptOk keep (g + s) l r → SweptOk keep g (4 * s + l) (record { free = s + r .free; rest = r .rest; next = r .next; freed = x })
-  freed-ok g s l r x h k ba ok = record { behind = rw (← add-assoc) (ok .behind); free-bare = λ i p q. near i p q (ℕ-discrete i g) (decLt i (g + s)); long = omega (arith, ok .long) }
-    where
-      near : (i : ℕ) → g ≤ i → i < g + (s + r .free) → Dec (i ≡ g) → Dec (i < g + s) → keep i ≡ false
-      near i p q (yes e) d = rw e k
-      near i p q (no e) (yes l) = not-kept i (ba i (omega arith) l)
-      near i p q (no e) (no l) = ok .free-bare i (omega arith) (omega arith)
+  freed-ok g s l r x h k ba ok = record {
+    behind = rw (← add-assoc) (ok .behind);
+    free-bare = λ i p q. elim (ℕ-discrete i g) [
+      | yes e ↦ rw e k
+      | no e ↦ elim (decLt i (g + s)) [ yes d ↦ not-kept i (ba i (omega arith) d) | no d ↦ ok .free-bare i (omega arith) (omega arith) ]
+    ];
+    long = omega (arith, ok .long);
+  }
 
   pub sweep-ok : {g next : ℕ} {run : Bool} {ws : List ℕ} (n : ℕ) → Filled st g ws next run → length ws < 4 * n → SweptOk keep g (length ws) (sweep st keep n g ws)
+  unfolding swept
   sweep-ok zero f l = absurd (omega arith)
   sweep-ok (suc n) f-end l = unfold sweep in record { behind = f-end; free-bare = λ h p q. absurd (omega arith); long = omega arith }
   sweep-ok {g} (suc n) (f-object s ws rest e o ba f) l =
-      rw (sweep-piece n g s ws rest (o .long)) (go (sweep-ok n f (omega (arith, length-append ws rest, o .long))) (keep g) refl)
-    where
-      len : 4 * s + length rest ≡ suc (length (ws ++ rest))
-      len = omega (arith, length-append ws rest, o .long)
-
-      go : SweptOk keep (g + s) (length rest) (sweep st keep n (g + s) rest) → (k : Bool) → keep g ≡ k → SweptOk keep g (suc (length (ws ++ rest))) (swept st g s (s ∷ ws) k (sweep st keep n (g + s) rest))
-      go ok true k = unfold swept in record {
-        behind = rw add-zero (f-object s ws _ k o (λ h p q. not-kept h (ba h p q)) (swept-filled (g + s) (length rest) _ ok));
-        free-bare = λ h p q. absurd (omega arith);
-        long = omega (arith, len, o .long, length-append ws (sweptWords (sweep st keep n (g + s) rest)), length-swept (sweep st keep n (g + s) rest), ok .long);
-      }
-      go ok false k = unfold swept in rw (← len) (freed-ok g s (length rest) _ _ (omega (arith, o .long)) k ba ok)
+      let r : Swept = sweep st keep n (g + s) rest in
+      let len : 4 * s + length rest ≡ suc (length (ws ++ rest)) = omega (arith, length-append ws rest, o .long) in
+      let ok : SweptOk keep (g + s) (length rest) r = sweep-ok n f (omega (arith, o .long)) in
+      rw (sweep-piece n g s ws rest (o .long)) (elim (bool-cases (keep g)) [
+        | inl k ↦ rw (k, swept) (record {
+          behind = rw add-zero (f-object s ws _ k o (λ h p q. not-kept h (ba h p q)) (swept-filled (g + s) (length rest) _ ok));
+          free-bare = λ h p q. absurd (omega arith);
+          long = omega (arith, o .long, length-append ws (sweptWords r), length-swept r, ok .long);
+        })
+        | inr k ↦ rw (k, swept, ← len) (freed-ok g s (length rest) _ _ (omega (arith, o .long)) k ba ok)
+      ])
   sweep-ok {g} (suc n) (f-run m next rest e ba f) l =
-      rw (sweep-piece n g (suc m) (runTail m next) rest (length-run m next)) (go (sweep-ok n f (omega (arith, length-append (runTail m next) rest, length-run m next))))
-    where
-      len : 4 * suc m + length rest ≡ suc (length (runTail m next ++ rest))
-      len = omega (arith, length-append (runTail m next) rest, length-run m next)
-
-      go : SweptOk keep (g + suc m) (length rest) (sweep st keep n (g + suc m) rest) → SweptOk keep g (suc (length (runTail m next ++ rest))) (swept st g (suc m) (runWords m next) (keep g) (sweep st keep n (g + suc m) rest))
-      go ok = unfold swept in rw (not-kept g e, ← len) (freed-ok g (suc m) (length rest) _ _ (omega arith) (not-kept g e) ba ok)
+      let len : 4 * suc m + length rest ≡ suc (length (runTail m next ++ rest)) = omega (arith, length-append (runTail m next) rest, length-run m next) in
+      rw (sweep-piece n g (suc m) (runTail m next) rest (length-run m next), not-kept g e, ← len)
+      (freed-ok g (suc m) (length rest) _ _ (omega arith) (not-kept g e) ba (sweep-ok n f (omega arith)))
 
   -- ---- word i of a kept object at h stays
 
+  -- what is kept in a piece starts it
+  in-piece : (g s h : ℕ) → Bare st g s → g ≤ h → h < g + s → keep h ≡ true → h ≡ g
+  in-piece g s h ba p y k = elim (ℕ-discrete h g) [ yes x ↦ x | no x ↦ false≢ (sym (ba h (omega arith) y) ∙ kept h k) ]
+
   pub sweep-stays : {g next : ℕ} {run : Bool} {ws : List ℕ} (n : ℕ) → Filled st g ws next run → length ws < 4 * n → (h i : ℕ) → g ≤ h → 4 * h < 4 * g + length ws → keep h ≡ true → i < 4 * nth ws (4 * (h - g))
       → Stays g ws (sweep st keep n g ws) h i
+  unfolding swept
   sweep-stays zero f l h i p q k j = absurd (omega arith)
   sweep-stays (suc n) f-end l h i p q k j = absurd (omega arith)
   sweep-stays {g} (suc n) (f-object s ws rest t o ba f) l h i p q k j =
-      rw (sweep-piece n g s ws rest (o .long))
-      (go (λ u v. sweep-stays n f (omega (arith, length-append ws rest, o .long)) h i u (omega (arith, length-append ws rest, o .long)) k v) (keep g) refl (ℕ-discrete h g) (decLt h (g + s)))
-    where
-      r : Swept
-      r = sweep st keep n (g + s) rest
-
-      size-here : h ≡ g → nth ((s ∷ ws) ++ rest) (4 * (h - g)) ≡ s
-      size-here x = let z : 4 * (h - g) ≡ 0 = omega arith in ap (nth ((s ∷ ws) ++ rest)) z ∙ nth-head s (ws ++ rest)
-
-      go : (g + s ≤ h → i < 4 * nth rest (4 * (h - (g + s))) → Stays (g + s) rest r h i) → (b : Bool) → keep g ≡ b → Dec (h ≡ g) → Dec (h < g + s) → Stays g ((s ∷ ws) ++ rest) (swept st g s (s ∷ ws) b r) h i
-      go ih true e (yes x) d = unfold swept in stays-here g s h i _ _ (s ∷ ws) rest r (o .long) x (omega (arith, size-here x))
-      go ih false e (yes x) d = false≢ (sym e ∙ (rw x at k))
-      go ih b e (no x) (yes y) = false≢ (sym (ba h (omega arith) y) ∙ kept h k)
-      go ih true e (no x) (no y) = unfold swept in stays-kept g s h i _ _ (s ∷ ws) rest r (o .long) (omega arith) (ih (omega arith) (omega (arith, head-behind g s h (s ∷ ws) rest (o .long) (omega arith))))
-      go ih false e (no x) (no y) = unfold swept in stays-freed g s h i _ (s ∷ ws) rest r (o .long) (omega arith) (ih (omega arith) (omega (arith, head-behind g s h (s ∷ ws) rest (o .long) (omega arith))))
+      let la : length (ws ++ rest) ≡ length ws + length rest = length-append ws rest in
+      let lo : suc (length ws) ≡ 4 * s = o .long in
+      rw (sweep-piece n g s ws rest lo) (elim (decLt h (g + s)) [
+        | yes y ↦
+            let x : h ≡ g = in-piece g s h ba p y k in
+            let kg : keep g ≡ true = rw x at k in
+            let z : 4 * (h - g) ≡ 0 = omega arith in
+            let here : nth ((s ∷ ws) ++ rest) (4 * (h - g)) ≡ s = ap (nth ((s ∷ ws) ++ rest)) z ∙ nth-head s (ws ++ rest) in
+            rw (kg, swept) (stays-here g s h i _ _ (s ∷ ws) rest _ lo x (omega arith))
+        | no y ↦
+            let ih = sweep-stays n f (omega arith) h i (omega arith) (omega arith) k (omega (arith, head-behind g s h (s ∷ ws) rest lo (omega arith))) in
+            elim (bool-cases (keep g)) [
+              | inl b ↦ rw (b, swept) (stays-kept g s h i _ _ (s ∷ ws) rest _ lo (omega arith) ih)
+              | inr b ↦ rw (b, swept) (stays-freed g s h i _ (s ∷ ws) rest _ lo (omega arith) ih)
+            ]
+      ])
   sweep-stays {g} (suc n) (f-run m next rest t ba f) l h i p q k j =
-      rw (sweep-piece n g (suc m) (runTail m next) rest (length-run m next))
-      (rw (not-kept g t) (go (λ u v. sweep-stays n f (omega (arith, length-append (runTail m next) rest, length-run m next)) h i u (omega (arith, length-append (runTail m next) rest, length-run m next)) k v) (ℕ-discrete h g) (decLt h (g + suc m))))
-    where
-      r : Swept
-      r = sweep st keep n (g + suc m) rest
-
-      go : (g + suc m ≤ h → i < 4 * nth rest (4 * (h - (g + suc m))) → Stays (g + suc m) rest r h i) → Dec (h ≡ g) → Dec (h < g + suc m) → Stays g (runWords m next ++ rest) (swept st g (suc m) (runWords m next) false r) h i
-      go ih (yes x) d = false≢ (sym t ∙ (rw x at (kept h k)))
-      go ih (no x) (yes y) = false≢ (sym (ba h (omega arith) y) ∙ kept h k)
-      go ih (no x) (no y) = unfold swept in stays-freed g (suc m) h i _ (runWords m next) rest r (length-run m next) (omega arith) (ih (omega arith) (omega (arith, head-behind g (suc m) h (runWords m next) rest (length-run m next) (omega arith))))
+      let la : length (runTail m next ++ rest) ≡ length (runTail m next) + length rest = length-append (runTail m next) rest in
+      let lr : suc (length (runTail m next)) ≡ 4 * suc m = length-run m next in
+      rw (sweep-piece n g (suc m) (runTail m next) rest lr, not-kept g t) (elim (decLt h (g + suc m)) [
+        | yes y ↦ let x : h ≡ g = in-piece g (suc m) h ba p y k in false≢ (sym t ∙ (rw x at (kept h k)))
+        | no y ↦
+            let ih = sweep-stays n f (omega arith) h i (omega arith) (omega arith) k (omega (arith, head-behind g (suc m) h (runWords m next) rest lr (omega arith))) in
+            stays-freed g (suc m) h i _ (runWords m next) rest _ lr (omega arith) ih
+      ])
