@@ -16,11 +16,7 @@ Wrote C x v o = (C × (x ≡ v)) ⊎ ((C → ⊥) × (x ≡ o))
 
 -- a word after a write: the written one, or the old one
 pub nth-put : (l : List ℕ) (i j v : ℕ) → i < length l → Wrote (j ≡ i) (nth (put l i v) j) v (nth l j)
-nth-put l i j v h = go (ℕ-discrete j i)
-  where
-    go : Dec (j ≡ i) → Wrote (j ≡ i) (nth (put l i v) j) v (nth l j)
-    go (yes e) = inl (e, rw e (nth-put-same l i v h))
-    go (no ne) = inr (ne, nth-put-other l i j v ne)
+nth-put l i j v h = elim (ℕ-discrete j i) [ yes e ↦ inl (e, rw e (nth-put-same l i v h)) | no ne ↦ inr (ne, nth-put-other l i j v ne) ]
 
 pub packets-mono : {Mk Mk′ : ℕ → Type 0} {ps : List ℕ} → ((g : ℕ) → Mk g → Mk′ g) → PacketsOk Mk ps → PacketsOk Mk′ ps
 packets-mono f k = record { sized = k .sized; few = k .few; gap = k .gap; past = k .past; full = λ p e g i. f g (k .full p e g i); once = k .once }
@@ -32,18 +28,15 @@ edited ps p e v c = put (put ps (32 * p + 2 + e) v) (32 * p) c
 
 module _ (ps : List ℕ) (p x v c : ℕ) (sized : length ps ≡ 1024) (hp : p < 32) (hx : x < 30) where
   cnt-edited : (q : ℕ) → Wrote (q ≡ p) (countIn (edited ps p x v c) q) c (countIn ps q)
-  cnt-edited q = go (nth-put (put ps (32 * p + 2 + x) v) (32 * p) (32 * q) c (simp length-put (omega arith)))
-    where
-      go : Wrote (32 * q ≡ 32 * p) (countIn (edited ps p x v c) q) c (nth (put ps (32 * p + 2 + x) v) (32 * q)) → Wrote (q ≡ p) (countIn (edited ps p x v c) q) c (countIn ps q)
-      go (inl (e, w)) = inl (omega arith, w)
-      go (inr (n, w)) = inr (omega arith, w ∙ nth-put-other ps (32 * p + 2 + x) (32 * q) v (omega arith))
+  cnt-edited q = elim (nth-put (put ps (32 * p + 2 + x) v) (32 * p) (32 * q) c (simp length-put (omega arith))) [
+    | inl (e, w) ↦ inl (omega arith, w)
+    | inr (n, w) ↦ inr (omega arith, w ∙ nth-put-other ps (32 * p + 2 + x) (32 * q) v (omega arith))
+  ]
 
   ent-edited : (q e : ℕ) → e < 30 → Wrote (32 * q + e ≡ 32 * p + x) (entryIn (edited ps p x v c) q e) v (entryIn ps q e)
-  ent-edited q e h = rw (nth-put-other (put ps (32 * p + 2 + x) v) (32 * p) (32 * q + 2 + e) c (omega arith)) (go (nth-put ps (32 * p + 2 + x) (32 * q + 2 + e) v (omega arith)))
-    where
-      go : Wrote (32 * q + 2 + e ≡ 32 * p + 2 + x) (nth (put ps (32 * p + 2 + x) v) (32 * q + 2 + e)) v (entryIn ps q e) → Wrote (32 * q + e ≡ 32 * p + x) (nth (put ps (32 * p + 2 + x) v) (32 * q + 2 + e)) v (entryIn ps q e)
-      go (inl (n, w)) = inl (omega arith, w)
-      go (inr (n, w)) = inr (omega arith, w)
+  ent-edited q e h =
+      rw (nth-put-other (put ps (32 * p + 2 + x) v) (32 * p) (32 * q + 2 + e) c (omega arith))
+      (elim (nth-put ps (32 * p + 2 + x) (32 * q + 2 + e) v (omega arith)) [ inl (n, w) ↦ inl (omega arith, w) | inr (n, w) ↦ inr (omega arith, w) ])
 
   gap-edited : (q : ℕ) → nth (edited ps p x v c) (32 * q + 1) ≡ nth ps (32 * q + 1)
   gap-edited q = nth-put-other (put ps (32 * p + 2 + x) v) (32 * p) (32 * q + 1) c (omega arith) ∙ nth-put-other ps (32 * p + 2 + x) (32 * q + 1) v (omega arith)
