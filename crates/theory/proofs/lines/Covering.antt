@@ -16,6 +16,7 @@ use Rattle.model.proofs.Laws.{false≢, bool-cases, nth-put-same, nth-put-other
 use Rattle.theory.specs.Cover.{Coming, Covered, Cover, on-dirty, on-entry, on-hand, on-card, owes-by, to-nil, to-marked, is-coming, is-owed}
 use Rattle.theory.specs.Lines.{entryIn, Enters, PacketsOk, NilOr, Marked}
 use Rattle.theory.proofs.lines.Packets.{popped, pop-on}
+use Rattle.theory.proofs.lines.Sections.{two, two-off, two-is}
 
 -- ---- dirty cards
 
@@ -94,22 +95,10 @@ hold-cover m t i v hi cov = off _ (renew-cover Any m (m .cards) (m .packets) (pu
 
 -- ---- two words of tracer t are written, and cards
 
-abbrev two : List ℕ → ℕ → ℕ → ℕ → ℕ → List ℕ
-two ts t a x y = put (put ts (8 * t + a) x) (8 * t + suc a) y
-
-two-off : (ts : List ℕ) (t a x y u b : ℕ) → (8 * u + b ≡ 8 * t + a → ⊥) × (8 * u + b ≡ 8 * t + suc a → ⊥) → nth (two ts t a x y) (8 * u + b) ≡ nth ts (8 * u + b)
-two-off ts t a x y u b n = nth-put-other (put ts (8 * t + a) x) (8 * t + suc a) (8 * u + b) y (n .1) ∙ nth-put-other ts (8 * t + a) (8 * u + b) x (n .0)
-
 abbrev rehanded : Image → List ℕ → ℕ → ℕ → ℕ → ℕ → Image
 rehanded m cs t a x y = renew m cs (m .packets) (two (m .tracers) t a x y)
 
-module _ (m : Image) (cs : List ℕ) (t a x y : ℕ) (hl : length (m .tracers) ≡ 64) (ht : t < 8) (ha : a < 7) where
-  two-is : (nth (two (m .tracers) t a x y) (8 * t + a) ≡ x) × (nth (two (m .tracers) t a x y) (8 * t + suc a) ≡ y)
-  two-is = (
-    nth-put-other (put (m .tracers) (8 * t + a) x) (8 * t + suc a) (8 * t + a) y (omega arith) ∙ nth-put-same (m .tracers) (8 * t + a) x (omega arith),
-    nth-put-same (put (m .tracers) (8 * t + a) x) (8 * t + suc a) y (simp length-put (omega arith)),
-  )
-
+module _ (m : Image) (cs : List ℕ) (t a x y : ℕ) (ha : a < 7) where
   -- what comes by another tracer stays: what is dirty or comes by this one is to be shown
   rehanded-cover : (X : ℕ → Type 0) → CoverOn X m → ((g j : ℕ) → isDirty (nth (m .cards) (g / 64)) ≡ true → Coming (rehanded m cs t a x y) g j)
       → ((g j : ℕ) → marked m g ≡ true → j < links m g → hand m t ≡ g → nextLink m t ≤ j → Covered (rehanded m cs t a x y) g j)
@@ -134,12 +123,12 @@ module _ (m : Image) (cs : List ℕ) (t : ℕ) (hl : length (m .tracers) ≡ 64)
   -- the hand is written, and what is in it comes
   in-hand : (x y g j : ℕ) → (x ≡ g) × (y ≤ j) → Coming (rehanded m cs t 2 x y) g j
   unfolding hand nextLink
-  in-hand x y g j h = let k = two-is m cs t 2 x y hl ht (omega arith) in on-hand t ht (k .0 ∙ h .0) (omega (arith, k .1))
+  in-hand x y g j h = let k = two-is (m .tracers) t 2 x y hl ht (omega arith) in on-hand t ht (k .0 ∙ h .0) (omega (arith, k .1))
 
   -- the card in hand is written: it comes, and the hand stays
   on-card-in-hand : (x y g j : ℕ) → (x ≡ suc (g / 64)) × (y ≤ g) → Coming (rehanded m cs t 4 x y) g j
   unfolding handCard nextGranule
-  on-card-in-hand x y g j h = let k = two-is m cs t 4 x y hl ht (omega arith) in on-card t ht (k .0 ∙ h .0) (omega (arith, k .1))
+  on-card-in-hand x y g j h = let k = two-is (m .tracers) t 4 x y hl ht (omega arith) in on-card t ht (k .0 ∙ h .0) (omega (arith, k .1))
 
   hand-stays : (x y g j : ℕ) → hand m t ≡ g → nextLink m t ≤ j → Coming (rehanded m cs t 4 x y) g j
   unfolding hand nextLink
@@ -154,7 +143,7 @@ pub hand-cover : (X : ℕ → Type 0) (m : Image) (t g′ i′ : ℕ) → length
     → CoverOn X (putHand m t g′ i′)
 unfolding putHand fields-open
 hand-cover X m t g′ i′ hl ht cov f =
-    rehanded-cover m (m .cards) t 2 g′ i′ hl ht (omega arith) X cov (λ g j q. on-dirty q)
+    rehanded-cover m (m .cards) t 2 g′ i′ (omega arith) X cov (λ g j q. on-dirty q)
     (λ g j k l q r. elim (f g j q k l r) [ inl (inl z) ↦ to-nil z | inl (inr s) ↦ to-marked s | inr h ↦ is-coming (in-hand m (m .cards) t hl ht g′ i′ g j h) ])
     (λ g j x k q r. on-card t ht (two-off (m .tracers) t 2 g′ i′ t 4 (omega arith) ∙ q) (omega (arith, two-off (m .tracers) t 2 g′ i′ t 5 (omega arith))))
 
@@ -192,7 +181,7 @@ pub card-cover : (X : ℕ → Type 0) (m : Image) (t c n : ℕ) → length (m .t
     → CoverOn X (putCard m t c n)
 unfolding putCard fields-open
 card-cover X m t c n hl ht cov f =
-    rehanded-cover m (m .cards) t 4 c n hl ht (omega arith) X cov (λ g j q. on-dirty q) (λ g j k l q r. is-coming (hand-stays m (m .cards) t hl ht c n g j q r))
+    rehanded-cover m (m .cards) t 4 c n (omega arith) X cov (λ g j q. on-dirty q) (λ g j k l q r. is-coming (hand-stays m (m .cards) t hl ht c n g j q r))
     (λ g j x k q r. on-card-in-hand m (m .cards) t hl ht c n g j (f g x k q r))
 
 -- a dirty card is taken in an empty hand
@@ -200,7 +189,7 @@ pub takeCard-cover : (m : Image) (t c : ℕ) → length (m .tracers) ≡ 64 → 
 unfolding takeCard putCard fields-open
 takeCard-cover m t c hl ht z cov =
     let cs′ : List ℕ = put (m .cards) c 2 in
-    off _ (rehanded-cover m cs′ t 4 (suc c) (64 * c) hl ht (omega arith) Any (on Any m cov)
+    off _ (rehanded-cover m cs′ t 4 (suc c) (64 * c) (omega arith) Any (on Any m cov)
     (λ g j q. elim (ℕ-discrete (g / 64) c) [
       | yes e ↦ on-card-in-hand m cs′ t hl ht (suc c) (64 * c) g j (omega arith)
       | no n ↦ on-dirty (rw (nth-put-other (m .cards) c (g / 64) 2 n) q)
