@@ -35,30 +35,23 @@ distinct-make (x ∷ l) f =
 distinct-split : (l r : List ℕ) → distinct (l ++ r) ≡ true → (distinct l ≡ true) × (distinct r ≡ true) × ((g : ℕ) → elem g l ≡ true → elem g r ≡ true → ⊥)
 unfolding distinct elem
 distinct-split [] r e = (refl, e, λ g a b. false≢ a)
-distinct-split (x ∷ l) r e = go (and-split (not (elem x (l ++ r))) (distinct (l ++ r)) e) (distinct-split l r)
-  where
-    no : elem x (l ++ r) ≡ false → elem x l ≡ true → ⊥
-    no n a = false≢ (sym n ∙ elem-left x l r a)
-
-    go : (not (elem x (l ++ r)) ≡ true) × (distinct (l ++ r) ≡ true)
-        → (distinct (l ++ r) ≡ true → (distinct l ≡ true) × (distinct r ≡ true) × ((g : ℕ) → elem g l ≡ true → elem g r ≡ true → ⊥))
-        → ((not (elem x l) && distinct l) ≡ true) × (distinct r ≡ true) × ((g : ℕ) → (eqb g x || elem g l) ≡ true → elem g r ≡ true → ⊥)
-    go (a, b) ih = let s = ih b in (and-join (not (elem x l)) (distinct l) (not-make _ (no (not-true _ a))) (s .0), s .1, λ g c d. apart s g (or-split (eqb g x) (elem g l) c) d)
-      where
-        apart : (distinct l ≡ true) × (distinct r ≡ true) × ((g : ℕ) → elem g l ≡ true → elem g r ≡ true → ⊥) → (g : ℕ) → (eqb g x ≡ true) ⊎ (elem g l ≡ true) → elem g r ≡ true → ⊥
-        apart s g (inl q) d = false≢ (sym (not-true _ a) ∙ elem-right x l r (rw (eqb-true g x q) at d))
-        apart s g (inr q) d = s .2 g q d
+distinct-split (x ∷ l) r e =
+    let a = and-split (not (elem x (l ++ r))) (distinct (l ++ r)) e in
+    let s = distinct-split l r (a .1) in
+    let no : elem x (l ++ r) ≡ false = not-true _ (a .0) in (
+      and-join (not (elem x l)) (distinct l) (not-make _ (λ q. false≢ (sym no ∙ elem-left x l r q))) (s .0),
+      s .1,
+      λ g c d. elim (or-split (eqb g x) (elem g l) c) [ inl q ↦ false≢ (sym no ∙ elem-right x l r (rw (eqb-true g x q) at d)) | inr q ↦ s .2 g q d ],
+    )
 
 distinct-append : (l r : List ℕ) → distinct l ≡ true → distinct r ≡ true → ((g : ℕ) → elem g l ≡ true → elem g r ≡ true → ⊥) → distinct (l ++ r) ≡ true
 unfolding distinct elem
 distinct-append [] r a b f = b
 distinct-append (x ∷ l) r a b f =
     let s = and-split (not (elem x l)) (distinct l) a in
-    and-join (not (elem x (l ++ r))) (distinct (l ++ r)) (not-make _ (λ e. out (s .0) (elem-split x l r e))) (distinct-append l r (s .1) b (λ g p q. f g (or-right (eqb g x) (elem g l) p) q))
-  where
-    out : not (elem x l) ≡ true → (elem x l ≡ true) ⊎ (elem x r ≡ true) → ⊥
-    out n (inl q) = false≢ (sym (not-true _ n) ∙ q)
-    out n (inr q) = f x (or-left (eqb x x) (elem x l) (eq-eqb x x refl)) q
+    and-join (not (elem x (l ++ r))) (distinct (l ++ r))
+    (not-make _ (λ e. elim (elem-split x l r e) [ inl q ↦ false≢ (sym (not-true _ (s .0)) ∙ q) | inr q ↦ f x (or-left (eqb x x) (elem x l) (eq-eqb x x refl)) q ]))
+    (distinct-append l r (s .1) b (λ g p q. f g (or-right (eqb g x) (elem g l) p) q))
 
 -- ---- no object is entered twice
 

@@ -47,19 +47,5 @@ unfolding sections
 lines-fits {m} o h = record {
   some-card = some-card o;
   few-cards = h;
-  section-lengths =
-      let e : 4 * (64 * m .k) ≡ 256 * m .k = omega arith in
-      rw (
-        o .heap-ok .sized,
-        e,
-        o .heap-ok .starts-sized,
-        o .marks-ok .exact,
-        o .cards-ok .sized,
-        o .regs-ok .sized,
-        o .packets-ok .sized,
-        o .tracers-ok .sized,
-        o .players-ok .sized,
-        o .general-ok .sized,
-      )
-      refl;
+  section-lengths = let e : 4 * (64 * m .k) ≡ 256 * m .k = omega arith in cc;
 }
