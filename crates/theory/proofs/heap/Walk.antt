@@ -1,6 +1,7 @@
 -- The walk over the heap, as a test and by derivations; every start begins an object, and objects lie apart.
 use mathlib.Core.Path.{_≡_, refl, sym, ap, ap₂, subst, _∙_}
 use mathlib.Core.Bool.{Bool, true, false, not, cond}
+use mathlib.Core.Logic.{_⊎_, inl, inr}
 use mathlib.Core.List.{List, [], _∷_, _++_}
 use Prim.Native.Nat.{ℕ, zero, suc, _+_, _*_, _-_, _≤_, _<_}
 use native.Mathlib.Decide.{ℕ-discrete, decLt}
@@ -12,7 +13,7 @@ use Rattle.model.specs.Base.{nth}
 use Rattle.model.specs.Image.{Image, granules, word, isStart, marked, size, links}
 use Rattle.model.specs.Undamaged.{bare, piece, fill, filled}
 use Rattle.model.specs.Finish.{runTail}
-use Rattle.model.proofs.Laws.{every-use, every-cons, every-nil, all-use, all-make, false≢, not-make}
+use Rattle.model.proofs.Laws.{bool-cases, every-use, every-cons, every-nil, all-use, all-make, false≢, not-make}
 use Rattle.model.proofs.Entries.{nth-drop, nth-take}
 use Rattle.theory.specs.Heap.{ObjectPiece, runWords, Bare, Filled, f-end, f-object, f-run, At, HeapFilled, ObjectAt, Laid}
 use Rattle.theory.proofs.heap.Lists.{nth-head, nth-left, zeros-take, length-run, run-zero, nth-behind, head-behind}
@@ -32,14 +33,9 @@ bare-make st g s f = all-make (s - 1) _ (λ i h. ap not (f (g + 1 + i) (omega ar
 run-words : (n : ℕ) (ws : List ℕ) → 4 * suc n ≤ suc (length ws) → ((i : ℕ) → i < 4 * suc n - 2 → nth ws (suc i) ≡ 0) → ws ≡ runTail n (nth ws 0) ++ drop (4 * suc n - 1) ws
 unfolding runTail nth
 run-words n [] h z = absurd (omega arith)
-run-words n (x ∷ ws) h z = go (nth-head x ws) (4 * suc n - 1) refl
-  where
-    go : nth (x ∷ ws) 0 ≡ x → (k : ℕ) → 4 * suc n - 1 ≡ k → x ∷ ws ≡ nth (x ∷ ws) 0 ∷ replicate (4 * suc n - 2) 0 ++ drop k (x ∷ ws)
-    go e zero q = absurd (omega arith)
-    go e (suc k) q =
-        let k₁ : 4 * suc n - 2 ≡ k = omega arith in
-        let zs : take k ws ≡ replicate k 0 = zeros-take k ws (omega arith) (λ i hi. z i (omega arith)) in
-        ap₂ _∷_ (sym e) (sym (take-append-drop k ws) ∙ rw (k₁, zs))
+run-words n (x ∷ ws) h z =
+    let k : 4 * suc n - 1 ≡ suc (4 * suc n - 2) = omega arith in
+    rw k (ap (λ l. x ∷ l) (sym (take-append-drop (4 * suc n - 2) ws) ∙ rw (zeros-take (4 * suc n - 2) ws (omega arith) z)))
 
 -- a run of s granules in front, by its words
 pub run-filled : (st : ℕ → Bool) (g s : ℕ) (ws : List ℕ) (next : ℕ) (b : Bool) → not b ≡ true → g ≡ next → 1 ≤ s → 4 * s ≤ suc (length ws) → st g ≡ false → Bare st g s
@@ -71,20 +67,16 @@ pub fill-use : (st : ℕ → Bool) (n g : ℕ) (ws : List ℕ) (next : ℕ) (run
 unfolding fill
 fill-use st zero g ws next b e = false≢ e
 fill-use st (suc n) g [] next b e = subst (λ x. Filled st g [] x b) (sym (eqb-true _ _ e)) f-end
-fill-use st (suc n) g (s ∷ ws) next b e =
-    ok (fill-use st n (g + s) (drop (4 * s) (s ∷ ws)) (cond (st g) next (nth ws 0)) (not (st g))) (piece st g s ws next b (st g)) refl e
+fill-use st (suc n) g (s ∷ ws) next b e = elim (bool-cases (piece st g s ws next b (st g))) [
+  | inl h ↦ go (st g) refl h (fill-use st n _ _ _ _ (rw (h, fill) at e))
+  | inr h ↦ false≢ (rw (h, fill) at e)
+]
   where
     go : (k : Bool) → st g ≡ k → piece st g s ws next b k ≡ true → Filled st (g + s) (drop (4 * s) (s ∷ ws)) (cond k next (nth ws 0)) (not k) → Filled st g (s ∷ ws) next b
     go true q h f = unfold piece in object-filled st g s ws next b q (leb-true _ _ (every-use _ h 0)) (leb-true _ _ (every-use _ h 1)) (bare-use st g s (every-use _ h 2))
         (leb-true _ _ (every-use _ h 3)) (leb-true _ _ (every-use _ h 4)) f
     go false q h f = unfold piece in run-filled st g s ws next b (every-use _ h 3) (eqb-true _ _ (every-use _ h 4)) (leb-true _ _ (every-use _ h 0)) (leb-true _ _ (every-use _ h 1)) q
         (bare-use st g s (every-use _ h 2)) (λ i l. eqb-true _ _ (all-use (4 * s - 2) _ (every-use _ h 5) i l)) f
-
-    ok : (fill st n (g + s) (drop (4 * s) (s ∷ ws)) (cond (st g) next (nth ws 0)) (not (st g)) ≡ true → Filled st (g + s) (drop (4 * s) (s ∷ ws)) (cond (st g) next (nth ws 0)) (not (st g)))
-        → (p : Bool) → piece st g s ws next b (st g) ≡ p
-        → _≡_ {A = Bool} (elim p [ false ↦ false | true ↦ fill st n (g + s) (drop (4 * s) (s ∷ ws)) (cond (st g) next (nth ws 0)) (not (st g)) ]) true → Filled st g (s ∷ ws) next b
-    ok ih false h x = false≢ x
-    ok ih true h x = go (st g) refl h (ih x)
 
 object-ok : (st : ℕ → Bool) (g s : ℕ) (ws rest : List ℕ) (next : ℕ) (b : Bool) → ObjectPiece s ws → Bare st g s → piece st g s (ws ++ rest) next b true ≡ true
 unfolding piece
@@ -112,12 +104,7 @@ run-head n next rest = refl
 fill-piece : (st : ℕ → Bool) (n g s : ℕ) (ws : List ℕ) (next : ℕ) (b k : Bool) → st g ≡ k → piece st g s ws next b k ≡ true
     → fill st n (g + s) (drop (4 * s) (s ∷ ws)) (cond k next (nth ws 0)) (not k) ≡ true → fill st (suc n) g (s ∷ ws) next b ≡ true
 unfolding fill
-fill-piece st n g s ws next b k q h f = go (piece st g s ws next b (st g)) (ap (piece st g s ws next b) q ∙ h) (rw q f)
-  where
-    go : (p : Bool) → p ≡ true → fill st n (g + s) (drop (4 * s) (s ∷ ws)) (cond (st g) next (nth ws 0)) (not (st g)) ≡ true
-        → _≡_ {A = Bool} (elim p [ false ↦ false | true ↦ fill st n (g + s) (drop (4 * s) (s ∷ ws)) (cond (st g) next (nth ws 0)) (not (st g)) ]) true
-    go true e f = f
-    go false e f = e
+fill-piece st n g s ws next b k q h f = rw (ap (piece st g s ws next b) q ∙ h, fill) (rw q f)
 
 pub fill-make : {st : ℕ → Bool} {g : ℕ} {ws : List ℕ} {next : ℕ} {run : Bool} (n : ℕ) → Filled st g ws next run → length ws < 4 * n → fill st n g ws next run ≡ true
 fill-make zero f l = absurd (omega arith)
