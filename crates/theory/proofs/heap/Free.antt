@@ -28,11 +28,10 @@ total-ext v u (suc n) f = let a : sumBelow v n ≡ sumBelow u n = total-ext v u 
 total-piece : (v : ℕ → ℕ) (x y : ℕ) → x < y → ((h : ℕ) → x < h → h < y → v h ≡ 0) → sumBelow v y ≡ sumBelow v x + v x
 unfolding sumBelow
 total-piece v x zero l f = absurd (omega arith)
-total-piece v x (suc y) l f = cs (λ k. total-piece v x y k (λ h p q. f h p (omega arith))) (ℕ-discrete x y)
-  where
-    cs : (x < y → sumBelow v y ≡ sumBelow v x + v x) → Dec (x ≡ y) → sumBelow v y + v y ≡ sumBelow v x + v x
-    cs ih (yes e) = rw e
-    cs ih (no e) = let a = ih (omega arith) in omega (arith, a, f y (omega arith) (omega arith))
+total-piece v x (suc y) l f = elim (ℕ-discrete x y) [
+  | yes e ↦ rw e
+  | no e ↦ omega (arith, total-piece v x y (omega arith) (λ h p q. f h p (omega arith)), f y (omega arith) (omega arith))
+]
 
 module _ (st : ℕ → Bool) (rd : ℕ → ℕ → ℕ) where
   sizes-no : (g : ℕ) → st g ≡ false → sizes st rd g ≡ 0
@@ -88,7 +87,7 @@ module _ (st keep : ℕ → Bool) (kept : (g : ℕ) → keep g ≡ true → st g
   none-freed n g x = rw x (omega arith)
 
   -- what is freed, and what kept objects have, is what all objects have
-  pub freed-count : {g next : ℕ} {run : Bool} {ws : List ℕ} (n : ℕ) → Filled st g ws next run → Reads rd g ws → 4 * g + length ws ≡ 4 * e → length ws < 4 * n → Balance g ((sweep st keep n g ws) .freed)
+  freed-count : {g next : ℕ} {run : Bool} {ws : List ℕ} (n : ℕ) → Filled st g ws next run → Reads rd g ws → 4 * g + length ws ≡ 4 * e → length ws < 4 * n → Balance g ((sweep st keep n g ws) .freed)
   freed-count zero f a q l = absurd (omega arith)
   freed-count {g} (suc n) f-end a q l = none-freed n g (omega arith)
   freed-count {g} (suc n) (f-object s ws rest t o ba f) a q l =

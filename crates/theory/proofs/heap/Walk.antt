@@ -118,6 +118,13 @@ fill-make {st} {g} (suc n) (f-run m next rest q ba f) l =
 
 -- ---- every start begins an object
 
+-- a start is none of a piece's granules but the first
+pub start-beside : (st : ℕ → Bool) (g s : ℕ) → Bare st g s → (h : ℕ) → st h ≡ true → (h ≤ g) ⊎ (g + s ≤ h)
+start-beside st g s ba h e = elim (decLt g h) [
+  | yes p ↦ elim (decLt h (g + s)) [ yes q ↦ false≢ (sym (ba h p q) ∙ e) | no q ↦ inr (omega arith) ]
+  | no p ↦ inl (omega arith)
+]
+
 behind-at : (st : ℕ → Bool) (g s h : ℕ) (l r : List ℕ) → length l ≡ 4 * s → g + s ≤ h → At st (g + s) r h → At st g (l ++ r) h
 behind-at st g s h l r e k a =
     let w : nth (l ++ r) (4 * (h - g)) ≡ nth r (4 * (h - (g + s))) = head-behind g s h l r e k in
@@ -145,18 +152,14 @@ first-at st g s h ws rest x o ba =
 
 pub starts-at : {st : ℕ → Bool} {g : ℕ} {ws : List ℕ} {next : ℕ} {run : Bool} → Filled st g ws next run → (h : ℕ) → g ≤ h → 4 * h < 4 * g + length ws → st h ≡ true → At st g ws h
 starts-at f-end h p q e = absurd (omega arith)
-starts-at {st} {g} (f-object s ws rest t o ba f) h p q e = cs (λ u v w. starts-at f h u v w) (ℕ-discrete h g) (decLt h (g + s))
-  where
-    cs : (g + s ≤ h → 4 * h < 4 * (g + s) + length rest → st h ≡ true → At st (g + s) rest h) → Dec (h ≡ g) → Dec (h < g + s) → At st g ((s ∷ ws) ++ rest) h
-    cs ih (yes x) d = first-at st g s h ws rest x o ba
-    cs ih (no x) (yes l) = false≢ (sym (ba h (omega arith) l) ∙ e)
-    cs ih (no x) (no l) = behind-at st g s h (s ∷ ws) rest (o .long) (omega arith) (ih (omega arith) (omega (arith, length-append ws rest, o .long)) e)
-starts-at {st} {g} (f-run n next rest t ba f) h p q e = cs (λ u v w. starts-at f h u v w) (ℕ-discrete h g) (decLt h (g + suc n))
-  where
-    cs : (g + suc n ≤ h → 4 * h < 4 * (g + suc n) + length rest → st h ≡ true → At st (g + suc n) rest h) → Dec (h ≡ g) → Dec (h < g + suc n) → At st g (runWords n next ++ rest) h
-    cs ih (yes x) d = false≢ (sym t ∙ (rw x at e))
-    cs ih (no x) (yes l) = false≢ (sym (ba h (omega arith) l) ∙ e)
-    cs ih (no x) (no l) = behind-at st g (suc n) h (runWords n next) rest (length-run n next) (omega arith) (ih (omega arith) (omega (arith, length-append (runTail n next) rest, length-run n next)) e)
+starts-at {st} {g} (f-object s ws rest t o ba f) h p q e = elim (start-beside st g s ba h e) [
+  | inl x ↦ first-at st g s h ws rest (omega arith) o ba
+  | inr l ↦ behind-at st g s h (s ∷ ws) rest (o .long) l (starts-at f h l (omega (arith, length-append ws rest, o .long)) e)
+]
+starts-at {st} {g} (f-run n next rest t ba f) h p q e = elim (start-beside st g (suc n) ba h e) [
+  | inl x ↦ let y : h ≡ g = omega arith in false≢ (sym t ∙ (rw y at e))
+  | inr l ↦ let r = length-run n next in behind-at st g (suc n) h (runWords n next) rest r l (starts-at f h l (omega (arith, length-append (runTail n next) rest, r)) e)
+]
 
 -- ---- of an image
 
@@ -172,42 +175,32 @@ word-behind m h i p = let z : 4 + (4 * (h - 1) + i) ≡ 4 * h + i = omega arith 
 
 pub object-at : (m : Image) → HeapFilled m → (g : ℕ) → isStart m g ≡ true → ObjectAt m g
 unfolding size links
-object-at m o g e = record {
-  sized = rw w at (a .size-pos);
-  links-in = omega (arith, w, word-behind m g 1 (range .0), a .links-in);
-  in-heap = omega (arith, w, a .in-words, length-drop 4 (m .heap), o .heap-words, range);
-  none-inside = λ h p q. a .none-inside h p (omega (arith, w));
-}
-  where
-    range : (1 ≤ g) × (g < granules m)
-    range = o .start-range g e
-
-    a : At (isStart m) 1 (drop 4 (m .heap)) g
-    a = starts-at (o .heap-filled) g (range .0) (omega (arith, length-drop 4 (m .heap), o .heap-words, range)) e
-
-    w : nth (drop 4 (m .heap)) (4 * (g - 1)) ≡ word m g 0
-    w = let z : 4 * (g - 1) ≡ 4 * (g - 1) + 0 = omega arith in ap (nth (drop 4 (m .heap))) z ∙ word-behind m g 0 (range .0)
+object-at m o g e =
+    let range : (1 ≤ g) × (g < granules m) = o .start-range g e in
+    let a = starts-at (o .heap-filled) g (range .0) (omega (arith, length-drop 4 (m .heap))) e in
+    let z : 4 * (g - 1) ≡ 4 * (g - 1) + 0 = omega arith in
+    let w : nth (drop 4 (m .heap)) (4 * (g - 1)) ≡ word m g 0 = ap (nth (drop 4 (m .heap))) z ∙ word-behind m g 0 (range .0) in
+    record {
+      sized = rw w at (a .size-pos);
+      links-in = omega (arith, word-behind m g 1 (range .0), a .links-in);
+      in-heap = omega (arith, a .in-words, length-drop 4 (m .heap));
+      none-inside = λ h p q. a .none-inside h p (omega arith);
+    }
 
 pub no-start-zero : {m : Image} → HeapFilled m → isStart m 0 ≡ false
 no-start-zero {m} o = not-true _ (not-make (isStart m 0) (λ e. omega (arith, (o .start-range 0 e) .0)))
 
 pub laid : (m : Image) → HeapFilled m → ((g : ℕ) → marked m g ≡ true → isStart m g ≡ true) → Laid m
 laid m o marks = record {
-  apart = λ g h e e₁ l. apart g h e e₁ l (decLt h (g + size m g));
+  apart = λ g h e e₁ l. elim (start-beside (isStart m) g (size m g) (object-at m o g e .none-inside) h e₁) [ inl y ↦ absurd (omega arith) | inr y ↦ y ];
   inside = λ g e. let a = object-at m o g e in (a .links-in, a .in-heap);
   heap-length = o .heap-words;
   marks-start = marks;
 }
-  where
-    apart : (g h : ℕ) → isStart m g ≡ true → isStart m h ≡ true → g < h → Dec (h < g + size m g) → g + size m g ≤ h
-    apart g h e e₁ l (yes x) = false≢ (sym ((object-at m o g e) .none-inside h l x) ∙ e₁)
-    apart g h e e₁ l (no x) = omega arith
 
 -- two words of objects are one only if object and place are
 pub same-place : (m : Image) → Laid m → (g h i j : ℕ) → isStart m g ≡ true → isStart m h ≡ true → i < 4 * size m g → j < 4 * size m h → 4 * g + i ≡ 4 * h + j → (g ≡ h) × (i ≡ j)
-same-place m d g h i j sg sh li lj e = cs (decLt g h) (decLt h g)
-  where
-    cs : Dec (g < h) → Dec (h < g) → (g ≡ h) × (i ≡ j)
-    cs (yes lt) b = absurd (omega (arith, d .apart g h sg sh lt))
-    cs (no x) (yes lt) = absurd (omega (arith, d .apart h g sh sg lt))
-    cs (no x) (no y) = (omega arith, omega arith)
+same-place m d g h i j sg sh li lj e = elim (decLt g h) [
+  | yes lt ↦ absurd (omega (arith, d .apart g h sg sh lt))
+  | no x ↦ elim (decLt h g) [ yes lt ↦ absurd (omega (arith, d .apart h g sh sg lt)) | no y ↦ (omega arith, omega arith) ]
+]
