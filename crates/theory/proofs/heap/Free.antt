@@ -1,5 +1,6 @@
 -- Free granules: those of the run chain are all that no object has, and a finish adds what it says.
 use mathlib.Core.Path.{_≡_, refl, _∙_}
+use mathlib.Core.Logic.{inl, inr}
 use mathlib.Core.Bool.{Bool, true, false, cond}
 use mathlib.Core.List.{List, [], _∷_, _++_}
 use Prim.Native.Nat.{ℕ, zero, suc, _+_, _*_, _≤_, _<_}
@@ -7,6 +8,7 @@ use native.Mathlib.Decide.{ℕ-discrete}
 use native.Mathlib.Omega.{arith}
 use lib.ListN.{length, getD, length-append, length-drop}
 use Rattle.model.specs.Image.{Image, granules, word, isStart}
+use Rattle.model.proofs.Laws.{bool-cases}
 use Rattle.model.specs.Mutate.{freeFrom, freeGranules}
 use Rattle.model.specs.Finish.{runTail, Swept, swept, sweep, finishWith}
 use Rattle.theory.specs.Heap.{runWords, Bare, Filled, f-end, f-object, f-run, HeapFilled, HeapSized}
@@ -82,42 +84,31 @@ module _ (st keep : ℕ → Bool) (kept : (g : ℕ) → keep g ≡ true → st g
   bare-kept : (g s : ℕ) → Bare st g s → Bare keep g s
   bare-kept g s ba h p q = not-kept st keep kept h (ba h p q)
 
-  none-freed : (n g : ℕ) → e ≡ g → Balance g ((sweep st keep (suc n) g []) .freed)
-  unfolding sweep
-  none-freed n g x = rw x (omega arith)
-
   -- what is freed, and what kept objects have, is what all objects have
-  freed-count : {g next : ℕ} {run : Bool} {ws : List ℕ} (n : ℕ) → Filled st g ws next run → Reads rd g ws → 4 * g + length ws ≡ 4 * e → length ws < 4 * n → Balance g ((sweep st keep n g ws) .freed)
+  freed-count : {g next : ℕ} {run : Bool} {ws : List ℕ} (n : ℕ) → Filled st g ws next run → Reads rd g ws → 4 * g + length ws ≡ 4 * e → length ws < 4 * n
+      → Balance g ((sweep st keep n g ws) .freed)
+  unfolding swept sweep
   freed-count zero f a q l = absurd (omega arith)
-  freed-count {g} (suc n) f-end a q l = none-freed n g (omega arith)
+  freed-count {g} (suc n) f-end a q l = let x : e ≡ g = omega arith in rw x (omega arith)
   freed-count {g} (suc n) (f-object s ws rest t o ba f) a q l =
+      let j : length (ws ++ rest) ≡ length ws + length rest = length-append ws rest in
+      let ih = freed-count n f (reads-behind st rd e g s (s ∷ ws) rest (o .long) a) (omega arith) (omega arith) in
+      let w : rd g 0 ≡ s = front st rd e g 0 ((s ∷ ws) ++ rest) a ∙ nth-head s (ws ++ rest) in
+      let all-past : sumBelow (sizes st rd) (g + s) ≡ sumBelow (sizes st rd) g + s = omega (arith, total-past st rd g s (omega arith) ba, sizes-yes st rd g t) in
+      let kept-past = total-past keep rd g s (omega arith) (bare-kept g s ba) in
       rw (sweep-piece st keep kept n g s ws rest (o .long))
-      (go (freed-count n f (reads-behind st rd e g s (s ∷ ws) rest (o .long) a) (omega (arith, length-append ws rest, o .long)) (omega (arith, length-append ws rest, o .long))) (keep g) refl)
-    where
-      r : Swept
-      r = sweep st keep n (g + s) rest
-
-      w : rd g 0 ≡ s
-      w = front st rd e g 0 ((s ∷ ws) ++ rest) a ∙ nth-head s (ws ++ rest)
-
-      all-past : sumBelow (sizes st rd) (g + s) ≡ sumBelow (sizes st rd) g + s
-      all-past = omega (arith, total-past st rd g s (omega (arith, o .long)) ba, sizes-yes st rd g t, w)
-
-      kept-past : sumBelow (sizes keep rd) (g + s) ≡ sumBelow (sizes keep rd) g + sizes keep rd g
-      kept-past = total-past keep rd g s (omega (arith, o .long)) (bare-kept g s ba)
-
-      go : Balance (g + s) (r .freed) → (k : Bool) → keep g ≡ k → Balance g ((swept st g s (s ∷ ws) k r) .freed)
-      go ih true k = unfold swept in omega (arith, ih, all-past, kept-past, sizes-yes keep rd g k, w)
-      go ih false k = unfold swept in rw t (omega (arith, ih, all-past, kept-past, sizes-no keep rd g k))
+      (elim (bool-cases (keep g)) [
+        | inl k ↦ rw k (omega (arith, ih, kept-past, sizes-yes keep rd g k))
+        | inr k ↦ rw (k, t) (omega (arith, ih, kept-past, sizes-no keep rd g k))
+      ])
   freed-count {g} (suc n) (f-run i next rest t ba f) a q l =
-      rw (sweep-piece st keep kept n g (suc i) (runTail i next) rest (length-run i next), not-kept st keep kept g t)
-      (go (freed-count n f (reads-behind st rd e g (suc i) (runWords i next) rest (length-run i next) a) (omega (arith, length-append (runTail i next) rest, length-run i next)) (omega (arith, length-append (runTail i next) rest, length-run i next))))
-    where
-      r : Swept
-      r = sweep st keep n (g + suc i) rest
-
-      go : Balance (g + suc i) (r .freed) → Balance g ((swept st g (suc i) (runWords i next) false r) .freed)
-      go ih = unfold swept in rw t (omega (arith, ih, total-past st rd g (suc i) (omega arith) ba, total-past keep rd g (suc i) (omega arith) (bare-kept g (suc i) ba), sizes-no st rd g t, sizes-no keep rd g (not-kept st keep kept g t)))
+      let r : suc (length (runTail i next)) ≡ 4 * suc i = length-run i next in
+      let j : length (runTail i next ++ rest) ≡ length (runTail i next) + length rest = length-append (runTail i next) rest in
+      let ih = freed-count n f (reads-behind st rd e g (suc i) (runWords i next) rest r a) (omega arith) (omega arith) in
+      let no : keep g ≡ false = not-kept st keep kept g t in
+      let all-past = total-past st rd g (suc i) (omega arith) ba in
+      let kept-past = total-past keep rd g (suc i) (omega arith) (bare-kept g (suc i) ba) in
+      rw (sweep-piece st keep kept n g (suc i) (runTail i next) rest r, no, t) (omega (arith, ih, all-past, kept-past, sizes-no st rd g t, sizes-no keep rd g no))
 
 module _ (m : Image) (keep : List Bool) (o : HeapFilled m) (z : HeapSized m) (kept : (g : ℕ) → getD keep g false ≡ true → isStart m g ≡ true) where
   same-granules : granules ((finishWith m keep) .image) ≡ granules m
@@ -126,11 +117,10 @@ module _ (m : Image) (keep : List Bool) (o : HeapFilled m) (z : HeapSized m) (ke
 
   used-kept : usedGranules ((finishWith m keep) .image) ≡ sumBelow (sizes (λ g. getD keep g false) (word m)) (granules m)
   unfolding usedGranules
-  used-kept = rw same-granules (total-ext _ _ (granules m) (λ g h. rw (finish-starts m keep o z kept g) (same g (getD keep g false) refl)))
-    where
-      same : (g : ℕ) (k : Bool) → getD keep g false ≡ k → cond k (word ((finishWith m keep) .image) g 0) 0 ≡ cond k (word m g 0) 0
-      same g true e = finish-words m keep o z kept g 0 e (omega (arith, (object-at m o g (kept g e)) .sized))
-      same g false e = refl
+  used-kept = rw same-granules (total-ext _ _ (granules m) (λ g h. rw (finish-starts m keep o z kept g) (elim (bool-cases (getD keep g false)) [
+    | inl e ↦ rw e (finish-words m keep o z kept g 0 e (omega (arith, (object-at m o g (kept g e)) .sized)))
+    | inr e ↦ rw e
+  ])))
 
   value-freed : Balance (isStart m) (λ g. getD keep g false) kept (word m) (granules m) 1 ((finishWith m keep) .value)
   unfolding finishWith
@@ -140,6 +130,7 @@ module _ (m : Image) (keep : List Bool) (o : HeapFilled m) (z : HeapSized m) (ke
 
   -- the free granules grow by what a finish says
   pub finish-value : (finishWith m keep) .value + freeGranules m ≡ freeGranules ((finishWith m keep) .image)
+  unfolding usedGranules
   finish-value =
       omega (
         arith,
@@ -147,11 +138,7 @@ module _ (m : Image) (keep : List Bool) (o : HeapFilled m) (z : HeapSized m) (ke
         used-kept,
         same-granules,
         free-count m o z,
-        all-used,
         free-count ((finishWith m keep) .image) (finish-filled m keep o z kept) (finish-sized m keep o z kept),
         total-one (isStart m) (word m) (no-start-zero o),
         total-one (λ g. getD keep g false) (word m) (not-kept (isStart m) (λ g. getD keep g false) kept 0 (no-start-zero o)),
       )
-    where
-      all-used : usedGranules m ≡ sumBelow (sizes (isStart m) (word m)) (granules m)
-      all-used = unfold usedGranules in refl

@@ -30,43 +30,24 @@ module _ (st : ℕ → Bool) (rd : ℕ → ℕ → ℕ) (e : ℕ) where
   pub pieces-of : {g next : ℕ} {b : Bool} {ws : List ℕ} → Filled st g ws next b → Reads rd g ws → 4 * g + length ws ≡ 4 * e → Pieces st rd e g next b
   pieces-of {g} {b = b} f-end a q = let x : e ≡ g = omega arith in subst (λ y. Pieces st rd e y 0 b) x at-end
   pieces-of {g} {next} {b} (f-object s ws rest t o ba f) a q =
-      at-object here (subst (λ x. Pieces st rd e (g + x) next false) (sym w) (pieces-of f (reads-behind g s (s ∷ ws) rest (o .long) a) (omega (arith, length-append ws rest, o .long))))
-    where
-      w : rd g 0 ≡ s
-      w = front g 0 ((s ∷ ws) ++ rest) a ∙ nth-head s (ws ++ rest)
-
-      w₁ : rd g 1 ≡ nth ws 0
-      w₁ = front g 1 ((s ∷ ws) ++ rest) a ∙ (second s (ws ++ rest) 0 ∙ nth-left ws rest 0 (omega (arith, o .long)))
-
-      here : ObjectHere st rd e g
-      here = record {
-        starts = t;
-        long = omega (arith, w, o .long);
-        few = omega (arith, w, o .few);
-        links-fit = omega (arith, w, w₁, o .links-fit, o .long);
-        ends = omega (arith, w, o .long, length-append ws rest);
-        alone = rw w ba;
-      }
+      let w : rd g 0 ≡ s = front g 0 ((s ∷ ws) ++ rest) a ∙ nth-head s (ws ++ rest) in
+      let w₁ : rd g 1 ≡ nth ws 0 = front g 1 ((s ∷ ws) ++ rest) a ∙ (second s (ws ++ rest) 0 ∙ nth-left ws rest 0 (omega (arith, o .long))) in
+      at-object (record { starts = t; long = omega arith; few = omega arith; links-fit = omega arith; ends = omega (arith, length-append ws rest); alone = rw w ba })
+      (subst (λ x. Pieces st rd e (g + x) next false) (sym w) (pieces-of f (reads-behind g s (s ∷ ws) rest (o .long) a) (omega (arith, length-append ws rest))))
   pieces-of {g} (f-run n next rest t ba f) a q =
-      at-run here (rw (w, w₁) (pieces-of f (reads-behind g (suc n) (runWords n next) rest (length-run n next) a) (omega (arith, length-append (runTail n next) rest, length-run n next))))
-    where
-      w : rd g 0 ≡ suc n
-      w = front g 0 (runWords n next ++ rest) a ∙ nth-head (suc n) _
-
-      w₁ : rd g 1 ≡ next
-      w₁ = front g 1 (runWords n next ++ rest) a ∙ run-next n next rest
-
-      here : RunHere st rd e g
-      here = record {
+      let w : rd g 0 ≡ suc n = front g 0 (runWords n next ++ rest) a ∙ nth-head (suc n) _ in
+      let w₁ : rd g 1 ≡ next = front g 1 (runWords n next ++ rest) a ∙ run-next n next rest in
+      let r : suc (length (runTail n next)) ≡ 4 * suc n = length-run n next in
+      let zeros : (i : ℕ) → i < 4 * suc n - 2 → nth (runWords n next ++ rest) (2 + i) ≡ 0 =
+      λ i l. let z : 2 + i ≡ suc (suc i) = omega arith in rw z (second (suc n) (runTail n next ++ rest) (suc i) ∙ run-zero n next rest i l) in
+      at-run (record {
         no-start = t;
-        long = omega (arith, w);
-        ends = omega (arith, w, length-run n next, length-append (runTail n next) rest);
+        long = omega arith;
+        ends = omega (arith, length-append (runTail n next) rest);
         alone = rw w ba;
-        zero-words = λ i l. front g (2 + i) (runWords n next ++ rest) a ∙ (two i ∙ run-zero n next rest i (omega (arith, w)));
-      }
-        where
-          two : (i : ℕ) → nth (runWords n next ++ rest) (2 + i) ≡ nth (runTail n next ++ rest) (suc i)
-          two i = let z : 2 + i ≡ suc (suc i) = omega arith in ap (nth (runWords n next ++ rest)) z ∙ second (suc n) (runTail n next ++ rest) (suc i)
+        zero-words = λ i l. front g (2 + i) (runWords n next ++ rest) a ∙ zeros i (omega arith);
+      })
+      (rw (w, w₁) (pieces-of f (reads-behind g (suc n) (runWords n next) rest r a) (omega (arith, length-append (runTail n next) rest))))
 
   reads-drop : (g s : ℕ) (ws : List ℕ) → Reads rd g ws → Reads rd (g + s) (drop (4 * s) ws)
   reads-drop g s ws a h i p = let z : 4 * s + (4 * (h - (g + s)) + i) ≡ 4 * (h - g) + i = omega arith in nth-drop (4 * s) ws _ ∙ (ap (nth ws) z ∙ a h i (omega arith))

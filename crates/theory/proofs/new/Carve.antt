@@ -21,16 +21,8 @@ place-past m (past-run o l p) = omega (arith, place-past m p)
 place-past m (place-here o l p) = omega arith
 
 place-order : (m : Image) {b x next last r before : ℕ} {f : Bool} → PlaceIn m b x next f last r before → (before ≡ last) ⊎ (x ≤ before)
-place-order m {x = x} {last = last} {before = before} (past-object o p) = cs (place-order m p)
-  where
-    cs : (before ≡ last) ⊎ (x + word m x 0 ≤ before) → (before ≡ last) ⊎ (x ≤ before)
-    cs (inl e) = inl e
-    cs (inr l) = inr (omega arith)
-place-order m {x = x} {last = last} {before = before} (past-run o k p) = cs (place-order m p)
-  where
-    cs : (before ≡ x) ⊎ (x + word m x 0 ≤ before) → (before ≡ last) ⊎ (x ≤ before)
-    cs (inl e) = inr (omega arith)
-    cs (inr l) = inr (omega arith)
+place-order m (past-object o p) = elim (place-order m p) [ inl e ↦ inl e | inr l ↦ inr (omega arith) ]
+place-order m (past-run o k p) = elim (place-order m p) [ inl e ↦ inr (omega arith) | inr l ↦ inr (omega arith) ]
 place-order m (place-here o l p) = inl refl
 
 pub place-below : (m : Image) {b x next last r before : ℕ} {f : Bool} → PlaceIn m b x next f last r before → last < x → before < r
@@ -113,30 +105,23 @@ module _ (m n : Image) (b c r before next : ℕ) (w : Carved m n b c r before ne
       long = omega (arith, w .left-size l);
       ends = omega (arith, w .left-size l, o .ends);
       alone = λ h p q. w .start-old h (λ e. omega arith) ∙ o .alone h (omega arith) (omega (arith, w .left-size l));
-      zero-words = λ i k. zero i (omega (arith, w .left-size l));
+      zero-words = λ i k.
+          let same : word n (r + b) (2 + i) ≡ word m (r + b) (2 + i) =
+          unfold word in w .others (4 * (r + b) + (2 + i)) (λ e. omega arith) (λ e. omega arith) (λ u e. omega arith) (λ k. ((λ e. omega arith), (λ e. omega arith))) in
+          let shift : word m (r + b) (2 + i) ≡ word m r (2 + (4 * b + i)) = unfold word in ap (nth (m .heap)) (omega arith) in
+          same ∙ (shift ∙ o .zero-words (4 * b + i) (omega (arith, w .left-size l)));
     }
-      where
-        zero : (i : ℕ) → 4 * b + (2 + i) < 4 * word m r 0 → word n (r + b) (2 + i) ≡ 0
-        zero i k = same i ∙ (shift i ∙ o .zero-words (4 * b + i) (omega arith))
-          where
-            same : (i : ℕ) → word n (r + b) (2 + i) ≡ word m (r + b) (2 + i)
-            same i = unfold word in w .others (4 * (r + b) + (2 + i)) (λ e. omega arith) (λ e. omega arith) (λ u e. omega arith) (λ k. ((λ e. omega arith), (λ e. omega arith)))
-
-            shift : (i : ℕ) → word m (r + b) (2 + i) ≡ word m r (2 + (4 * b + i))
-            shift i = unfold word in ap (nth (m .heap)) (omega arith)
 
     here : PiecesIn m (r + word m r 0) (word m r 1) true → Now r next false
-    here p = at-object {next = next} object-here (rw (w .size-new) (cs (ℕ-discrete (word m r 0) b)))
-      where
-        rest : Now (r + word m r 0) (word m r 1) true
-        rest = behind lb p (omega arith)
-
-        cs : Dec (word m r 0 ≡ b) → Now (r + b) next false
-        cs (yes e) = rw (w .none-left e) (rw e at (loosen (isStart n) (word n) (granules m) rest))
-        cs (no e) =
-            let l : b < word m r 0 = omega arith in
-            let j : r + word m r 0 ≡ r + b + word n (r + b) 0 = omega (arith, w .left-size l) in
-            rw (w .left-next l) (at-run (left-here l) (rw (w .left-pointer l, ← j) rest))
+    here p =
+        let rest : Now (r + word m r 0) (word m r 1) true = behind lb p (omega arith) in
+        at-object {next = next} object-here (rw (w .size-new) (elim (ℕ-discrete (word m r 0) b) [
+          | yes e ↦ rw (w .none-left e) (rw e at (loosen (isStart n) (word n) (granules m) rest))
+          | no e ↦
+              let l : b < word m r 0 = omega arith in
+              let j : r + word m r 0 ≡ r + b + word n (r + b) 0 = omega (arith, w .left-size l) in
+              rw (w .left-next l) (at-run (left-here l) (rw (w .left-pointer l, ← j) rest))
+        ]))
 
   -- ---- all pieces, from granule x on, behind the run `last`
 
@@ -149,11 +134,8 @@ module _ (m n : Image) (b c r before next : ℕ) (w : Carved m n b c r before ne
   object-before : (x last : ℕ) → ObjectIn m x → x + word m x 0 ≤ r → last < x → (before ≡ last) ⊎ (x + word m x 0 ≤ before) → Obj x × (word n x 0 ≡ word m x 0)
   object-before x last o past h d =
       let e : word n x 0 ≡ word m x 0 = word-before x 0 (omega (arith, o .long)) (λ q. omega arith) in
-      (object-same x (λ q. omega (arith, o .long)) e (word-before x 1 (omega (arith, o .long)) (λ q. off d (omega arith))) (λ i u v q. omega arith) o, e)
-    where
-      off : (before ≡ last) ⊎ (x + word m x 0 ≤ before) → x ≡ before → ⊥
-      off (inl y) q = omega arith
-      off (inr y) q = omega (arith, o .long)
+      let off : x ≡ before → ⊥ = λ q. elim d [ inl y ↦ omega arith | inr y ↦ omega (arith, o .long) ] in
+      (object-same x (λ q. omega (arith, o .long)) e (word-before x 1 (omega (arith, o .long)) (λ q. off (omega arith))) (λ i u v q. omega arith) o, e)
 
   record RunBefore (x : ℕ) : Type 0 where
     pub stays : Run x
@@ -162,22 +144,18 @@ module _ (m n : Image) (b c r before next : ℕ) (w : Carved m n b c r before ne
     pub at-or-past : x ≤ before
 
   run-before : (x : ℕ) → 1 ≤ x → RunIn m x → x + word m x 0 ≤ r → (before ≡ x) ⊎ (x + word m x 0 ≤ before) → RunBefore x
-  run-before x hx o past d = record { stays = run-same x (λ q. omega (arith, o .long)) e (λ i k. word-before x (2 + i) (omega arith) (off i k d)) (λ i u v q. omega arith) o; same-size = e; points = points d; at-or-past = up d }
-    where
-      e : word n x 0 ≡ word m x 0
-      e = word-before x 0 (omega (arith, o .long)) (λ q. omega arith)
-
-      off : (i : ℕ) → 2 + i < 4 * word m x 0 → (before ≡ x) ⊎ (x + word m x 0 ≤ before) → 4 * x + (2 + i) ≡ 4 * before + 1 → ⊥
-      off i k (inl y) q = omega arith
-      off i k (inr y) q = omega arith
-
-      points : (before ≡ x) ⊎ (x + word m x 0 ≤ before) → word n x 1 ≡ following before next x (word m x 1)
-      points (inl y) = ap (λ y. word n y 1) (sym y) ∙ (w .pointer (λ q. omega arith) ∙ sym (same-last x (word m x 1) (sym y)))
-      points (inr y) = word-before x 1 (omega (arith, o .long)) (λ q. omega (arith, o .long)) ∙ sym (other-last x (word m x 1) (λ q. omega (arith, o .long)))
-
-      up : (before ≡ x) ⊎ (x + word m x 0 ≤ before) → x ≤ before
-      up (inl y) = omega arith
-      up (inr y) = omega arith
+  run-before x hx o past d =
+      let e : word n x 0 ≡ word m x 0 = word-before x 0 (omega (arith, o .long)) (λ q. omega arith) in
+      let off : (i : ℕ) → 2 + i < 4 * word m x 0 → 4 * x + (2 + i) ≡ 4 * before + 1 → ⊥ = λ i k q. elim d [ inl y ↦ omega arith | inr y ↦ omega arith ] in
+      record {
+        stays = run-same x (λ q. omega (arith, o .long)) e (λ i k. word-before x (2 + i) (omega arith) (off i k)) (λ i u v q. omega arith) o;
+        same-size = e;
+        points = elim d [
+          | inl y ↦ ap (λ y. word n y 1) (sym y) ∙ (w .pointer (λ q. omega arith) ∙ sym (same-last x (word m x 1) (sym y)))
+          | inr y ↦ word-before x 1 (omega (arith, o .long)) (λ q. omega (arith, o .long)) ∙ sym (other-last x (word m x 1) (λ q. omega (arith, o .long)))
+        ];
+        at-or-past = elim d [ inl y ↦ omega arith | inr y ↦ omega arith ];
+      }
 
   pub carve : {x nx last : ℕ} {f : Bool} → b ≤ 1024 → c + 2 ≤ 4 * b → PlaceIn m b x nx f last r before → last < x → Now x (following before next last nx) f
   carve {x} {nx} {last} few fits (past-object o p) h =
