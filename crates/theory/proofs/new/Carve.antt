@@ -131,38 +131,25 @@ module _ (m n : Image) (b c r before next : ℕ) (w : Carved m n b c r before ne
   same-last : (last now : ℕ) → last ≡ before → following before next last now ≡ next
   same-last last now e = rw (eq-eqb last before e)
 
-  object-before : (x last : ℕ) → ObjectIn m x → x + word m x 0 ≤ r → last < x → (before ≡ last) ⊎ (x + word m x 0 ≤ before) → Obj x × (word n x 0 ≡ word m x 0)
-  object-before x last o past h d =
-      let e : word n x 0 ≡ word m x 0 = word-before x 0 (omega (arith, o .long)) (λ q. omega arith) in
-      let off : x ≡ before → ⊥ = λ q. elim d [ inl y ↦ omega arith | inr y ↦ omega (arith, o .long) ] in
-      (object-same x (λ q. omega (arith, o .long)) e (word-before x 1 (omega (arith, o .long)) (λ q. off (omega arith))) (λ i u v q. omega arith) o, e)
-
-  record RunBefore (x : ℕ) : Type 0 where
-    pub stays : Run x
-    pub same-size : word n x 0 ≡ word m x 0
-    pub points : word n x 1 ≡ following before next x (word m x 1)
-    pub at-or-past : x ≤ before
-
-  run-before : (x : ℕ) → 1 ≤ x → RunIn m x → x + word m x 0 ≤ r → (before ≡ x) ⊎ (x + word m x 0 ≤ before) → RunBefore x
-  run-before x hx o past d =
-      let e : word n x 0 ≡ word m x 0 = word-before x 0 (omega (arith, o .long)) (λ q. omega arith) in
-      let off : (i : ℕ) → 2 + i < 4 * word m x 0 → 4 * x + (2 + i) ≡ 4 * before + 1 → ⊥ = λ i k q. elim d [ inl y ↦ omega arith | inr y ↦ omega arith ] in
-      record {
-        stays = run-same x (λ q. omega (arith, o .long)) e (λ i k. word-before x (2 + i) (omega arith) (off i k)) (λ i u v q. omega arith) o;
-        same-size = e;
-        points = elim d [
-          | inl y ↦ ap (λ y. word n y 1) (sym y) ∙ (w .pointer (λ q. omega arith) ∙ sym (same-last x (word m x 1) (sym y)))
-          | inr y ↦ word-before x 1 (omega (arith, o .long)) (λ q. omega (arith, o .long)) ∙ sym (other-last x (word m x 1) (λ q. omega (arith, o .long)))
-        ];
-        at-or-past = elim d [ inl y ↦ omega arith | inr y ↦ omega arith ];
-      }
-
   pub carve : {x nx last : ℕ} {f : Bool} → b ≤ 1024 → c + 2 ≤ 4 * b → PlaceIn m b x nx f last r before → last < x → Now x (following before next last nx) f
   carve {x} {nx} {last} few fits (past-object o p) h =
-      let k = object-before x last o (place-past m p) h (place-order m p) in
-      at-object {next = following before next last nx} (k .0) (rw (k .1) (carve few fits p (omega arith)))
+      let past : x + word m x 0 ≤ r = place-past m p in
+      let e : word n x 0 ≡ word m x 0 = word-before x 0 (omega (arith, o .long)) (λ q. omega arith) in
+      let off : x ≡ before → ⊥ = λ q. elim (place-order m p) [ inl y ↦ omega arith | inr y ↦ omega (arith, o .long) ] in
+      at-object {next = following before next last nx}
+      (object-same x (λ q. omega (arith, o .long)) e (word-before x 1 (omega (arith, o .long)) (λ q. off (omega arith))) (λ i u v q. omega arith) o)
+      (rw e (carve few fits p (omega arith)))
   carve {x} {last = last} few fits (past-run o l p) h =
-      let k : RunBefore x = run-before x (omega arith) o (place-past m p) (place-order m p) in
-      subst (λ y. Now x y false) (sym (other-last last x (λ q. omega (arith, k .at-or-past))))
-      (at-run (k .stays) (rw (k .same-size, k .points) (carve few fits p (omega (arith, o .long)))))
+      let past : x + word m x 0 ≤ r = place-past m p in
+      let d = place-order m p in
+      let up : x ≤ before = elim d [ inl y ↦ omega arith | inr y ↦ omega arith ] in
+      let e : word n x 0 ≡ word m x 0 = word-before x 0 (omega (arith, o .long)) (λ q. omega arith) in
+      let off : (i : ℕ) → 2 + i < 4 * word m x 0 → 4 * x + (2 + i) ≡ 4 * before + 1 → ⊥ = λ i k q. elim d [ inl y ↦ omega arith | inr y ↦ omega arith ] in
+      let points : word n x 1 ≡ following before next x (word m x 1) = elim d [
+        | inl y ↦ ap (λ y. word n y 1) (sym y) ∙ (w .pointer (λ q. omega arith) ∙ sym (same-last x (word m x 1) (sym y)))
+        | inr y ↦ word-before x 1 (omega (arith, o .long)) (λ q. omega (arith, o .long)) ∙ sym (other-last x (word m x 1) (λ q. omega (arith, o .long)))
+      ] in
+      subst (λ y. Now x y false) (sym (other-last last x (λ q. omega arith)))
+      (at-run (run-same x (λ q. omega (arith, o .long)) e (λ i k. word-before x (2 + i) (omega arith) (off i k)) (λ i u v q. omega arith) o)
+      (rw (e, points) (carve few fits p (omega (arith, o .long)))))
   carve {x} {last = last} few fits (place-here o l p) h = subst (λ y. Now x y false) (sym (same-last last x refl)) (here o l few fits p)
