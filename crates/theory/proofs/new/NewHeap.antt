@@ -39,18 +39,14 @@ module _ (m : Image) (g before b c : ℕ) where
   placed-granules = ap granules placed-sections ∙ (unfold granules in refl)
 
   pub placed-first : 2 ≤ length (m .general) → firstRun (placed m g before b c) ≡ following before (nextOf m g b run-left) 0 (firstRun m)
-  placed-first l = same ∙ take-first m g before b run-left l
-    where
-      same : firstRun (placed m g before b c) ≡ firstRun taken
-      same = unfold placed firstRun setStart setWord withHeap withStarts in refl
+  placed-first l =
+      let same : firstRun (placed m g before b c) ≡ firstRun taken = unfold placed firstRun setStart setWord withHeap withStarts in refl in
+      same ∙ take-first m g before b run-left l
 
-  pub placed-general-word : (i : ℕ) → (i ≡ 1 → ⊥) → nth ((placed m g before b c) .general) i ≡ nth (m .general) i
+  pub placed-general : ((i : ℕ) → (i ≡ 1 → ⊥) → nth ((placed m g before b c) .general) i ≡ nth (m .general) i)
+      × (length ((placed m g before b c) .general) ≡ length (m .general))
   unfolding placed setStart setWord withHeap withStarts
-  placed-general-word = (take-only m g before b run-left) .general-word
-
-  pub placed-general-length : length ((placed m g before b c) .general) ≡ length (m .general)
-  unfolding placed setStart setWord withHeap withStarts
-  placed-general-length = (take-only m g before b run-left) .general-length
+  placed-general = let k = take-only m g before b run-left in (k .general-word, k .general-length)
 
   pub placed-starts-length : length ((placed m g before b c) .starts) ≡ length (m .starts)
   placed-starts-length = ap (λ x. length (x .starts)) placed-sections ∙ (unfold setBit in length-put (m .starts) _ _)
@@ -58,12 +54,9 @@ module _ (m : Image) (g before b c : ℕ) where
   pub placed-sized : HeapSized m → HeapSized (placed m g before b c)
   placed-sized z = record {
     some-granules = rw placed-granules (z .some-granules);
-    start-words = λ h l. rw (placed-width, placed-starts-length) (z .start-words h (rw placed-granules at l));
-    general-words = rw placed-general-length (z .general-words);
+    start-words = λ h l. rw (ap (λ x. x .width) placed-sections, placed-starts-length) (z .start-words h (rw placed-granules at l));
+    general-words = rw (placed-general .1) (z .general-words);
   }
-    where
-      placed-width : (placed m g before b c) .width ≡ m .width
-      placed-width = ap (λ x. x .width) placed-sections
 
   placed-start : (h : ℕ) → isStart (placed m g before b c) h ≡ bit (m .width) (setBit (m .width) (m .starts) g) h
   placed-start h = ap (λ x. isStart x h) placed-sections ∙ (unfold isStart in refl)
@@ -80,14 +73,12 @@ module _ (m : Image) (g before b c : ℕ) where
     taken-length : length (taken .heap) ≡ 4 * granules m
     taken-length = take-length m g before b run-left ∙ len
 
-    placed-size : word (placed m g before b c) g 0 ≡ b
+    placed-words : (word (placed m g before b c) g 0 ≡ b) × (word (placed m g before b c) g 1 ≡ c)
     unfolding placed setStart setWord withHeap withStarts word
-    placed-size =
-        nth-put-other (put (taken .heap) (4 * g + 0) b) (4 * g + 1) (4 * g + 0) c (λ e. omega arith) ∙ nth-put-same (taken .heap) (4 * g + 0) b (omega (arith, taken-length, o .ends))
-
-    placed-links : word (placed m g before b c) g 1 ≡ c
-    unfolding placed setStart setWord withHeap withStarts word
-    placed-links = nth-put-same (put (taken .heap) (4 * g + 0) b) (4 * g + 1) c (omega (arith, length-put (taken .heap) (4 * g + 0) b, taken-length, o .ends))
+    placed-words = (
+      nth-put-other (put (taken .heap) (4 * g + 0) b) (4 * g + 1) (4 * g + 0) c (omega arith) ∙ nth-put-same (taken .heap) (4 * g + 0) b (omega (arith, taken-length)),
+      nth-put-same (put (taken .heap) (4 * g + 0) b) (4 * g + 1) c (omega (arith, length-put (taken .heap) (4 * g + 0) b, taken-length)),
+    )
 
     some-left : b < word m g 0 → (word (placed m g before b c) (g + b) 0 ≡ run-left) × (word (placed m g before b c) (g + b) 1 ≡ word m g 1)
     unfolding word
@@ -96,30 +87,17 @@ module _ (m : Image) (g before b c : ℕ) where
         (placed-nth (4 * (g + b) + 0) (λ e. omega arith) (λ e. omega arith) ∙ k .0, placed-nth (4 * (g + b) + 1) (λ e. omega arith) (λ e. omega arith) ∙ k .1)
 
     pub placed-carved : Carved m (placed m g before b c) b c g before (nextOf m g b run-left)
+    unfolding nextOf
     placed-carved = record {
       same-granules = placed-granules;
       start-new = placed-start g ∙ setBit-same (m .width) (m .starts) g (z .start-words g (omega (arith, o .ends)));
       start-old = λ h ne. placed-start h ∙ (setBit-other (m .width) (m .starts) g h ne ∙ (unfold isStart in refl));
-      size-new = placed-size;
-      links-new = placed-links;
-      left-next = λ l. next-left run-left (omega (arith, is-left));
-      left-size = λ l. omega (arith, (some-left l) .0, is-left);
+      size-new = placed-words .0;
+      links-new = placed-words .1;
+      left-next = λ l. let e : run-left ≡ suc (run-left - 1) = omega arith in rw e;
+      left-size = λ l. omega (arith, (some-left l) .0);
       left-pointer = λ l. (some-left l) .1;
-      none-left = λ e. next-none run-left (omega (arith, is-left));
-      pointer = λ nz. points nz;
-      others = λ x n₀ n₁ nb nl. placed-nth x n₀ n₁ ∙ take-nth m g before b run-left x nb (λ l. nl (omega (arith, is-left)));
+      none-left = λ e. let e : run-left ≡ 0 = omega arith in rw e;
+      pointer = λ nz. unfold word in placed-nth (4 * before + 1) (omega arith) (omega arith) ∙ take-pointer m g before b run-left nz (omega arith);
+      others = λ x n₀ n₁ nb nl. placed-nth x n₀ n₁ ∙ take-nth m g before b run-left x nb (λ l. nl (omega arith));
     }
-      where
-        is-left : run-left + b ≡ word m g 0
-        is-left = omega arith
-
-        next-left : (l : ℕ) → 1 ≤ l → nextOf m g b l ≡ g + b
-        next-left zero h = absurd (omega arith)
-        next-left (suc l) h = unfold nextOf in refl
-
-        next-none : (l : ℕ) → l ≡ 0 → nextOf m g b l ≡ word m g 1
-        next-none zero h = unfold nextOf in refl
-        next-none (suc l) h = absurd (omega arith)
-
-        points : (before ≡ 0 → ⊥) → word (placed m g before b c) before 1 ≡ nextOf m g b run-left
-        points nz = unfold word in placed-nth (4 * before + 1) (λ e. omega arith) (λ e. omega arith) ∙ take-pointer m g before b run-left nz (omega (arith, len, o .ends))

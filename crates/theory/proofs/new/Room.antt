@@ -38,7 +38,10 @@ module _ (m : Image) (b : ℕ) where
 
   blocked-object : (x r : ℕ) → 1 ≤ b → ObjectIn m x → Blocked m b (x + word m x 0) r → Blocked m b x r
   unfolding size
-  blocked-object x r hb o rest u l q s = elim (decLt u (x + word m x 0)) [ yes y ↦ (s u (omega arith) (omega arith)) .in-no-object x (o .starts) l y | no y ↦ rest u (omega arith) q s ]
+  blocked-object x r hb o rest u l q s = elim (decLt u (x + word m x 0)) [
+    | yes y ↦ (s u (omega arith) (omega arith)) .in-no-object x (o .starts) l y
+    | no y ↦ rest u (omega arith) q s
+  ]
 
   blocked-run : (x r : ℕ) → word m x 0 < b → (x + word m x 0 ≡ granules m) ⊎ ObjectIn m (x + word m x 0) → Blocked m b (x + word m x 0) r → Blocked m b x r
   unfolding size
