@@ -1,8 +1,8 @@
 -- Free granules: those of the run chain are all that no object has, and a finish adds what it says.
 use mathlib.Core.Path.{_≡_, refl, _∙_}
 use mathlib.Core.Logic.{inl, inr}
-use mathlib.Core.Bool.{Bool, true, false, cond}
-use mathlib.Core.List.{List, [], _∷_, _++_}
+use mathlib.Core.Bool.{Bool, true, false}
+use mathlib.Core.List.{List, _∷_, _++_}
 use Prim.Native.Nat.{ℕ, zero, suc, _+_, _*_, _≤_, _<_}
 use native.Mathlib.Decide.{ℕ-discrete}
 use native.Mathlib.Omega.{arith}
@@ -10,7 +10,7 @@ use lib.ListN.{length, getD, length-append, length-drop}
 use Rattle.model.specs.Image.{Image, granules, word, isStart}
 use Rattle.model.proofs.Laws.{bool-cases}
 use Rattle.model.specs.Mutate.{freeFrom, freeGranules}
-use Rattle.model.specs.Finish.{runTail, Swept, swept, sweep, finishWith}
+use Rattle.model.specs.Finish.{runTail, swept, sweep, finishWith}
 use Rattle.theory.specs.Heap.{runWords, Bare, Filled, f-end, f-object, f-run, HeapFilled, HeapSized}
 use Rattle.theory.specs.Pieces.{Reads, Pieces, at-end, at-object, at-run, sumBelow, sizes, usedGranules}
 use Rattle.theory.proofs.heap.Lists.{nth-head, length-run}

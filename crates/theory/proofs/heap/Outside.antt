@@ -1,13 +1,12 @@
 -- The free granules are those that are in no object.
-use mathlib.Core.Path.{_≡_, refl}
-use mathlib.Core.Logic.{_⊎_, inl, inr}
-use mathlib.Core.Bool.{Bool, true, false, cond, _&&_}
+use mathlib.Core.Path.{_≡_}
+use mathlib.Core.Logic.{inl, inr}
+use mathlib.Core.Bool.{Bool, true, false, cond}
 use Prim.Native.Nat.{ℕ, zero, suc, _+_, _*_, _≤_, _<_}
 use native.Mathlib.Decide.{ℕ-discrete}
 use native.Mathlib.Omega.{arith}
 use lib.Dec.{ltb}
 use borrow.Author.Tests.{ltb-true, lt-ltb}
-use Rattle.model.specs.Base.{any}
 use Rattle.model.specs.Image.{Image, granules, word, isStart, size}
 use Rattle.model.specs.Mutate.{freeFrom, freeGranules}
 use Rattle.model.proofs.Laws.{bool-cases, and-split, and-join, any-use, any-make}

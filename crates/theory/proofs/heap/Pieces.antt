@@ -11,7 +11,7 @@ use Rattle.model.specs.Image.{Image, granules, word, isStart, firstRun}
 use Rattle.model.specs.Finish.{runTail}
 use Rattle.model.proofs.Entries.{nth-drop}
 use Rattle.theory.specs.Heap.{runWords, Filled, f-end, f-object, f-run, HeapFilled, HeapSized}
-use Rattle.theory.specs.Pieces.{Reads, ObjectHere, RunHere, Pieces, at-end, at-object, at-run}
+use Rattle.theory.specs.Pieces.{Reads, ObjectHere, Pieces, at-end, at-object, at-run}
 use Rattle.theory.proofs.heap.Lists.{nth-head, nth-left, length-run, run-next, run-zero, nth-behind}
 use Rattle.theory.proofs.heap.Walk.{object-filled, run-filled, word-behind}
 

@@ -1,12 +1,12 @@
 -- The walk over the heap, as a test and by derivations; every start begins an object, and objects lie apart.
-use mathlib.Core.Path.{_≡_, refl, sym, ap, ap₂, subst, _∙_}
+use mathlib.Core.Path.{_≡_, refl, sym, ap, subst, _∙_}
 use mathlib.Core.Bool.{Bool, true, false, not, cond}
 use mathlib.Core.Logic.{_⊎_, inl, inr}
 use mathlib.Core.List.{List, [], _∷_, _++_}
 use Prim.Native.Nat.{ℕ, zero, suc, _+_, _*_, _-_, _≤_, _<_}
-use native.Mathlib.Decide.{ℕ-discrete, decLt}
+use native.Mathlib.Decide.{decLt}
 use native.Mathlib.Omega.{arith}
-use lib.ListN.{length, take, drop, replicate, take-append-drop, length-append, length-drop}
+use lib.ListN.{length, take, drop, take-append-drop, length-append, length-drop}
 use lib.Seq.{drop-at, length-take-le}
 use borrow.Author.Tests.{leb-true, eqb-true, le-leb, eq-eqb, not-true}
 use Rattle.model.specs.Base.{nth}
@@ -16,7 +16,7 @@ use Rattle.model.specs.Finish.{runTail}
 use Rattle.model.proofs.Laws.{bool-cases, every-use, every-cons, every-nil, all-use, all-make, false≢, not-make}
 use Rattle.model.proofs.Entries.{nth-drop, nth-take}
 use Rattle.theory.specs.Heap.{ObjectPiece, runWords, Bare, Filled, f-end, f-object, f-run, At, HeapFilled, ObjectAt, Laid}
-use Rattle.theory.proofs.heap.Lists.{nth-head, nth-left, zeros-take, length-run, run-zero, nth-behind, head-behind}
+use Rattle.theory.proofs.heap.Lists.{nth-left, zeros-take, length-run, run-zero, nth-behind, head-behind}
 
 -- ---- what the test says
 

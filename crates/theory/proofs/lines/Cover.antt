@@ -3,16 +3,15 @@ use mathlib.Core.Path.{_≡_}
 use mathlib.Core.Logic.{⊎-elim}
 use mathlib.Core.Bool.{Bool, true}
 use mathlib.Core.List.{List, _∷_}
-use Prim.Native.Nat.{ℕ, _/_, _<_}
+use Prim.Native.Nat.{ℕ}
 use native.Mathlib.Omega.{arith}
-use lib.Dec.{eqb}
 use borrow.Author.Tests.{leb-true, eqb-true, le-leb, eq-eqb}
 use Rattle.model.specs.Base.{some}
-use Rattle.model.specs.Image.{Image, granules, marked, links, link, dirty, count, entry, entries}
+use Rattle.model.specs.Image.{Image, granules, links, count, entry, entries}
 use Rattle.model.specs.Undamaged.{entered, linkToCome, granuleToCome, owedWith, covered, cover}
 use Rattle.model.proofs.Laws.{every-use, every-cons, every-nil, some-use, some-nil, some-make, all-use, all-make, any-use, any-make, imp-use, imp-make}
 use Rattle.model.proofs.Entries.{entries-use, entries-make}
-use Rattle.theory.specs.Cover.{Coming, on-dirty, on-entry, on-hand, on-card, Owes, owes-by, Covered, to-nil, to-marked, is-coming, is-owed, Cover, Counted}
+use Rattle.theory.specs.Cover.{on-dirty, on-entry, on-hand, on-card, Owes, owes-by, Covered, to-nil, to-marked, is-coming, is-owed, Cover, Counted}
 
 owes-use : (m : Image) (g a : ℕ) → owedWith m g a ≡ true → Owes m g a
 unfolding owedWith

@@ -1,7 +1,7 @@
 -- Cover where cards, packets or tracers are written: what each write keeps of it.
 use mathlib.Core.Path.{_≡_, refl, sym, ap, subst, _∙_}
 use mathlib.Core.Logic.{_⊎_, inl, inr}
-use mathlib.Core.Bool.{Bool, true, false, cond}
+use mathlib.Core.Bool.{true, false}
 use mathlib.Core.List.{List}
 use Prim.Native.Nat.{ℕ, zero, suc, _+_, _*_, _/_, _≤_, _<_, zero-le}
 use native.Mathlib.Decide.{ℕ-discrete}
@@ -10,11 +10,11 @@ use lib.Dec.{eqb}
 use lib.ListN.{length}
 use borrow.Author.Tests.{eqb-true}
 use Rattle.model.specs.Base.{put, some, nth}
-use Rattle.model.specs.Image.{Image, isDirty, granules, word, marked, links, link, state, dirty, reg, count, entry, hand, nextLink, handCard, nextGranule, owed, withCards, withPackets, withTracers, dirtyState, setState, dirtyCard, setTracer, fields-open}
+use Rattle.model.specs.Image.{Image, isDirty, granules, word, marked, links, link, state, dirty, reg, count, entry, hand, nextLink, handCard, nextGranule, owed, withCards, withTracers, dirtyState, setState, dirtyCard, setTracer, fields-open}
 use Rattle.model.specs.Collect.{pop, putHand, takeObject, putCard, takeCard}
-use Rattle.model.proofs.Laws.{false≢, bool-cases, nth-put-same, nth-put-other, length-put}
+use Rattle.model.proofs.Laws.{false≢, bool-cases, nth-put-same, nth-put-other}
 use Rattle.theory.specs.Cover.{Coming, Covered, Cover, on-dirty, on-entry, on-hand, on-card, owes-by, to-nil, to-marked, is-coming, is-owed}
-use Rattle.theory.specs.Lines.{entryIn, Enters, PacketsOk, NilOr, Marked}
+use Rattle.theory.specs.Lines.{entryIn, PacketsOk, NilOr, Marked}
 use Rattle.theory.proofs.lines.Packets.{popped, pop-on}
 use Rattle.theory.proofs.lines.Sections.{two, two-off, two-is}
 

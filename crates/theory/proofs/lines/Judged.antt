@@ -1,20 +1,20 @@
 -- "Undamaged" as the model tests it, and as its lines: the law each way.
-use mathlib.Core.Path.{_≡_, refl, sym, ap, subst, _∙_}
+use mathlib.Core.Path.{_≡_, refl, ap, _∙_}
 use mathlib.Core.Logic.{inl, inr}
 use mathlib.Core.Bool.{true, not}
-use mathlib.Core.List.{List, [], _∷_}
+use mathlib.Core.List.{List}
 use Prim.Native.Nat.{ℕ, suc, _+_, _*_, _≤_, _<_}
 use native.Mathlib.Decide.{ℕ-discrete, decLt}
 use native.Mathlib.Omega.{arith}
 use lib.Dec.{eqb}
 use lib.ListN.{length}
 use borrow.Author.Tests.{ltb-true, leb-true, eqb-true, eqb-false, not-true, lt-ltb, le-leb, eq-eqb, ne-eqb}
-use Rattle.model.specs.Base.{nth, all, every, zeroes}
+use Rattle.model.specs.Base.{nth, all}
 use Rattle.model.specs.Image.{Image, granules, word, isStart, marked, links, link, state, count, owed, scanned, running, firstRun}
 use Rattle.model.specs.Undamaged.{zeroGranule, filled, nilOrStart, linksOk, regOk, playerOk, cardOk, markOk, generalOk, idleOk, sound, undamaged}
 use Rattle.model.proofs.Laws.{nth-out, imp-use, imp-make, either-no, either-make, all-use, all-make, every-use, every-nil, every-cons, zeroes-use, zeroes-make}
 use Rattle.theory.specs.Cover.{Counted}
-use Rattle.theory.specs.Lines.{PlayersOk, NilOr, MarksOk, GeneralOk, HeapOk, Start, Marked, Lines, Idle, Sound, Undamaged, Sizes}
+use Rattle.theory.specs.Lines.{PlayersOk, NilOr, GeneralOk, HeapOk, Start, Marked, Lines, Idle, Sound, Undamaged, Sizes}
 use Rattle.theory.proofs.lines.Cover.{cover-use, cover-make}
 use Rattle.theory.proofs.lines.Tests.{packets-use, packets-make, tracers-use, tracers-make}
 

@@ -1,14 +1,13 @@
 -- The lines that read tracers, cards, players, registers or marks, where one of their words is written.
 use mathlib.Core.Path.{_≡_, sym, _∙_}
 use mathlib.Core.Logic.{inl, inr}
-use mathlib.Core.Bool.{true}
 use mathlib.Core.List.{List}
 use Prim.Native.Nat.{ℕ, zero, suc, _+_, _*_, _≤_, _<_}
 use native.Mathlib.Decide.{ℕ-discrete}
 use native.Mathlib.Omega.{arith}
 use lib.ListN.{length}
 use lib.Seq.{set-comm}
-use Rattle.model.specs.Base.{nth, put, bit, setBit}
+use Rattle.model.specs.Base.{nth, put, setBit}
 use Rattle.model.specs.Image.{dirtyState}
 use Rattle.model.proofs.Bits.{setBit-other}
 use Rattle.model.proofs.Laws.{nth-put-same, nth-put-other, length-put}

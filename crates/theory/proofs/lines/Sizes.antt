@@ -1,5 +1,5 @@
 -- The sizes of the sections of an image that fits, and that an image with the lines fits.
-use mathlib.Core.Path.{_≡_, refl, ap, _∙_}
+use mathlib.Core.Path.{_≡_, ap, _∙_}
 use mathlib.Core.Logic.{_⊎_, inl, inr}
 use mathlib.Core.List.{map}
 use Prim.Native.Nat.{ℕ, _≤_, _*_, _<_, _/_}

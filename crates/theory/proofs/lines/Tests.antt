@@ -1,20 +1,20 @@
 -- The tests on packets and tracers say what their lines say: the law each way.
-use mathlib.Core.Path.{_≡_, refl, sym, ap, subst, _∙_}
+use mathlib.Core.Path.{_≡_, refl, sym, ap, _∙_}
 use mathlib.Core.Bool.{Bool, true}
 use mathlib.Core.Logic.{inl, inr}
-use mathlib.Core.List.{List, [], _∷_}
+use mathlib.Core.List.{List}
 use Prim.Native.Nat.{ℕ, zero, suc, _+_, _*_, _/_, _%_, _≤_, _<_}
 use native.Mathlib.Decide.{ℕ-discrete, decLt}
 use native.Mathlib.Omega.{arith}
-use lib.Dec.{leb, ltb, eqb}
+use lib.Dec.{ltb, eqb}
 use lib.ListN.{length, take, drop}
 use borrow.Author.Tests.{ltb-true, ltb-false, leb-true, eqb-true, eqb-false, not-true, lt-ltb, le-ltb, le-leb, eq-eqb, ne-eqb}
-use Rattle.model.specs.Base.{nth, all, every, either, distinct, eachPiece}
+use Rattle.model.specs.Base.{nth, all, either, distinct, eachPiece}
 use Rattle.model.specs.Image.{Image, granules, word, marked, links, state, entries, hand, nextLink, handCard, nextGranule}
 use Rattle.model.specs.Undamaged.{entryOk, packetOk, heldAt, heldOnce, handOk, handCardOk, tracerOk}
 use Rattle.model.proofs.Laws.{bool-cases, either-yes, either-no, either-make, not-make, all-use, all-make, every-use, every-nil, every-cons}
 use Rattle.model.proofs.Entries.{nth-drop, nth-take, eachPiece-use, eachPiece-make}
-use Rattle.theory.specs.Lines.{countIn, entryIn, PacketsOk, Pair, Never, TracersOk, Marked, InHand, CardInHand, none, one}
+use Rattle.theory.specs.Lines.{countIn, entryIn, PacketsOk, Pair, TracersOk, Marked, InHand, CardInHand, none, one}
 use Rattle.theory.proofs.lines.Distinct.{once-use, once-make}
 
 -- ---- packets

@@ -9,9 +9,9 @@ use native.Mathlib.Omega.{arith}
 use lib.Dec.{leb}
 use borrow.Author.Tests.{leb-true, leb-false}
 use Rattle.model.specs.Image.{Image, granules, word, isStart, size, firstRun}
-use Rattle.model.specs.Mutate.{Room, fit, roomFor}
+use Rattle.model.specs.Mutate.{fit, roomFor}
 use Rattle.theory.specs.Heap.{HeapFilled, HeapSized}
-use Rattle.theory.specs.Pieces.{at-end, at-object, at-run, past-object, past-run, place-here, ObjectIn, PiecesIn, PlaceIn, RunApart, Clear, Unused, Stretch, Blocked}
+use Rattle.theory.specs.Pieces.{at-end, at-object, at-run, past-object, past-run, place-here, ObjectIn, PiecesIn, PlaceIn, RunApart, Clear, Stretch, Blocked}
 use Rattle.theory.proofs.heap.Pieces.{behind-run, image-pieces}
 use Rattle.theory.proofs.heap.Unused.{clear-object, clear-run, run-apart, run-unused, clear-one}
 
