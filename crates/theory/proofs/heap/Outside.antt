@@ -45,24 +45,18 @@ module _ (m : Image) where
   abbrev out : ℕ → ℕ
   out y = cond (inObject m y) 0 1
 
-  out-object : (x y : ℕ) → isStart m x ≡ true → x ≤ y → y < x + word m x 0 → out y ≡ 0
-  unfolding size
-  out-object x y e l q = rw (object-inside x y e l q)
-
-  out-run : (r y : ℕ) → RunApart m r → r ≤ y → y < r + word m r 0 → out y ≡ 1
-  out-run r y a l q = rw (none-inside y ((run-unused m r y a l q) .in-no-object))
-
   chain-outside : {x next : ℕ} {b : Bool} (n : ℕ) → PiecesIn m x next b → 1 ≤ x → Clear m x → granules m ≤ x + n → sumBelow out (granules m) ≡ freeFrom m n next + sumBelow out x
-  unfolding freeFrom
+  unfolding freeFrom size
   chain-outside n at-end h c l = omega (arith, chain-end m n)
   chain-outside {x} n (at-object o p) h c l =
       let ih = chain-outside n p (omega arith) (clear-object m x o c) (omega arith) in
-      omega (arith, ih, total-same out 0 x (x + word m x 0) (omega arith) (λ y p q. out-object x y (o .starts) p q))
+      omega (arith, ih, total-same out 0 x (x + word m x 0) (omega arith) (λ y p q. rw (object-inside x y (o .starts) p q)))
   chain-outside zero (at-run o p) h c l = absurd (omega (arith, o .ends, o .long))
   chain-outside {x = zero} (suc n) (at-run o p) h c l = absurd (omega arith)
   chain-outside {x = suc x} (suc n) (at-run o p) h c l =
       let ih = chain-outside n p (omega arith) (clear-run m (suc x) o c) (omega (arith, o .long)) in
-      omega (arith, ih, total-same out 1 (suc x) (suc x + word m (suc x) 0) (omega arith) (λ y p q. out-run (suc x) y (run-apart m (suc x) h o c) p q))
+      let a = run-apart m (suc x) h o c in
+      omega (arith, ih, total-same out 1 (suc x) (suc x + word m (suc x) 0) (omega arith) (λ y p q. rw (none-inside y (run-unused m (suc x) y a p q .in-no-object))))
 
   -- the chain has just the granules that are in no object, but granule 0
   pub free-outside : HeapFilled m → HeapSized m → freeGranules m + 1 ≡ granulesOutside m

@@ -5,6 +5,7 @@ use mathlib.Core.Logic.{_⊎_, inl, inr}
 use mathlib.Core.List.{List, [], _∷_, _++_}
 use Prim.Native.Nat.{ℕ, zero, suc, _+_, _*_, _-_, _≤_, _<_}
 use native.Mathlib.Decide.{decLt}
+use native.Mathlib.Nat.{add-zero}
 use native.Mathlib.Omega.{arith}
 use lib.ListN.{length, take, drop, take-append-drop, length-append, length-drop}
 use lib.Seq.{drop-at, length-take-le}
@@ -178,8 +179,7 @@ unfolding size links
 object-at m o g e =
     let range : (1 ≤ g) × (g < granules m) = o .start-range g e in
     let a = starts-at (o .heap-filled) g (range .0) (omega (arith, length-drop 4 (m .heap))) e in
-    let z : 4 * (g - 1) ≡ 4 * (g - 1) + 0 = omega arith in
-    let w : nth (drop 4 (m .heap)) (4 * (g - 1)) ≡ word m g 0 = ap (nth (drop 4 (m .heap))) z ∙ word-behind m g 0 (range .0) in
+    let w : nth (drop 4 (m .heap)) (4 * (g - 1)) ≡ word m g 0 = simp add-zero at (word-behind m g 0 (range .0)) in
     record {
       sized = rw w at (a .size-pos);
       links-in = omega (arith, word-behind m g 1 (range .0), a .links-in);

@@ -55,14 +55,11 @@ pairs-set {P} {a} {ts} k l t x y ht ha ok = record {
   ];
 }
 
-held-other : {ts : List ℕ} → HeldOk ts → (t b v : ℕ) → b < 8 → 2 ≤ b → HeldOk (put ts (8 * t + b) v)
-held-other {ts} k t b v hb h = record {
-  held = λ u i hu hi. rw (same u i hi) (k .held u i hu hi);
-  once = λ u i w j p hu hw hi hj e f. k .once u i w j p hu hw hi hj (sym (same u i hi) ∙ e) (sym (same w j hj) ∙ f);
+held-other : {ts : List ℕ} → HeldOk ts → (t a x y : ℕ) → (2 ≤ a) × (a < 7) → HeldOk (two ts t a x y)
+held-other {ts} k t a x y h = record {
+  held = λ u i hu hi. rw (two-off ts t a x y u i (omega arith)) (k .held u i hu hi);
+  once = λ u i w j p hu hw hi hj e f. k .once u i w j p hu hw hi hj (sym (two-off ts t a x y u i (omega arith)) ∙ e) (sym (two-off ts t a x y w j (omega arith)) ∙ f);
 }
-  where
-    same : (u i : ℕ) → i < 2 → nth (put ts (8 * t + b) v) (8 * u + i) ≡ nth ts (8 * u + i)
-    same u i hi = nth-put-other ts (8 * t + b) (8 * u + i) v (omega arith)
 
 -- taking a packet that is held nowhere else keeps held-once
 held-set : {ts : List ℕ} → HeldOk ts → length ts ≡ 64 → (t i v : ℕ) → t < 8 → i < 2 → v ≤ 32
@@ -96,7 +93,7 @@ module _ {Hd Cd : ℕ → ℕ → Type 0} {ts : List ℕ} (k : TracersOk Hd Cd t
   pub hand-ok : (g i : ℕ) → Pair Hd g i → TracersOk Hd Cd (put (put ts (8 * t + 2) g) (8 * t + 3) i)
   hand-ok g i ok = record {
     sized = simp length-put (k .sized);
-    places = held-other (held-other (k .places) t 2 g (omega arith) (omega arith)) t 3 i (omega arith) (omega arith);
+    places = held-other (k .places) t 2 g i (omega arith);
     hands = pairs-set (k .hands) (k .sized) t g i ht (omega arith) ok;
     handCards = pairs-other (pairs-other (k .handCards) t 2 g (omega arith)) t 3 i (omega arith);
     spare = pairs-other (pairs-other (k .spare) t 2 g (omega arith)) t 3 i (omega arith);
@@ -106,7 +103,7 @@ module _ {Hd Cd : ℕ → ℕ → Type 0} {ts : List ℕ} (k : TracersOk Hd Cd t
   pub card-ok : (c n : ℕ) → Pair Cd c n → TracersOk Hd Cd (put (put ts (8 * t + 4) c) (8 * t + 5) n)
   card-ok c n ok = record {
     sized = simp length-put (k .sized);
-    places = held-other (held-other (k .places) t 4 c (omega arith) (omega arith)) t 5 n (omega arith) (omega arith);
+    places = held-other (k .places) t 4 c n (omega arith);
     hands = pairs-other (pairs-other (k .hands) t 4 c (omega arith)) t 5 n (omega arith);
     handCards = pairs-set (k .handCards) (k .sized) t c n ht (omega arith) ok;
     spare = pairs-other (pairs-other (k .spare) t 4 c (omega arith)) t 5 n (omega arith);

@@ -26,7 +26,7 @@ fits-sizes m f = record {
   marks-size = here marksAt;
   starts-in = λ g e. bit-within (m .width) (64 * m .k) (m .starts) g (here startsAt) e;
   marks-in = λ g e. bit-within (m .width) (64 * m .k) (m .marks) g (here marksAt) e;
-  marks-room = λ g h. rw (here marksAt) (bit-word (m .width) (m .k) g w h);
+  marks-room = λ g h. rw (here marksAt) (bit-word (m .width) (m .k) g (width-cases (m .width) (m .k) (f .some-card) (f .few-cards)) h);
   cards-size = here cardsAt;
   regs-size = here regsAt;
   packets-size = here packetsAt;
@@ -37,9 +37,6 @@ fits-sizes m f = record {
   where
     here : (i : ℕ) → getD (map length (sections m)) i 0 ≡ getD (lengths (m .width) (m .k)) i 0
     here i = ap (λ l. getD l i 0) (f .section-lengths)
-
-    w : (m .width ≡ 16) ⊎ (m .width ≡ 32)
-    w = width-cases (m .width) (m .k) (f .some-card) (f .few-cards)
 
 -- the lines give the lengths
 pub lines-fits : {m : Image} → Lines m → m .k ≤ mostCards (m .width) → Fits m

@@ -3,8 +3,9 @@ use mathlib.Core.Path.{_≡_, refl, sym, ap, _∙_}
 use mathlib.Core.Bool.{Bool, true}
 use mathlib.Core.Logic.{inl, inr}
 use mathlib.Core.List.{List}
-use Prim.Native.Nat.{ℕ, zero, suc, _+_, _*_, _/_, _%_, _≤_, _<_}
+use Prim.Native.Nat.{ℕ, zero, suc, _+_, _*_, _-_, _/_, _%_, _≤_, _<_}
 use native.Mathlib.Decide.{ℕ-discrete, decLt}
+use native.Mathlib.Nat.{add-zero}
 use native.Mathlib.Omega.{arith}
 use lib.Dec.{ltb, eqb}
 use lib.ListN.{length, take, drop}
@@ -139,18 +140,17 @@ module _ (m : Image) where
   pub tracers-make : ((g : ℕ) → Marked m g → g < 64 * m .k) → TracersOk (InHand m) (CardInHand m) (m .tracers) → (all 8 (tracerOk m) ≡ true) × (all 16 (heldOnce m) ≡ true)
   unfolding tracerOk heldOnce heldAt hand nextLink handCard nextGranule
   tracers-make r k = (
-    all-make 8 _ (λ t h. every-cons _ _ (le-leb _ _ (first t h)) (every-cons _ _ (le-leb _ _ (k .places .held t 1 h (omega arith)))
+    all-make 8 _ (λ t h. every-cons _ _ (le-leb _ _ (rw add-zero at (k .places .held t 0 h (omega arith))))
+        (every-cons _ _ (le-leb _ _ (k .places .held t 1 h (omega arith)))
         (every-cons _ _ (hand-make r _ _ (k .hands .pair t h)) (every-cons _ _ (card-make _ _ (k .handCards .pair t h))
         (every-cons _ _ (eq-eqb _ _ (spare t h .0)) (every-cons _ _ (eq-eqb _ _ (spare t h .1)) every-nil)))))),
-    all-make 16 _ (λ x h. either-make (eqb (heldAt m x) 0) true _ (λ _. refl) (λ n. all-make x _ (λ y l. not-make _ (λ q. apart x y h l (eqb-false _ _ n) (eqb-true _ _ q) (heldAt m x) refl)))),
+    all-make 16 _ (λ x h. either-make (eqb (heldAt m x) 0) true _ (λ _. refl) (λ n. all-make x _ (λ y l. not-make _ (λ q. apart x y h l (eqb-false _ _ n) (eqb-true _ _ q))))),
   )
     where
-      first : (t : ℕ) → t < 8 → nth (m .tracers) (8 * t) ≤ 32
-      first t h = let e : 8 * t ≡ 8 * t + 0 = omega arith in rw e (k .places .held t 0 h (omega arith))
-
       spare : (t : ℕ) → t < 8 → (nth (m .tracers) (8 * t + 6) ≡ 0) × (nth (m .tracers) (8 * t + 7) ≡ 0)
       spare t h = elim (k .spare .pair t h) [ none a b ↦ (a, b) | one n p ↦ elim p [ ] ]
 
-      apart : (x y : ℕ) → x < 16 → y < x → (heldAt m x ≡ 0 → ⊥) → heldAt m y ≡ heldAt m x → (v : ℕ) → heldAt m x ≡ v → ⊥
-      apart x y hx l n q zero e = n e
-      apart x y hx l n q (suc p) e = omega (arith, k .places .once (y / 2) (y % 2) (x / 2) (x % 2) p (omega arith) (omega arith) (omega arith) (omega arith) (q ∙ e) e)
+      apart : (x y : ℕ) → x < 16 → y < x → (heldAt m x ≡ 0 → ⊥) → heldAt m y ≡ heldAt m x → ⊥
+      apart x y hx l n q =
+          let e : heldAt m x ≡ suc (heldAt m x - 1) = omega arith in
+          omega (arith, k .places .once (y / 2) (y % 2) (x / 2) (x % 2) _ (omega arith) (omega arith) (omega arith) (omega arith) (q ∙ e) e)

@@ -19,11 +19,6 @@ use Rattle.theory.proofs.new.TakeRun.{take-nth, take-length, take-point
 on : Image → ℕ → ℕ → ℕ → Image
 on m g b c = setStart (setWord (setWord m g 0 b) g 1 c) g
 
-on-sections : (m t : Image) (g b c : ℕ) → OnlyFirst m t → on t g b c ≡ reheaped m ((on t g b c) .heap) (setBit (m .width) (m .starts) g) (t .general)
-unfolding on setStart setWord withHeap withStarts
-on-sections m t g b c k =
-    subst (λ x. on x g b c ≡ reheaped m ((on x g b c) .heap) (setBit (m .width) (m .starts) g) (x .general)) (sym (k .sections)) refl
-
 module _ (m : Image) (g before b c : ℕ) where
   abbrev pub run-left : ℕ
   run-left = word m g 0 - b
@@ -33,7 +28,8 @@ module _ (m : Image) (g before b c : ℕ) where
 
   pub placed-sections : placed m g before b c ≡ reheaped m ((placed m g before b c) .heap) (setBit (m .width) (m .starts) g) ((placed m g before b c) .general)
   unfolding placed on setStart setWord withHeap withStarts
-  placed-sections = on-sections m taken g b c (take-only m g before b run-left)
+  placed-sections =
+      subst (λ x. on x g b c ≡ reheaped m ((on x g b c) .heap) (setBit (m .width) (m .starts) g) (x .general)) (sym (take-only m g before b run-left .sections)) refl
 
   pub placed-granules : granules (placed m g before b c) ≡ granules m
   placed-granules = ap granules placed-sections ∙ (unfold granules in refl)

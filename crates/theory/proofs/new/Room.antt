@@ -18,14 +18,10 @@ use Rattle.theory.proofs.heap.Unused.{clear-object, clear-run, run-apar
 module _ (m : Image) (b : ℕ) where
   -- ---- what the walk of the run chain finds
 
-  chain-end : (n last g : ℕ) → (fit m b n last 0) .run ≡ suc g → ⊥
-  unfolding fit
-  chain-end zero last g e = omega arith
-  chain-end (suc n) last g e = omega arith
-
   pub fit-place : {x next : ℕ} {f : Bool} (n last g : ℕ) → PiecesIn m x next f → 1 ≤ x → (fit m b n last next) .run ≡ suc g → PlaceIn m b x next f last (suc g) ((fit m b n last next) .before)
   unfolding fit
-  fit-place n last g at-end h e = absurd (chain-end n last g e)
+  fit-place zero last g at-end h e = absurd (omega arith)
+  fit-place (suc n) last g at-end h e = absurd (omega arith)
   fit-place n last g (at-object o p) h e = past-object o (fit-place n last g p (omega arith) e)
   fit-place zero last g (at-run o p) h e = absurd (omega arith)
   fit-place {x = zero} (suc n) last g (at-run o p) h e = absurd (omega arith)
