@@ -58,12 +58,12 @@ chain-count : (m : Image) {x next : ℕ} {b : Bool} (n : ℕ) → Pieces (isStar
 unfolding freeFrom
 chain-count m n at-end h l = omega (arith, chain-end m n)
 chain-count m {x} {next} n (at-object o p) h l =
-    let ih = chain-count m n p (omega arith) (omega (arith, o .long)) in
+    let ih = chain-count m n p (omega arith) (omega arith) in
     omega (arith, ih, total-past (isStart m) (word m) x (word m x 0) (o .long) (o .alone), sizes-yes (isStart m) (word m) x (o .starts))
-chain-count m zero (at-run o p) h l = absurd (omega (arith, o .ends, o .long))
+chain-count m zero (at-run o p) h l = absurd (omega arith)
 chain-count m {x = zero} (suc n) (at-run o p) h l = absurd (omega arith)
 chain-count m {x = suc x} (suc n) (at-run o p) h l =
-    let ih = chain-count m n p (omega arith) (omega (arith, o .long)) in
+    let ih = chain-count m n p (omega arith) (omega arith) in
     omega (arith, ih, total-past (isStart m) (word m) (suc x) (word m (suc x) 0) (o .long) (o .alone), sizes-no (isStart m) (word m) (suc x) (o .no-start))
 
 total-one : (st : ℕ → Bool) (rd : ℕ → ℕ → ℕ) → st 0 ≡ false → sumBelow (sizes st rd) 1 ≡ 0

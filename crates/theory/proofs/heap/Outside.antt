@@ -51,10 +51,10 @@ module _ (m : Image) where
   chain-outside {x} n (at-object o p) h c l =
       let ih = chain-outside n p (omega arith) (clear-object m x o c) (omega arith) in
       omega (arith, ih, total-same out 0 x (x + word m x 0) (omega arith) (λ y p q. rw (object-inside x y (o .starts) p q)))
-  chain-outside zero (at-run o p) h c l = absurd (omega (arith, o .ends, o .long))
+  chain-outside zero (at-run o p) h c l = absurd (omega arith)
   chain-outside {x = zero} (suc n) (at-run o p) h c l = absurd (omega arith)
   chain-outside {x = suc x} (suc n) (at-run o p) h c l =
-      let ih = chain-outside n p (omega arith) (clear-run m (suc x) o c) (omega (arith, o .long)) in
+      let ih = chain-outside n p (omega arith) (clear-run m (suc x) o c) (omega arith) in
       let a = run-apart m (suc x) h o c in
       omega (arith, ih, total-same out 1 (suc x) (suc x + word m (suc x) 0) (omega arith) (λ y p q. rw (none-inside y (run-unused m (suc x) y a p q .in-no-object))))
 

@@ -31,7 +31,7 @@ module _ (st : ℕ → Bool) (rd : ℕ → ℕ → ℕ) (e : ℕ) where
   pieces-of {g} {b = b} f-end a q = let x : e ≡ g = omega arith in subst (λ y. Pieces st rd e y 0 b) x at-end
   pieces-of {g} {next} {b} (f-object s ws rest t o ba f) a q =
       let w : rd g 0 ≡ s = front g 0 ((s ∷ ws) ++ rest) a ∙ nth-head s (ws ++ rest) in
-      let w₁ : rd g 1 ≡ nth ws 0 = front g 1 ((s ∷ ws) ++ rest) a ∙ (second s (ws ++ rest) 0 ∙ nth-left ws rest 0 (omega (arith, o .long))) in
+      let w₁ : rd g 1 ≡ nth ws 0 = front g 1 ((s ∷ ws) ++ rest) a ∙ (second s (ws ++ rest) 0 ∙ nth-left ws rest 0 (omega arith)) in
       at-object (record { starts = t; long = omega arith; few = omega arith; links-fit = omega arith; ends = omega (arith, length-append ws rest); alone = rw w ba })
       (subst (λ x. Pieces st rd e (g + x) next false) (sym w) (pieces-of f (reads-behind g s (s ∷ ws) rest (o .long) a) (omega (arith, length-append ws rest))))
   pieces-of {g} (f-run n next rest t ba f) a q =
@@ -55,14 +55,14 @@ module _ (st : ℕ → Bool) (rd : ℕ → ℕ → ℕ) (e : ℕ) where
   pub filled-of : {g next : ℕ} {b : Bool} → Pieces st rd e g next b → (ws : List ℕ) → Reads rd g ws → 4 * g + length ws ≡ 4 * e → Filled st g ws next b
   filled-of at-end [] a q = f-end
   filled-of at-end (x ∷ ws) a q = absurd (omega arith)
-  filled-of (at-object o p) [] a q = absurd (omega (arith, o .ends, o .long))
+  filled-of (at-object o p) [] a q = absurd (omega arith)
   filled-of {g} {next} {b} (at-object o p) (x ∷ ws) a q =
       let w : rd g 0 ≡ x = front g 0 (x ∷ ws) a ∙ nth-head x ws in
       let w₁ : rd g 1 ≡ nth ws 0 = front g 1 (x ∷ ws) a ∙ second x ws 0 in
       object-filled st g x ws next b (o .starts) (omega (arith, w, o .long)) (omega (arith, w, o .ends)) (rw w at (o .alone)) (omega (arith, w, o .few)) (omega (arith, w, w₁, o .links-fit))
       (subst (λ y. Filled st (g + y) (drop (4 * y) (x ∷ ws)) next false) w
       (filled-of p (drop (4 * rd g 0) (x ∷ ws)) (reads-drop g (rd g 0) (x ∷ ws) a) (omega (arith, length-drop (4 * rd g 0) (x ∷ ws), o .ends))))
-  filled-of (at-run o p) [] a q = absurd (omega (arith, o .ends, o .long))
+  filled-of (at-run o p) [] a q = absurd (omega arith)
   filled-of {g} (at-run o p) (x ∷ ws) a q =
       let w : rd g 0 ≡ x = front g 0 (x ∷ ws) a ∙ nth-head x ws in
       let w₁ : rd g 1 ≡ nth ws 0 = front g 1 (x ∷ ws) a ∙ second x ws 0 in

@@ -82,11 +82,11 @@ fill-use st (suc n) g (s ∷ ws) next b e = elim (bool-cases (piece st g s ws ne
 object-ok : (st : ℕ → Bool) (g s : ℕ) (ws rest : List ℕ) (next : ℕ) (b : Bool) → ObjectPiece s ws → Bare st g s → piece st g s (ws ++ rest) next b true ≡ true
 unfolding piece
 object-ok st g s ws rest next b o ba =
-    every-cons _ _ (le-leb 1 s (omega (arith, o .long)))
+    every-cons _ _ (le-leb 1 s (omega arith))
     (every-cons _ _ (le-leb (4 * s) _ (omega (arith, o .long, length-append ws rest)))
     (every-cons _ _ (bare-make st g s ba)
     (every-cons _ _ (le-leb _ _ (o .few))
-    (every-cons _ _ (le-leb _ (4 * s - 2) (rw (nth-left ws rest 0 (omega (arith, o .long))) (o .links-fit))) every-nil))))
+    (every-cons _ _ (le-leb _ (4 * s - 2) (rw (nth-left ws rest 0 (omega arith)) (o .links-fit))) every-nil))))
 
 run-ok : (st : ℕ → Bool) (g n : ℕ) (rest : List ℕ) (next : ℕ) → Bare st g (suc n) → piece st g (suc n) (runTail n next ++ rest) g false false ≡ true
 unfolding piece
@@ -143,7 +143,7 @@ first-at st g s h ws rest x o ba =
     let z : 4 * (h - g) ≡ 0 = omega arith in
     let w : nth ((s ∷ ws) ++ rest) (4 * (h - g)) ≡ s = ap (nth ((s ∷ ws) ++ rest)) z in
     let z₁ : 4 * (h - g) + 1 ≡ 1 = omega arith in
-    let w₁ : nth ((s ∷ ws) ++ rest) (4 * (h - g) + 1) ≡ nth ws 0 = ap (nth ((s ∷ ws) ++ rest)) z₁ ∙ nth-left ws rest 0 (omega (arith, o .long)) in
+    let w₁ : nth ((s ∷ ws) ++ rest) (4 * (h - g) + 1) ≡ nth ws 0 = ap (nth ((s ∷ ws) ++ rest)) z₁ ∙ nth-left ws rest 0 (omega arith) in
     record {
       size-pos = omega (arith, w, o .long);
       links-in = omega (arith, w, w₁, o .links-fit, o .long);

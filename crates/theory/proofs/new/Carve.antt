@@ -27,7 +27,7 @@ place-order m (place-here o l p) = inl refl
 
 pub place-below : (m : Image) {b x next last r before : ℕ} {f : Bool} → PlaceIn m b x next f last r before → last < x → before < r
 place-below m (past-object o p) h = place-below m p (omega arith)
-place-below m (past-run o l p) h = place-below m p (omega (arith, o .long))
+place-below m (past-run o l p) h = place-below m p (omega arith)
 place-below m (place-here o l p) h = h
 
 module _ (m n : Image) (b c r before next : ℕ) (w : Carved m n b c r before next) (hb : 1 ≤ b) (below : before < r) where
@@ -95,7 +95,7 @@ module _ (m n : Image) (b c r before next : ℕ) (w : Carved m n b c r before ne
       long = rw (w .size-new) hb;
       few = rw (w .size-new) few;
       links-fit = rw (w .size-new, w .links-new) fits;
-      ends = rw (w .size-new) (omega (arith, o .ends));
+      ends = rw (w .size-new) (omega arith);
       alone = rw (w .size-new) (bare-same r b (λ h p q e. omega arith) (λ h p q. o .alone h p (omega arith)));
     }
 
@@ -134,22 +134,22 @@ module _ (m n : Image) (b c r before next : ℕ) (w : Carved m n b c r before ne
   pub carve : {x nx last : ℕ} {f : Bool} → b ≤ 1024 → c + 2 ≤ 4 * b → PlaceIn m b x nx f last r before → last < x → Now x (following before next last nx) f
   carve {x} {nx} {last} few fits (past-object o p) h =
       let past : x + word m x 0 ≤ r = place-past m p in
-      let e : word n x 0 ≡ word m x 0 = word-before x 0 (omega (arith, o .long)) (λ q. omega arith) in
-      let off : x ≡ before → ⊥ = λ q. elim (place-order m p) [ inl y ↦ omega arith | inr y ↦ omega (arith, o .long) ] in
+      let e : word n x 0 ≡ word m x 0 = word-before x 0 (omega arith) (λ q. omega arith) in
+      let off : x ≡ before → ⊥ = λ q. elim (place-order m p) [ inl y ↦ omega arith | inr y ↦ omega arith ] in
       at-object {next = following before next last nx}
-      (object-same x (λ q. omega (arith, o .long)) e (word-before x 1 (omega (arith, o .long)) (λ q. off (omega arith))) (λ i u v q. omega arith) o)
+      (object-same x (λ q. omega arith) e (word-before x 1 (omega arith) (λ q. off (omega arith))) (λ i u v q. omega arith) o)
       (rw e (carve few fits p (omega arith)))
   carve {x} {last = last} few fits (past-run o l p) h =
       let past : x + word m x 0 ≤ r = place-past m p in
       let d = place-order m p in
       let up : x ≤ before = elim d [ inl y ↦ omega arith | inr y ↦ omega arith ] in
-      let e : word n x 0 ≡ word m x 0 = word-before x 0 (omega (arith, o .long)) (λ q. omega arith) in
+      let e : word n x 0 ≡ word m x 0 = word-before x 0 (omega arith) (λ q. omega arith) in
       let off : (i : ℕ) → 2 + i < 4 * word m x 0 → 4 * x + (2 + i) ≡ 4 * before + 1 → ⊥ = λ i k q. elim d [ inl y ↦ omega arith | inr y ↦ omega arith ] in
       let points : word n x 1 ≡ following before next x (word m x 1) = elim d [
         | inl y ↦ ap (λ y. word n y 1) (sym y) ∙ (w .pointer (λ q. omega arith) ∙ sym (same-last x (word m x 1) (sym y)))
-        | inr y ↦ word-before x 1 (omega (arith, o .long)) (λ q. omega (arith, o .long)) ∙ sym (other-last x (word m x 1) (λ q. omega (arith, o .long)))
+        | inr y ↦ word-before x 1 (omega arith) (λ q. omega arith) ∙ sym (other-last x (word m x 1) (λ q. omega arith))
       ] in
       subst (λ y. Now x y false) (sym (other-last last x (λ q. omega arith)))
-      (at-run (run-same x (λ q. omega (arith, o .long)) e (λ i k. word-before x (2 + i) (omega arith) (off i k)) (λ i u v q. omega arith) o)
-      (rw (e, points) (carve few fits p (omega (arith, o .long)))))
+      (at-run (run-same x (λ q. omega arith) e (λ i k. word-before x (2 + i) (omega arith) (off i k)) (λ i u v q. omega arith) o)
+      (rw (e, points) (carve few fits p (omega arith))))
   carve {x} {last = last} few fits (place-here o l p) h = subst (λ y. Now x y false) (sym (same-last last x refl)) (here o l few fits p)

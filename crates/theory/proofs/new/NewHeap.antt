@@ -86,7 +86,7 @@ module _ (m : Image) (g before b c : ℕ) where
     unfolding nextOf
     placed-carved = record {
       same-granules = placed-granules;
-      start-new = placed-start g ∙ setBit-same (m .width) (m .starts) g (z .start-words g (omega (arith, o .ends)));
+      start-new = placed-start g ∙ setBit-same (m .width) (m .starts) g (z .start-words g (omega arith));
       start-old = λ h ne. placed-start h ∙ (setBit-other (m .width) (m .starts) g h ne ∙ (unfold isStart in refl));
       size-new = placed-words .0;
       links-new = placed-words .1;

@@ -44,7 +44,7 @@ module _ (m : Image) (b : ℕ) where
   blocked-run x r hb k rest u l q s = elim (decLt u (x + word m x 0)) [
     | yes y ↦
         let a = s (x + word m x 0) (omega arith) (omega arith) in
-        elim k [ inl e ↦ omega (arith, a .in-range) | inr o ↦ a .in-no-object (x + word m x 0) (o .starts) (omega arith) (omega (arith, o .long)) ]
+        elim k [ inl e ↦ omega (arith, a .in-range) | inr o ↦ a .in-no-object (x + word m x 0) (o .starts) (omega arith) (omega arith) ]
     | no y ↦ rest u (omega arith) q s
   ]
 
@@ -52,13 +52,13 @@ module _ (m : Image) (b : ℕ) where
   unfolding fit
   none-blocked n last hb at-end h l e = λ u p q s. omega arith
   none-blocked {x} n last hb (at-object o p) h l e = blocked-object x (granules m) hb o (none-blocked n last hb p (omega arith) (omega arith) e)
-  none-blocked zero last hb (at-run o p) h l e = absurd (omega (arith, o .ends, o .long))
+  none-blocked zero last hb (at-run o p) h l e = absurd (omega arith)
   none-blocked {x = zero} (suc n) last hb (at-run o p) h l e = absurd (omega arith)
   none-blocked {x = suc x} (suc n) last hb (at-run o p) h l e = elim (bool-cases (leb b (word m (suc x) 0))) [
     | inl q ↦ absurd (omega (arith, rw (q, fit) at e))
     | inr q ↦
         blocked-run (suc x) (granules m) (leb-false _ _ q) (behind-run (isStart m) (word m) (granules m) p)
-        (none-blocked n (suc x) hb p (omega arith) (omega (arith, o .long)) (rw (q, fit) at e))
+        (none-blocked n (suc x) hb p (omega arith) (omega arith) (rw (q, fit) at e))
   ]
 
   place-object : {x next last r before : ℕ} → PlaceIn m b x next true last r before → ObjectIn m x
