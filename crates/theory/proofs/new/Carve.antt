@@ -44,11 +44,11 @@ module _ (m n : Image) (b c r before next : ℕ) (w : Carved m n b c r before ne
   -- words of granules before the run, but the pointer of the run before it
   pub word-before : (h i : ℕ) → 4 * h + i < 4 * r → (4 * h + i ≡ 4 * before + 1 → ⊥) → word n h i ≡ word m h i
   unfolding word
-  word-before h i l nb = w .others (4 * h + i) (λ e. omega arith) (λ e. omega arith) (λ u. nb) (λ k. ((λ e. omega arith), (λ e. omega arith)))
+  word-before h i l nb = w .others (4 * h + i) (omega arith) (omega arith) (λ u. nb) (λ k. omega arith)
 
   pub word-after : (h i : ℕ) → r + word m r 0 ≤ h → b ≤ word m r 0 → word n h i ≡ word m h i
   unfolding word
-  word-after h i l lb = w .others (4 * h + i) (λ e. omega arith) (λ e. omega arith) (λ u e. omega arith) (λ k. ((λ e. omega arith), (λ e. omega arith)))
+  word-after h i l lb = w .others (4 * h + i) (omega arith) (omega arith) (λ u. omega arith) (λ k. omega arith)
 
   bare-same : (x s : ℕ) → ((h : ℕ) → x < h → h < x + s → h ≡ r → ⊥) → Bare (isStart m) x s → Bare (isStart n) x s
   bare-same x s off ba h p q = w .start-old h (off h p q) ∙ ba h p q
@@ -79,11 +79,11 @@ module _ (m n : Image) (b c r before next : ℕ) (w : Carved m n b c r before ne
   behind lb at-end l = at-end
   behind {x} {nx} lb (at-object o p) l =
       let e : word n x 0 ≡ word m x 0 = word-after x 0 l lb in
-      at-object (object-same x (λ q. omega arith) e (word-after x 1 l lb) (λ h u v q. omega arith) o)
+      at-object (object-same x (omega arith) e (word-after x 1 l lb) (λ h u v. omega arith) o)
       (subst (λ y. Now (x + y) nx false) (sym e) (behind lb p (omega arith)))
   behind {x} lb (at-run o p) l =
       let e : word n x 0 ≡ word m x 0 = word-after x 0 l lb in
-      at-run (run-same x (λ q. omega arith) e (λ i k. word-after x (2 + i) l lb) (λ h u v q. omega arith) o)
+      at-run (run-same x (omega arith) e (λ i k. word-after x (2 + i) l lb) (λ h u v. omega arith) o)
       (rw (e, word-after x 1 l lb) (behind lb p (omega arith)))
 
   -- ---- the run itself
@@ -96,18 +96,18 @@ module _ (m n : Image) (b c r before next : ℕ) (w : Carved m n b c r before ne
       few = rw (w .size-new) few;
       links-fit = rw (w .size-new, w .links-new) fits;
       ends = rw (w .size-new) (omega arith);
-      alone = rw (w .size-new) (bare-same r b (λ h p q e. omega arith) (λ h p q. o .alone h p (omega arith)));
+      alone = rw (w .size-new) (bare-same r b (λ h p q. omega arith) (λ h p q. o .alone h p (omega arith)));
     }
 
     left-here : b < word m r 0 → Run (r + b)
     left-here l = record {
-      no-start = w .start-old (r + b) (λ e. omega arith) ∙ o .alone (r + b) (omega arith) (omega arith);
+      no-start = w .start-old (r + b) (omega arith) ∙ o .alone (r + b) (omega arith) (omega arith);
       long = omega (arith, w .left-size l);
       ends = omega (arith, w .left-size l, o .ends);
-      alone = λ h p q. w .start-old h (λ e. omega arith) ∙ o .alone h (omega arith) (omega (arith, w .left-size l));
+      alone = λ h p q. w .start-old h (omega arith) ∙ o .alone h (omega arith) (omega (arith, w .left-size l));
       zero-words = λ i k.
           let same : word n (r + b) (2 + i) ≡ word m (r + b) (2 + i) =
-          unfold word in w .others (4 * (r + b) + (2 + i)) (λ e. omega arith) (λ e. omega arith) (λ u e. omega arith) (λ k. ((λ e. omega arith), (λ e. omega arith))) in
+          unfold word in w .others (4 * (r + b) + (2 + i)) (omega arith) (omega arith) (λ u. omega arith) (λ k. omega arith) in
           let shift : word m (r + b) (2 + i) ≡ word m r (2 + (4 * b + i)) = unfold word in ap (nth (m .heap)) (omega arith) in
           same ∙ (shift ∙ o .zero-words (4 * b + i) (omega (arith, w .left-size l)));
     }
@@ -134,22 +134,22 @@ module _ (m n : Image) (b c r before next : ℕ) (w : Carved m n b c r before ne
   pub carve : {x nx last : ℕ} {f : Bool} → b ≤ 1024 → c + 2 ≤ 4 * b → PlaceIn m b x nx f last r before → last < x → Now x (following before next last nx) f
   carve {x} {nx} {last} few fits (past-object o p) h =
       let past : x + word m x 0 ≤ r = place-past m p in
-      let e : word n x 0 ≡ word m x 0 = word-before x 0 (omega arith) (λ q. omega arith) in
+      let e : word n x 0 ≡ word m x 0 = word-before x 0 (omega arith) (omega arith) in
       let off : x ≡ before → ⊥ = λ q. elim (place-order m p) [ inl y ↦ omega arith | inr y ↦ omega arith ] in
       at-object {next = following before next last nx}
-      (object-same x (λ q. omega arith) e (word-before x 1 (omega arith) (λ q. off (omega arith))) (λ i u v q. omega arith) o)
+      (object-same x (omega arith) e (word-before x 1 (omega arith) (λ q. off (omega arith))) (λ i u v. omega arith) o)
       (rw e (carve few fits p (omega arith)))
   carve {x} {last = last} few fits (past-run o l p) h =
       let past : x + word m x 0 ≤ r = place-past m p in
       let d = place-order m p in
       let up : x ≤ before = elim d [ inl y ↦ omega arith | inr y ↦ omega arith ] in
-      let e : word n x 0 ≡ word m x 0 = word-before x 0 (omega arith) (λ q. omega arith) in
+      let e : word n x 0 ≡ word m x 0 = word-before x 0 (omega arith) (omega arith) in
       let off : (i : ℕ) → 2 + i < 4 * word m x 0 → 4 * x + (2 + i) ≡ 4 * before + 1 → ⊥ = λ i k q. elim d [ inl y ↦ omega arith | inr y ↦ omega arith ] in
       let points : word n x 1 ≡ following before next x (word m x 1) = elim d [
-        | inl y ↦ ap (λ y. word n y 1) (sym y) ∙ (w .pointer (λ q. omega arith) ∙ sym (same-last x (word m x 1) (sym y)))
-        | inr y ↦ word-before x 1 (omega arith) (λ q. omega arith) ∙ sym (other-last x (word m x 1) (λ q. omega arith))
+        | inl y ↦ ap (λ y. word n y 1) (sym y) ∙ (w .pointer (omega arith) ∙ sym (same-last x (word m x 1) (sym y)))
+        | inr y ↦ word-before x 1 (omega arith) (omega arith) ∙ sym (other-last x (word m x 1) (omega arith))
       ] in
-      subst (λ y. Now x y false) (sym (other-last last x (λ q. omega arith)))
-      (at-run (run-same x (λ q. omega arith) e (λ i k. word-before x (2 + i) (omega arith) (off i k)) (λ i u v q. omega arith) o)
+      subst (λ y. Now x y false) (sym (other-last last x (omega arith)))
+      (at-run (run-same x (omega arith) e (λ i k. word-before x (2 + i) (omega arith) (off i k)) (λ i u v. omega arith) o)
       (rw (e, points) (carve few fits p (omega arith))))
   carve {x} {last = last} few fits (place-here o l p) h = subst (λ y. Now x y false) (sym (same-last last x refl)) (here o l few fits p)

@@ -80,7 +80,7 @@ module _ (m : Image) (g before b c : ℕ) where
     unfolding word
     some-left l =
         let k = take-left m g before b (word m g 0 - b) (omega arith) (omega arith) (omega (arith, len, o .ends)) in
-        (placed-nth (4 * (g + b) + 0) (λ e. omega arith) (λ e. omega arith) ∙ k .0, placed-nth (4 * (g + b) + 1) (λ e. omega arith) (λ e. omega arith) ∙ k .1)
+        (placed-nth (4 * (g + b) + 0) (omega arith) (omega arith) ∙ k .0, placed-nth (4 * (g + b) + 1) (omega arith) (omega arith) ∙ k .1)
 
     pub placed-carved : Carved m (placed m g before b c) b c g before (nextOf m g b run-left)
     unfolding nextOf

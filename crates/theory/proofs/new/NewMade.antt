@@ -58,7 +58,7 @@ module _ (m : Image) (b c g : ℕ) (o : HeapFilled m) (z : HeapSized m) (hb : 1 
   made-zero : (i : ℕ) → 2 + i < 4 * b → word made (suc g) (2 + i) ≡ 0
   unfolding word
   made-zero i l =
-      is-carved .others (4 * suc g + (2 + i)) (λ x. omega arith) (λ x. omega arith) (λ u x. omega (arith, below)) (λ k. ((λ x. omega arith), (λ x. omega arith)))
+      is-carved .others (4 * suc g + (2 + i)) (omega arith) (omega arith) (λ u x. omega (arith, below)) (λ k. omega arith)
       ∙ apart-here .0 .is-run .zero-words i (omega (arith, apart-here .1))
 
   made-old : (h i : ℕ) → isStart m h ≡ true → i < 4 * size m h → word made h i ≡ word m h i
@@ -73,7 +73,7 @@ module _ (m : Image) (b c g : ℕ) (o : HeapFilled m) (z : HeapSized m) (hb : 1 
       ]
 
   made-granule : (i : ℕ) → i < 4 → nth (made .heap) i ≡ nth (m .heap) i
-  made-granule i l = is-carved .others i (λ x. omega arith) (λ x. omega arith) (λ u x. omega arith) (λ k. ((λ x. omega arith), (λ x. omega arith)))
+  made-granule i l = is-carved .others i (omega arith) (omega arith) (λ u. omega arith) (λ k. omega arith)
 
   made-sections : made ≡ reheaped m (made .heap) (made .starts) (made .general)
   made-sections =

@@ -30,7 +30,7 @@ next-pointer m (suc p) v nz l = nth-put-same (m .heap) (4 * suc p + 1) v l
 next-first : (m : Image) (before v : ℕ) → 2 ≤ length (m .general) → firstRun (setNext m before v) ≡ following before v 0 (firstRun m)
 unfolding setNext setFirstRun setWord withGeneral withHeap firstRun
 next-first m zero v l = nth-put-same (m .general) 1 v (omega arith)
-next-first m (suc p) v l = rw (ne-eqb 0 (suc p) (λ e. omega arith))
+next-first m (suc p) v l = rw (ne-eqb 0 (suc p) (omega arith))
 
 next-only : (m : Image) (before v : ℕ) → OnlyFirst m (setNext m before v)
 unfolding setNext setFirstRun setWord withGeneral withHeap
@@ -55,7 +55,7 @@ module _ (m : Image) (g before b : ℕ) where
   left-word : (left : ℕ) → 4 * (g + b) + 1 < length (m .heap) → (word (leftover left) (g + b) 0 ≡ left) × (word (leftover left) (g + b) 1 ≡ word m g 1)
   unfolding leftover setWord withHeap word
   left-word left l = (
-    nth-put-other (put (m .heap) (4 * (g + b) + 0) left) (4 * (g + b) + 1) (4 * (g + b) + 0) (nth (m .heap) (4 * g + 1)) (λ e. omega arith) ∙ nth-put-same (m .heap) (4 * (g + b) + 0) left (omega arith),
+    nth-put-other (put (m .heap) (4 * (g + b) + 0) left) (4 * (g + b) + 1) (4 * (g + b) + 0) (nth (m .heap) (4 * g + 1)) (omega arith) ∙ nth-put-same (m .heap) (4 * (g + b) + 0) left (omega arith),
     nth-put-same (put (m .heap) (4 * (g + b) + 0) left) (4 * (g + b) + 1) (nth (m .heap) (4 * g + 1)) (rw (length-put (m .heap) (4 * (g + b) + 0) left) l),
   )
 
@@ -82,7 +82,7 @@ module _ (m : Image) (g before b : ℕ) where
   take-left zero h l q = absurd (omega arith)
   take-left (suc x) h l q =
       let k = left-word (suc x) q in
-      (next-nth (leftover (suc x)) before (g + b) (4 * (g + b) + 0) (λ u e. omega arith) ∙ k .0, next-nth (leftover (suc x)) before (g + b) (4 * (g + b) + 1) (λ u e. omega arith) ∙ k .1)
+      (next-nth (leftover (suc x)) before (g + b) (4 * (g + b) + 0) (λ u. omega arith) ∙ k .0, next-nth (leftover (suc x)) before (g + b) (4 * (g + b) + 1) (λ u. omega arith) ∙ k .1)
 
   pub take-first : (left : ℕ) → 2 ≤ length (m .general) → firstRun (takeRun m g before b left) ≡ following before (nextOf m g b left) 0 (firstRun m)
   unfolding takeRun leftover nextOf
