@@ -26,13 +26,13 @@ unfolding sumBelow
 total-ext v u zero f = refl
 total-ext v u (suc n) f = let a : sumBelow v n ≡ sumBelow u n = total-ext v u n (λ g h. f g (omega arith)) in let b : v n ≡ u n = f n (omega arith) in omega arith
 
--- past a piece of which only the first granule counts
-total-piece : (v : ℕ → ℕ) (x y : ℕ) → x < y → ((h : ℕ) → x < h → h < y → v h ≡ 0) → sumBelow v y ≡ sumBelow v x + v x
+-- past granules that count the same
+pub total-same : (v : ℕ → ℕ) (a x y : ℕ) → x ≤ y → ((h : ℕ) → x ≤ h → h < y → v h ≡ a) → sumBelow v y + a * x ≡ sumBelow v x + a * y
 unfolding sumBelow
-total-piece v x zero l f = absurd (omega arith)
-total-piece v x (suc y) l f = elim (ℕ-discrete x y) [
+total-same v a x zero l f = let z : x ≡ 0 = omega arith in rw z
+total-same v a x (suc y) l f = elim (ℕ-discrete x (suc y)) [
   | yes e ↦ rw e
-  | no e ↦ omega (arith, total-piece v x y (omega arith) (λ h p q. f h p (omega arith)), f y (omega arith) (omega arith))
+  | no e ↦ omega (arith, total-same v a x y (omega arith) (λ h p q. f h p (omega arith)), f y (omega arith) (omega arith))
 ]
 
 module _ (st : ℕ → Bool) (rd : ℕ → ℕ → ℕ) where
@@ -42,8 +42,10 @@ module _ (st : ℕ → Bool) (rd : ℕ → ℕ → ℕ) where
   sizes-yes : (g : ℕ) → st g ≡ true → sizes st rd g ≡ rd g 0
   sizes-yes g e = rw e
 
+  -- of a piece only the first granule counts
   total-past : (x s : ℕ) → 1 ≤ s → Bare st x s → sumBelow (sizes st rd) (x + s) ≡ sumBelow (sizes st rd) x + sizes st rd x
-  total-past x s l ba = total-piece (sizes st rd) x (x + s) (omega arith) (λ h p q. sizes-no h (ba h p q))
+  unfolding sumBelow
+  total-past x s l ba = omega (arith, total-same (sizes st rd) 0 (suc x) (x + s) (omega arith) (λ h p q. sizes-no h (ba h p q)))
 
 -- ---- the chain has every granule that no object has
 

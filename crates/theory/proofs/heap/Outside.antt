@@ -2,8 +2,7 @@
 use mathlib.Core.Path.{_≡_}
 use mathlib.Core.Logic.{inl, inr}
 use mathlib.Core.Bool.{Bool, true, false, cond}
-use Prim.Native.Nat.{ℕ, zero, suc, _+_, _*_, _≤_, _<_}
-use native.Mathlib.Decide.{ℕ-discrete}
+use Prim.Native.Nat.{ℕ, zero, suc, _+_, _≤_, _<_}
 use native.Mathlib.Omega.{arith}
 use lib.Dec.{ltb}
 use borrow.Author.Tests.{ltb-true, lt-ltb}
@@ -11,20 +10,10 @@ use Rattle.model.specs.Image.{Image, granules, word, isStart, size}
 use Rattle.model.specs.Mutate.{freeFrom, freeGranules}
 use Rattle.model.proofs.Laws.{bool-cases, and-split, and-join, any-use, any-make}
 use Rattle.theory.specs.Heap.{HeapFilled, HeapSized}
-use Rattle.theory.specs.Pieces.{at-end, at-object, at-run, PiecesIn, RunApart, Clear, sumBelow, inObject, granulesOutside}
+use Rattle.theory.specs.Pieces.{at-end, at-object, at-run, PiecesIn, Clear, sumBelow, inObject, granulesOutside}
 use Rattle.theory.proofs.heap.Pieces.{image-pieces}
-use Rattle.theory.proofs.heap.Free.{chain-end}
+use Rattle.theory.proofs.heap.Free.{total-same, chain-end}
 use Rattle.theory.proofs.heap.Unused.{clear-object, clear-run, run-apart, run-unused, clear-one}
-
--- ---- sums over a piece
-
-total-same : (v : ℕ → ℕ) (a x y : ℕ) → x ≤ y → ((h : ℕ) → x ≤ h → h < y → v h ≡ a) → sumBelow v y + a * x ≡ sumBelow v x + a * y
-unfolding sumBelow
-total-same v a x zero l f = let z : x ≡ 0 = omega arith in rw z
-total-same v a x (suc y) l f = elim (ℕ-discrete x (suc y)) [
-  | yes e ↦ rw e
-  | no e ↦ omega (arith, total-same v a x y (omega arith) (λ h p q. f h p (omega arith)), f y (omega arith) (omega arith))
-]
 
 module _ (m : Image) where
   -- ---- which granules are in an object

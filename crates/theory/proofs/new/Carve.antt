@@ -100,16 +100,16 @@ module _ (m n : Image) (b c r before next : ℕ) (w : Carved m n b c r before ne
     }
 
     left-here : b < word m r 0 → Run (r + b)
+    unfolding word
     left-here l = record {
       no-start = w .start-old (r + b) (omega arith) ∙ o .alone (r + b) (omega arith) (omega arith);
       long = omega (arith, w .left-size l);
       ends = omega (arith, w .left-size l, o .ends);
       alone = λ h p q. w .start-old h (omega arith) ∙ o .alone h (omega arith) (omega (arith, w .left-size l));
       zero-words = λ i k.
-          let same : word n (r + b) (2 + i) ≡ word m (r + b) (2 + i) =
-          unfold word in w .others (4 * (r + b) + (2 + i)) (omega arith) (omega arith) (λ u. omega arith) (λ k. omega arith) in
-          let shift : word m (r + b) (2 + i) ≡ word m r (2 + (4 * b + i)) = unfold word in ap (nth (m .heap)) (omega arith) in
-          same ∙ (shift ∙ o .zero-words (4 * b + i) (omega (arith, w .left-size l)));
+          let j : 4 * (r + b) + (2 + i) ≡ 4 * r + (2 + (4 * b + i)) = omega arith in
+          w .others (4 * (r + b) + (2 + i)) (omega arith) (omega arith) (λ u. omega arith) (λ k. omega arith)
+          ∙ (ap (nth (m .heap)) j ∙ o .zero-words (4 * b + i) (omega (arith, w .left-size l)));
     }
 
     here : PiecesIn m (r + word m r 0) (word m r 1) true → Now r next false
@@ -135,7 +135,7 @@ module _ (m n : Image) (b c r before next : ℕ) (w : Carved m n b c r before ne
   carve {x} {nx} {last} few fits (past-object o p) h =
       let past : x + word m x 0 ≤ r = place-past m p in
       let e : word n x 0 ≡ word m x 0 = word-before x 0 (omega arith) (omega arith) in
-      let off : x ≡ before → ⊥ = λ q. elim (place-order m p) [ inl y ↦ omega arith | inr y ↦ omega arith ] in
+      let off : x ≡ before → ⊥ = elim (place-order m p) [ inl y ↦ omega arith | inr y ↦ omega arith ] in
       at-object {next = following before next last nx}
       (object-same x (omega arith) e (word-before x 1 (omega arith) (λ q. off (omega arith))) (λ i u v. omega arith) o)
       (rw e (carve few fits p (omega arith)))
@@ -144,7 +144,7 @@ module _ (m n : Image) (b c r before next : ℕ) (w : Carved m n b c r before ne
       let d = place-order m p in
       let up : x ≤ before = elim d [ inl y ↦ omega arith | inr y ↦ omega arith ] in
       let e : word n x 0 ≡ word m x 0 = word-before x 0 (omega arith) (omega arith) in
-      let off : (i : ℕ) → 2 + i < 4 * word m x 0 → 4 * x + (2 + i) ≡ 4 * before + 1 → ⊥ = λ i k q. elim d [ inl y ↦ omega arith | inr y ↦ omega arith ] in
+      let off : (i : ℕ) → 2 + i < 4 * word m x 0 → 4 * x + (2 + i) ≡ 4 * before + 1 → ⊥ = λ i k. elim d [ inl y ↦ omega arith | inr y ↦ omega arith ] in
       let points : word n x 1 ≡ following before next x (word m x 1) = elim d [
         | inl y ↦ ap (λ y. word n y 1) (sym y) ∙ (w .pointer (omega arith) ∙ sym (same-last x (word m x 1) (sym y)))
         | inr y ↦ word-before x 1 (omega arith) (omega arith) ∙ sym (other-last x (word m x 1) (omega arith))

@@ -10,7 +10,7 @@ use Rattle.model.proofs.Laws.{nth-put-same, nth-put-other, length-put}
 use Rattle.model.proofs.Bits.{setBit-same, setBit-other}
 use Rattle.theory.specs.Heap.{HeapSized}
 use Rattle.theory.specs.Pieces.{RunIn}
-use Rattle.theory.specs.New.{placed, reheaped, OnlyFirst, nextOf, Carved, following}
+use Rattle.theory.specs.New.{placed, reheaped, nextOf, Carved, following}
 use Rattle.theory.proofs.new.TakeRun.{take-nth, take-length, take-pointer, take-left, take-first, take-only}
 
 -- ---- the words that are written, for a run of at least b granules at g

@@ -55,12 +55,6 @@ module _ (m : Image) (b c g : ℕ) (o : HeapFilled m) (z : HeapSized m) (hb : 1 
         | no x ↦ o .start-range h (sym (is-carved .start-old h x) ∙ s)
       ]))
 
-  made-zero : (i : ℕ) → 2 + i < 4 * b → word made (suc g) (2 + i) ≡ 0
-  unfolding word
-  made-zero i l =
-      is-carved .others (4 * suc g + (2 + i)) (omega arith) (omega arith) (λ u x. omega (arith, below)) (λ k. omega arith)
-      ∙ apart-here .0 .is-run .zero-words i (omega (arith, apart-here .1))
-
   made-old : (h i : ℕ) → isStart m h ≡ true → i < 4 * size m h → word made h i ≡ word m h i
   made-old h i s l =
       let off : 4 * h + i ≡ 4 * before + 1 → ⊥ = λ q. elim (before-apart m b (omega arith) place (clear-one m o) (inl refl)) [
@@ -71,9 +65,6 @@ module _ (m : Image) (b c g : ℕ) (o : HeapFilled m) (z : HeapSized m) (hb : 1 
         | inl k ↦ word-before m made b c (suc g) before next is-carved hb below h i (omega arith) off
         | inr k ↦ word-after m made b c (suc g) before next is-carved hb below h i k (apart-here .1)
       ]
-
-  made-granule : (i : ℕ) → i < 4 → nth (made .heap) i ≡ nth (m .heap) i
-  made-granule i l = is-carved .others i (omega arith) (omega arith) (λ u. omega arith) (λ k. omega arith)
 
   made-sections : made ≡ reheaped m (made .heap) (made .starts) (made .general)
   made-sections =
@@ -91,9 +82,11 @@ module _ (m : Image) (b c g : ℕ) (o : HeapFilled m) (z : HeapSized m) (hb : 1 
     start-old = is-carved .start-old;
     size-new = is-carved .size-new;
     links-new = is-carved .links-new;
-    zero-new = made-zero;
+    zero-new = λ i l.
+        is-carved .others (4 * suc g + (2 + i)) (omega arith) (omega arith) (λ u x. omega (arith, below)) (λ k. omega arith)
+        ∙ apart-here .0 .is-run .zero-words i (omega (arith, apart-here .1));
     words-old = made-old;
-    granule-zero = made-granule;
+    granule-zero = λ i l. is-carved .others i (omega arith) (omega arith) (λ u. omega arith) (λ k. omega arith);
     general-word = placed-general m (suc g) before b c .0;
     general-length = placed-general m (suc g) before b c .1;
     starts-length = placed-starts-length m (suc g) before b c;
