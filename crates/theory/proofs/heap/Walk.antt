@@ -45,10 +45,9 @@ run-filled st g zero ws next b nb e h₁ h₂ q ba z f = absurd (omega arith)
 run-filled st g (suc n) ws next true nb e h₁ h₂ q ba z f = false≢ nb
 run-filled st g (suc n) ws next false nb e h₁ h₂ q ba z f =
     let k : 4 * suc n ≡ suc (4 * suc n - 1) = omega arith in
-    let d : drop (4 * suc n) (suc n ∷ ws) ≡ drop (4 * suc n - 1) ws = ap (λ x. drop x (suc n ∷ ws)) k in
     subst (λ x. Filled st g (suc n ∷ ws) x false) e
     (subst (λ l. Filled st g (suc n ∷ l) g false) (sym (run-words n ws h₂ z))
-    (f-run n (nth ws 0) (drop (4 * suc n - 1) ws) q ba (subst (λ l. Filled st (g + suc n) l (nth ws 0) true) d f)))
+    (f-run n (nth ws 0) (drop (4 * suc n - 1) ws) q ba (rw k at f)))
 
 -- an object of s granules in front, by its words
 pub object-filled : (st : ℕ → Bool) (g s : ℕ) (ws : List ℕ) (next : ℕ) (b : Bool) → st g ≡ true → 1 ≤ s → 4 * s ≤ suc (length ws) → Bare st g s → s ≤ 1024 → nth ws 0 ≤ 4 * s - 2
@@ -56,11 +55,10 @@ pub object-filled : (st : ℕ → Bool) (g s : ℕ) (ws : List ℕ) (next : ℕ)
 object-filled st g s ws next b q h₁ h₂ ba few fit f =
     let len : length (take (4 * s - 1) ws) ≡ 4 * s - 1 = length-take-le (4 * s - 1) ws (omega arith) in
     let k : 4 * s ≡ suc (4 * s - 1) = omega arith in
-    let d : drop (4 * s) (s ∷ ws) ≡ drop (4 * s - 1) ws = ap (λ x. drop x (s ∷ ws)) k in
     subst (λ l. Filled st g (s ∷ l) next b) (take-append-drop (4 * s - 1) ws)
     (f-object s (take (4 * s - 1) ws) (drop (4 * s - 1) ws) q
     (record { long = omega arith; few = few; links-fit = rw (nth-take (4 * s - 1) ws 0 (omega arith)) fit }) ba
-    (subst (λ l. Filled st (g + s) l next false) d f))
+    (rw k at f))
 
 -- ---- the test and the derivations are the same
 

@@ -84,17 +84,15 @@ module _ {m n : Image} {p r b c g : ℕ} (u : Undamaged m) (k : NewMade m n p r 
 
 -- ---- the step
 
-module _ (m : Image) (s : Step) (o : Lines m) (e : refusal m s new ≡ 0) where
-  size-ok : (1 ≤ s .b) × (s .b ≤ 1024) × (s .c + 2 ≤ 4 * s .b)
-  size-ok = good-size s (line m s new e 5)
-
-  -- what an accepted new leaves
-  pub new-does : NewMade m (newObject m (s .who) (s .a) (s .b) (s .c)) (s .who) (s .a) (s .b) (s .c) ((roomFor m (s .b)) .run)
-  unfolding noRoom
-  new-does =
-      let nz : (roomFor m (s .b)) .run ≡ 0 → ⊥ = eqb-false _ _ (line m s new e 6) in
-      let q : (roomFor m (s .b)) .run ≡ suc ((roomFor m (s .b)) .run - 1) = omega arith in
-      rw q (new-made m (s .b) (s .c) _ (heap-filled-of o) (heap-sized-of o) (size-ok .0) (size-ok .1) (omega (arith, size-ok .2)) q (s .who) (s .a))
+-- what an accepted new leaves
+pub new-does : (m : Image) (s : Step) → Lines m → refusal m s new ≡ 0
+    → NewMade m (newObject m (s .who) (s .a) (s .b) (s .c)) (s .who) (s .a) (s .b) (s .c) ((roomFor m (s .b)) .run)
+unfolding noRoom
+new-does m s o e =
+    let nz : (roomFor m (s .b)) .run ≡ 0 → ⊥ = eqb-false _ _ (line m s new e 6) in
+    let q : (roomFor m (s .b)) .run ≡ suc ((roomFor m (s .b)) .run - 1) = omega arith in
+    let k = good-size s (line m s new e 5) in
+    rw q (new-made m (s .b) (s .c) _ (heap-filled-of o) (heap-sized-of o) (k .0) (k .1) (omega (arith, k .2)) q (s .who) (s .a))
 
 pub new-step : (m : Image) (s : Step) → Undamaged m → refusal m s new ≡ 0 → Undamaged ((act m s new) .image)
 unfolding act accept offDesk owing owes
