@@ -3,15 +3,15 @@ use mathlib.Core.Path.{_≡_, refl, sym, ap, subst, _∙_}
 use Prim.Native.Nat.{ℕ, suc, _+_, _*_, _-_, _≤_, _<_}
 use native.Mathlib.Omega.{arith}
 use lib.ListN.{length}
-use Rattle.model.specs.Base.{nth, put, bit, setBit}
+use Rattle.model.specs.Base.{nth, bit, setBit}
 use Rattle.model.specs.Image.{Image, granules, word, isStart, firstRun, withHeap, withStarts, setWord, setStart}
 use Rattle.model.specs.Mutate.{takeRun}
-use Rattle.model.proofs.Laws.{nth-put-same, nth-put-other, length-put}
+use Rattle.model.proofs.Laws.{length-put}
 use Rattle.model.proofs.Bits.{setBit-same, setBit-other}
 use Rattle.theory.specs.Heap.{HeapSized}
 use Rattle.theory.specs.Pieces.{RunIn}
 use Rattle.theory.specs.New.{placed, reheaped, nextOf, Carved, following}
-use Rattle.theory.proofs.new.TakeRun.{take-nth, take-length, take-pointer, take-left, take-first, take-only}
+use Rattle.theory.proofs.new.TakeRun.{headed-nth, headed-length, headed-words, take-nth, take-length, take-pointer, take-left, take-first, take-only}
 
 -- ---- the words that are written, for a run of at least b granules at g
 
@@ -59,22 +59,16 @@ module _ (m : Image) (g before b c : ℕ) where
 
   placed-nth : (x : ℕ) → (x ≡ 4 * g → ⊥) → (x ≡ 4 * g + 1 → ⊥) → nth ((placed m g before b c) .heap) x ≡ nth (taken .heap) x
   unfolding placed setStart setWord withHeap withStarts
-  placed-nth x n₀ n₁ = nth-put-other (put (taken .heap) (4 * g + 0) b) (4 * g + 1) x c n₁ ∙ nth-put-other (taken .heap) (4 * g + 0) x b (λ e. n₀ (omega arith))
+  placed-nth x n₀ n₁ = headed-nth taken g b c x n₀ n₁
 
   pub placed-length : length ((placed m g before b c) .heap) ≡ length (m .heap)
   unfolding placed setStart setWord withHeap withStarts
-  placed-length = length-put (put (taken .heap) (4 * g + 0) b) (4 * g + 1) c ∙ (length-put (taken .heap) (4 * g + 0) b ∙ take-length m g before b run-left)
+  placed-length = headed-length taken g b c ∙ take-length m g before b run-left
 
   module _ (o : RunIn m g) (lb : b ≤ word m g 0) (hb : 1 ≤ b) (below : before < g) (len : length (m .heap) ≡ 4 * granules m) (z : HeapSized m) where
-    taken-length : length (taken .heap) ≡ 4 * granules m
-    taken-length = take-length m g before b run-left ∙ len
-
     placed-words : (word (placed m g before b c) g 0 ≡ b) × (word (placed m g before b c) g 1 ≡ c)
     unfolding placed setStart setWord withHeap withStarts word
-    placed-words = (
-      nth-put-other (put (taken .heap) (4 * g + 0) b) (4 * g + 1) (4 * g + 0) c (omega arith) ∙ nth-put-same (taken .heap) (4 * g + 0) b (omega (arith, taken-length)),
-      nth-put-same (put (taken .heap) (4 * g + 0) b) (4 * g + 1) c (omega (arith, length-put (taken .heap) (4 * g + 0) b, taken-length)),
-    )
+    placed-words = headed-words taken g b c (omega (arith, take-length m g before b run-left))
 
     some-left : b < word m g 0 → (word (placed m g before b c) (g + b) 0 ≡ run-left) × (word (placed m g before b c) (g + b) 1 ≡ word m g 1)
     unfolding word
@@ -93,7 +87,7 @@ module _ (m : Image) (g before b c : ℕ) where
       left-next = λ l. let e : run-left ≡ suc (run-left - 1) = omega arith in rw e;
       left-size = λ l. omega (arith, (some-left l) .0);
       left-pointer = λ l. (some-left l) .1;
-      none-left = λ e. let e : run-left ≡ 0 = omega arith in rw e;
+      none-left = λ q. let e : run-left ≡ 0 = omega arith in rw e;
       pointer = λ nz. unfold word in placed-nth (4 * before + 1) (omega arith) (omega arith) ∙ take-pointer m g before b run-left nz (omega arith);
       others = λ x n₀ n₁ nb nl. placed-nth x n₀ n₁ ∙ take-nth m g before b run-left x nb (λ l. nl (omega arith));
     }
