@@ -109,20 +109,18 @@ module _ {Hd Cd : ℕ → ℕ → Type 0} {ts : List ℕ} (k : TracersOk Hd Cd t
     spare = pairs-other (pairs-other (k .spare) t 4 c (omega arith)) t 5 n (omega arith);
   }
 
-  -- the output becomes input
-  pub swap-ok : (v : ℕ) → v ≡ nth ts (8 * t + 1) → TracersOk Hd Cd (put (put ts (8 * t + 0) v) (8 * t + 1) 0)
-  unfolding put
-  swap-ok v e = rw (set-comm ts (8 * t + 0) (8 * t + 1) v 0 (omega arith)) (record {
-    sized = simp length-put (k .sized);
-    places = held-set (held-set (k .places) (k .sized) t 1 0 ht (omega arith) (omega arith) (λ u j p hu hj x y. absurd (omega arith))) (simp length-put (k .sized)) t 0 v ht (omega arith) (rw e (k .places .held t 1 ht (omega arith)))
-        (λ u j p hu hj x y. elim (nth-put ts (8 * t + 1) (8 * u + j) 0 (omega (arith, k .sized))) [
-          | inl (a, b) ↦ absurd (omega arith)
-          | inr (a, b) ↦ absurd (omega (arith, k .places .once u j t 1 p hu ht hj (omega arith) (sym b ∙ y) (sym e ∙ x)))
-        ]);
-    hands = pairs-other (pairs-other (k .hands) t 1 0 (omega arith)) t 0 v (omega arith);
-    handCards = pairs-other (pairs-other (k .handCards) t 1 0 (omega arith)) t 0 v (omega arith);
-    spare = pairs-other (pairs-other (k .spare) t 1 0 (omega arith)) t 0 v (omega arith);
-  })
+-- the output becomes input
+pub swap-ok : {Hd Cd : ℕ → ℕ → Type 0} {ts : List ℕ} (k : TracersOk Hd Cd ts) (t : ℕ) → t < 8 → (v : ℕ) → v ≡ nth ts (8 * t + 1)
+    → TracersOk Hd Cd (put (put ts (8 * t + 0) v) (8 * t + 1) 0)
+unfolding put
+swap-ok {ts = ts} k t ht v e =
+    let none = hold-ok k t ht 1 0 (omega arith) (omega arith) (λ u j p hu hj x y. absurd (omega arith)) in
+    rw (set-comm ts (8 * t + 0) (8 * t + 1) v 0 (omega arith))
+    (hold-ok none t ht 0 v (omega arith) (rw e (k .places .held t 1 ht (omega arith)))
+    (λ u j p hu hj x y. elim (nth-put ts (8 * t + 1) (8 * u + j) 0 (omega (arith, k .sized))) [
+      | inl (a, b) ↦ absurd (omega arith)
+      | inr (a, b) ↦ absurd (omega (arith, k .places .once u j t 1 p hu ht hj (omega arith) (sym b ∙ y) (sym e ∙ x)))
+    ]))
 
 -- ---- cards
 
