@@ -114,9 +114,9 @@ pub swap-ok : {Hd Cd : ℕ → ℕ → Type 0} {ts : List ℕ} (k : TracersOk Hd
     → TracersOk Hd Cd (put (put ts (8 * t + 0) v) (8 * t + 1) 0)
 unfolding put
 swap-ok {ts = ts} k t ht v e =
-    let none = hold-ok k t ht 1 0 (omega arith) (omega arith) (λ u j p hu hj x y. absurd (omega arith)) in
+    let emptied = hold-ok k t ht 1 0 (omega arith) (omega arith) (λ u j p hu hj x y. absurd (omega arith)) in
     rw (set-comm ts (8 * t + 0) (8 * t + 1) v 0 (omega arith))
-    (hold-ok none t ht 0 v (omega arith) (rw e (k .places .held t 1 ht (omega arith)))
+    (hold-ok emptied t ht 0 v (omega arith) (rw e (k .places .held t 1 ht (omega arith)))
     (λ u j p hu hj x y. elim (nth-put ts (8 * t + 1) (8 * u + j) 0 (omega (arith, k .sized))) [
       | inl (a, b) ↦ absurd (omega arith)
       | inr (a, b) ↦ absurd (omega (arith, k .places .once u j t 1 p hu ht hj (omega arith) (sym b ∙ y) (sym e ∙ x)))
