@@ -1,19 +1,61 @@
 -- Pieces read by granule are those of the filled heap.
 use mathlib.Core.Path.{_≡_, refl, sym, ap, subst, _∙_}
 use mathlib.Core.Logic.{_⊎_, inl, inr}
-use mathlib.Core.Bool.{Bool, true, false}
+use mathlib.Core.Bool.{Bool, true, false, not}
 use mathlib.Core.List.{List, [], _∷_, _++_}
-use Prim.Native.Nat.{ℕ, suc, _+_, _*_, _-_, _≤_, _<_}
+use Prim.Native.Nat.{ℕ, zero, suc, _+_, _*_, _-_, _≤_, _<_}
+use native.Mathlib.Decide.{decLt}
 use native.Mathlib.Omega.{arith}
-use lib.ListN.{length, drop, length-append, length-drop}
+use lib.ListN.{length, take, drop, take-append-drop, length-append, length-drop}
+use lib.Seq.{length-take-le}
 use Rattle.model.specs.Base.{nth}
 use Rattle.model.specs.Image.{Image, granules, word, isStart, firstRun}
 use Rattle.model.specs.Finish.{runTail}
-use Rattle.model.proofs.Entries.{nth-drop}
-use Rattle.theory.specs.Heap.{runWords, Filled, f-end, f-object, f-run, HeapFilled, HeapSized}
+use Rattle.model.proofs.Laws.{false≢}
+use Rattle.model.proofs.Entries.{nth-drop, nth-take}
+use Rattle.theory.specs.Heap.{runWords, Bare, Filled, f-end, f-object, f-run, HeapFilled, HeapSized}
 use Rattle.theory.specs.Pieces.{Reads, ObjectHere, Pieces, at-end, at-object, at-run}
-use Rattle.theory.proofs.heap.Lists.{nth-head, nth-left, length-run, run-next, run-zero, nth-behind}
-use Rattle.theory.proofs.heap.Walk.{object-filled, run-filled, word-behind}
+use Rattle.theory.proofs.heap.Lists.{nth-head, nth-left, zeros-take, length-run, run-next, run-zero, nth-behind}
+
+-- ---- a piece in front
+
+run-words : (n : ℕ) (ws : List ℕ) → 4 * suc n ≤ suc (length ws) → ((i : ℕ) → i < 4 * suc n - 2 → nth ws (suc i) ≡ 0) → ws ≡ runTail n (nth ws 0) ++ drop (4 * suc n - 1) ws
+unfolding runTail nth
+run-words n [] h z = absurd (omega arith)
+run-words n (x ∷ ws) h z =
+    let k : 4 * suc n - 1 ≡ suc (4 * suc n - 2) = omega arith in
+    rw k (ap (λ l. x ∷ l) (sym (take-append-drop (4 * suc n - 2) ws) ∙ rw (zeros-take (4 * suc n - 2) ws (omega arith) z)))
+
+-- a run of s granules in front, by its words
+pub run-filled : (st : ℕ → Bool) (g s : ℕ) (ws : List ℕ) (next : ℕ) (b : Bool) → not b ≡ true → g ≡ next → 1 ≤ s → 4 * s ≤ suc (length ws) → st g ≡ false → Bare st g s
+    → ((i : ℕ) → i < 4 * s - 2 → nth ws (suc i) ≡ 0) → Filled st (g + s) (drop (4 * s) (s ∷ ws)) (nth ws 0) true → Filled st g (s ∷ ws) next b
+run-filled st g zero ws next b nb e h₁ h₂ q ba z f = absurd (omega arith)
+run-filled st g (suc n) ws next true nb e h₁ h₂ q ba z f = false≢ nb
+run-filled st g (suc n) ws next false nb e h₁ h₂ q ba z f =
+    let k : 4 * suc n ≡ suc (4 * suc n - 1) = omega arith in
+    subst (λ x. Filled st g (suc n ∷ ws) x false) e
+    (subst (λ l. Filled st g (suc n ∷ l) g false) (sym (run-words n ws h₂ z))
+    (f-run n (nth ws 0) (drop (4 * suc n - 1) ws) q ba (rw k at f)))
+
+-- an object of s granules in front, by its words
+pub object-filled : (st : ℕ → Bool) (g s : ℕ) (ws : List ℕ) (next : ℕ) (b : Bool) → st g ≡ true → 1 ≤ s → 4 * s ≤ suc (length ws) → Bare st g s → s ≤ 1024 → nth ws 0 ≤ 4 * s - 2
+    → Filled st (g + s) (drop (4 * s) (s ∷ ws)) next false → Filled st g (s ∷ ws) next b
+object-filled st g s ws next b q h₁ h₂ ba few fit f =
+    let len : length (take (4 * s - 1) ws) ≡ 4 * s - 1 = length-take-le (4 * s - 1) ws (omega arith) in
+    let k : 4 * s ≡ suc (4 * s - 1) = omega arith in
+    subst (λ l. Filled st g (s ∷ l) next b) (take-append-drop (4 * s - 1) ws)
+    (f-object s (take (4 * s - 1) ws) (drop (4 * s - 1) ws) q
+    (record { long = omega arith; few = few; links-fit = rw (nth-take (4 * s - 1) ws 0 (omega arith)) fit }) ba
+    (rw k at f))
+
+-- ---- pieces by granule
+
+-- a start is none of a piece's granules but the first
+pub start-beside : (st : ℕ → Bool) (g s : ℕ) → Bare st g s → (h : ℕ) → st h ≡ true → (h ≤ g) ⊎ (g + s ≤ h)
+start-beside st g s ba h e = elim (decLt g h) [
+  | yes p ↦ elim (decLt h (g + s)) [ yes q ↦ false≢ (sym (ba h p q) ∙ e) | no q ↦ inr (omega arith) ]
+  | no p ↦ inl (omega arith)
+]
 
 module _ (st : ℕ → Bool) (rd : ℕ → ℕ → ℕ) (e : ℕ) where
   pub reads-behind : (g s : ℕ) (l r : List ℕ) → length l ≡ 4 * s → Reads rd g (l ++ r) → Reads rd (g + s) r
@@ -72,6 +114,18 @@ module _ (st : ℕ → Bool) (rd : ℕ → ℕ → ℕ) (e : ℕ) where
       (subst (λ y. Filled st (g + rd g 0) (drop (4 * rd g 0) (x ∷ ws)) y true) w₁
       (filled-of p (drop (4 * rd g 0) (x ∷ ws)) (reads-drop g (rd g 0) (x ∷ ws) a) (omega (arith, length-drop (4 * rd g 0) (x ∷ ws), o .ends)))))
 
+  -- every start begins an object
+  pub object-in : {g next : ℕ} {b : Bool} → Pieces st rd e g next b → (h : ℕ) → g ≤ h → h < e → st h ≡ true → ObjectHere st rd e h
+  object-in at-end h l q s = absurd (omega arith)
+  object-in {g} (at-object o p) h l q s = elim (start-beside st g (rd g 0) (o .alone) h s) [
+    | inl y ↦ let z : h ≡ g = omega arith in rw z o
+    | inr y ↦ object-in p h y q s
+  ]
+  object-in {g} (at-run o p) h l q s = elim (start-beside st g (rd g 0) (o .alone) h s) [
+    | inl y ↦ let z : h ≡ g = omega arith in false≢ (sym (o .no-start) ∙ (rw z at s))
+    | inr y ↦ object-in p h y q s
+  ]
+
   -- behind a run stands an object, or nothing
   pub behind-run : {g next : ℕ} → Pieces st rd e g next true → (g ≡ e) ⊎ ObjectHere st rd e g
   behind-run at-end = inl refl
@@ -82,6 +136,11 @@ module _ (st : ℕ → Bool) (rd : ℕ → ℕ → ℕ) (e : ℕ) where
   loosen (at-object o p) = at-object o p
 
 -- ---- of an image
+
+-- word i of granule h, in the words behind granule 0
+pub word-behind : (m : Image) (h i : ℕ) → 1 ≤ h → nth (drop 4 (m .heap)) (4 * (h - 1) + i) ≡ word m h i
+unfolding word
+word-behind m h i p = let z : 4 + (4 * (h - 1) + i) ≡ 4 * h + i = omega arith in nth-drop 4 (m .heap) (4 * (h - 1) + i) ∙ ap (nth (m .heap)) z
 
 pub image-pieces : (m : Image) → HeapFilled m → HeapSized m → Pieces (isStart m) (word m) (granules m) 1 (firstRun m) false
 image-pieces m o z = pieces-of (isStart m) (word m) (granules m) (o .heap-filled) (λ h i p. word-behind m h i p) (omega (arith, length-drop 4 (m .heap), o .heap-words, z .some-granules))

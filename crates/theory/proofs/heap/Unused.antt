@@ -10,8 +10,7 @@ use Rattle.model.specs.Image.{Image, granules, word, isStart, size}
 use Rattle.model.proofs.Laws.{false≢}
 use Rattle.theory.specs.Heap.{HeapFilled, HeapSized}
 use Rattle.theory.specs.Pieces.{at-end, at-object, at-run, ObjectIn, RunIn, PiecesIn, RunApart, Clear, Unused, InRun}
-use Rattle.theory.proofs.heap.Walk.{start-beside}
-use Rattle.theory.proofs.heap.Pieces.{behind-run, image-pieces}
+use Rattle.theory.proofs.heap.Pieces.{start-beside, behind-run, image-pieces}
 
 module _ (m : Image) where
   pub clear-object : (x : ℕ) → ObjectIn m x → Clear m x → Clear m (x + word m x 0)

@@ -1,23 +1,23 @@
 -- The walk over the heap, as a test and by derivations; every start begins an object, and objects lie apart.
 use mathlib.Core.Path.{_≡_, refl, sym, ap, subst, _∙_}
 use mathlib.Core.Bool.{Bool, true, false, not, cond}
-use mathlib.Core.Logic.{_⊎_, inl, inr}
+use mathlib.Core.Logic.{inl, inr}
 use mathlib.Core.List.{List, [], _∷_, _++_}
 use Prim.Native.Nat.{ℕ, zero, suc, _+_, _*_, _-_, _≤_, _<_}
 use native.Mathlib.Decide.{decLt}
-use native.Mathlib.Nat.{add-zero}
 use native.Mathlib.Omega.{arith}
-use lib.ListN.{length, take, drop, take-append-drop, length-append, length-drop}
-use lib.Seq.{drop-at, length-take-le}
+use lib.ListN.{length, drop, length-append, length-drop}
+use lib.Seq.{drop-at}
 use borrow.Author.Tests.{leb-true, eqb-true, le-leb, eq-eqb, not-true}
 use Rattle.model.specs.Base.{nth}
 use Rattle.model.specs.Image.{Image, granules, word, isStart, marked, size, links}
 use Rattle.model.specs.Undamaged.{bare, piece, fill, filled}
 use Rattle.model.specs.Finish.{runTail}
 use Rattle.model.proofs.Laws.{bool-cases, every-use, every-cons, every-nil, all-use, all-make, false≢, not-make}
-use Rattle.model.proofs.Entries.{nth-drop, nth-take}
-use Rattle.theory.specs.Heap.{ObjectPiece, runWords, Bare, Filled, f-end, f-object, f-run, At, HeapFilled, ObjectAt, Laid}
-use Rattle.theory.proofs.heap.Lists.{nth-left, zeros-take, length-run, run-zero, nth-behind, head-behind}
+use Rattle.theory.specs.Heap.{ObjectPiece, runWords, Bare, Filled, f-end, f-object, f-run, HeapFilled, ObjectAt, Laid}
+use Rattle.theory.proofs.heap.Pieces.{run-filled, object-filled, start-beside, pieces-of, object-in}
+pub use Rattle.theory.proofs.heap.Pieces.{word-behind}
+use Rattle.theory.proofs.heap.Lists.{nth-left, length-run, run-zero}
 
 -- ---- what the test says
 
@@ -30,35 +30,6 @@ bare-use st g s e h p q =
 bare-make : (st : ℕ → Bool) (g s : ℕ) → Bare st g s → bare st g s ≡ true
 unfolding bare
 bare-make st g s f = all-make (s - 1) _ (λ i h. ap not (f (g + 1 + i) (omega arith) (omega arith)))
-
-run-words : (n : ℕ) (ws : List ℕ) → 4 * suc n ≤ suc (length ws) → ((i : ℕ) → i < 4 * suc n - 2 → nth ws (suc i) ≡ 0) → ws ≡ runTail n (nth ws 0) ++ drop (4 * suc n - 1) ws
-unfolding runTail nth
-run-words n [] h z = absurd (omega arith)
-run-words n (x ∷ ws) h z =
-    let k : 4 * suc n - 1 ≡ suc (4 * suc n - 2) = omega arith in
-    rw k (ap (λ l. x ∷ l) (sym (take-append-drop (4 * suc n - 2) ws) ∙ rw (zeros-take (4 * suc n - 2) ws (omega arith) z)))
-
--- a run of s granules in front, by its words
-pub run-filled : (st : ℕ → Bool) (g s : ℕ) (ws : List ℕ) (next : ℕ) (b : Bool) → not b ≡ true → g ≡ next → 1 ≤ s → 4 * s ≤ suc (length ws) → st g ≡ false → Bare st g s
-    → ((i : ℕ) → i < 4 * s - 2 → nth ws (suc i) ≡ 0) → Filled st (g + s) (drop (4 * s) (s ∷ ws)) (nth ws 0) true → Filled st g (s ∷ ws) next b
-run-filled st g zero ws next b nb e h₁ h₂ q ba z f = absurd (omega arith)
-run-filled st g (suc n) ws next true nb e h₁ h₂ q ba z f = false≢ nb
-run-filled st g (suc n) ws next false nb e h₁ h₂ q ba z f =
-    let k : 4 * suc n ≡ suc (4 * suc n - 1) = omega arith in
-    subst (λ x. Filled st g (suc n ∷ ws) x false) e
-    (subst (λ l. Filled st g (suc n ∷ l) g false) (sym (run-words n ws h₂ z))
-    (f-run n (nth ws 0) (drop (4 * suc n - 1) ws) q ba (rw k at f)))
-
--- an object of s granules in front, by its words
-pub object-filled : (st : ℕ → Bool) (g s : ℕ) (ws : List ℕ) (next : ℕ) (b : Bool) → st g ≡ true → 1 ≤ s → 4 * s ≤ suc (length ws) → Bare st g s → s ≤ 1024 → nth ws 0 ≤ 4 * s - 2
-    → Filled st (g + s) (drop (4 * s) (s ∷ ws)) next false → Filled st g (s ∷ ws) next b
-object-filled st g s ws next b q h₁ h₂ ba few fit f =
-    let len : length (take (4 * s - 1) ws) ≡ 4 * s - 1 = length-take-le (4 * s - 1) ws (omega arith) in
-    let k : 4 * s ≡ suc (4 * s - 1) = omega arith in
-    subst (λ l. Filled st g (s ∷ l) next b) (take-append-drop (4 * s - 1) ws)
-    (f-object s (take (4 * s - 1) ws) (drop (4 * s - 1) ws) q
-    (record { long = omega arith; few = few; links-fit = rw (nth-take (4 * s - 1) ws 0 (omega arith)) fit }) ba
-    (rw k at f))
 
 -- ---- the test and the derivations are the same
 
@@ -115,51 +86,6 @@ fill-make {st} {g} (suc n) (f-run m next rest q ba f) l =
     fill-piece st n g (suc m) (runTail m next ++ rest) g false false q (run-ok st g m rest next ba)
     (rw (drop-at (runWords m next) rest (4 * suc m) (length-run m next), run-head m next rest) (fill-make n f (omega (arith, length-append (runTail m next) rest, length-run m next))))
 
--- ---- every start begins an object
-
--- a start is none of a piece's granules but the first
-pub start-beside : (st : ℕ → Bool) (g s : ℕ) → Bare st g s → (h : ℕ) → st h ≡ true → (h ≤ g) ⊎ (g + s ≤ h)
-start-beside st g s ba h e = elim (decLt g h) [
-  | yes p ↦ elim (decLt h (g + s)) [ yes q ↦ false≢ (sym (ba h p q) ∙ e) | no q ↦ inr (omega arith) ]
-  | no p ↦ inl (omega arith)
-]
-
-behind-at : (st : ℕ → Bool) (g s h : ℕ) (l r : List ℕ) → length l ≡ 4 * s → g + s ≤ h → At st (g + s) r h → At st g (l ++ r) h
-behind-at st g s h l r e k a =
-    let w : nth (l ++ r) (4 * (h - g)) ≡ nth r (4 * (h - (g + s))) = head-behind g s h l r e k in
-    let w₁ : nth (l ++ r) (4 * (h - g) + 1) ≡ nth r (4 * (h - (g + s)) + 1) = nth-behind g s h 1 l r e k in
-    record {
-      size-pos = rw w (a .size-pos);
-      links-in = rw (w, w₁) (a .links-in);
-      in-words = omega (arith, w, a .in-words, length-append l r);
-      none-inside = λ i p q. a .none-inside i p (omega (arith, w));
-    }
-
-first-at : (st : ℕ → Bool) (g s h : ℕ) (ws rest : List ℕ) → h ≡ g → ObjectPiece s ws → Bare st g s → At st g ((s ∷ ws) ++ rest) h
-unfolding nth
-first-at st g s h ws rest x o ba =
-    let z : 4 * (h - g) ≡ 0 = omega arith in
-    let w : nth ((s ∷ ws) ++ rest) (4 * (h - g)) ≡ s = ap (nth ((s ∷ ws) ++ rest)) z in
-    let z₁ : 4 * (h - g) + 1 ≡ 1 = omega arith in
-    let w₁ : nth ((s ∷ ws) ++ rest) (4 * (h - g) + 1) ≡ nth ws 0 = ap (nth ((s ∷ ws) ++ rest)) z₁ ∙ nth-left ws rest 0 (omega arith) in
-    record {
-      size-pos = omega (arith, w, o .long);
-      links-in = omega (arith, w, w₁, o .links-fit, o .long);
-      in-words = omega (arith, w, o .long, length-append ws rest);
-      none-inside = λ i p q. ba i (omega arith) (omega (arith, w));
-    }
-
-pub starts-at : {st : ℕ → Bool} {g : ℕ} {ws : List ℕ} {next : ℕ} {run : Bool} → Filled st g ws next run → (h : ℕ) → g ≤ h → 4 * h < 4 * g + length ws → st h ≡ true → At st g ws h
-starts-at f-end h p q e = absurd (omega arith)
-starts-at {st} {g} (f-object s ws rest t o ba f) h p q e = elim (start-beside st g s ba h e) [
-  | inl x ↦ first-at st g s h ws rest (omega arith) o ba
-  | inr l ↦ behind-at st g s h (s ∷ ws) rest (o .long) l (starts-at f h l (omega (arith, length-append ws rest, o .long)) e)
-]
-starts-at {st} {g} (f-run n next rest t ba f) h p q e = elim (start-beside st g (suc n) ba h e) [
-  | inl x ↦ let y : h ≡ g = omega arith in false≢ (sym t ∙ (rw y at e))
-  | inr l ↦ let r = length-run n next in behind-at st g (suc n) h (runWords n next) rest r l (starts-at f h l (omega (arith, length-append (runTail n next) rest, r)) e)
-]
-
 -- ---- of an image
 
 -- the line `filled` of "undamaged"
@@ -167,23 +93,13 @@ pub filled-make : (m : Image) → 1 ≤ granules m → HeapFilled m → filled m
 unfolding filled
 filled-make m h o = fill-make (granules m) (o .heap-filled) (omega (arith, length-drop 4 (m .heap), o .heap-words))
 
--- word i of granule h, in the words behind granule 0
-pub word-behind : (m : Image) (h i : ℕ) → 1 ≤ h → nth (drop 4 (m .heap)) (4 * (h - 1) + i) ≡ word m h i
-unfolding word
-word-behind m h i p = let z : 4 + (4 * (h - 1) + i) ≡ 4 * h + i = omega arith in nth-drop 4 (m .heap) (4 * (h - 1) + i) ∙ ap (nth (m .heap)) z
-
 pub object-at : (m : Image) → HeapFilled m → (g : ℕ) → isStart m g ≡ true → ObjectAt m g
 unfolding size links
 object-at m o g e =
     let range : (1 ≤ g) × (g < granules m) = o .start-range g e in
-    let a = starts-at (o .heap-filled) g (range .0) (omega (arith, length-drop 4 (m .heap))) e in
-    let w : nth (drop 4 (m .heap)) (4 * (g - 1)) ≡ word m g 0 = simp add-zero at (word-behind m g 0 (range .0)) in
-    record {
-      sized = rw w at (a .size-pos);
-      links-in = omega (arith, word-behind m g 1 (range .0), a .links-in);
-      in-heap = omega (arith, a .in-words, length-drop 4 (m .heap));
-      none-inside = λ h p q. a .none-inside h p (omega arith);
-    }
+    let ps = pieces-of (isStart m) (word m) (granules m) (o .heap-filled) (word-behind m) (omega (arith, length-drop 4 (m .heap))) in
+    let a = object-in (isStart m) (word m) (granules m) ps g (range .0) (range .1) e in
+    record { sized = a .long; links-in = a .links-fit; in-heap = a .ends; none-inside = a .alone }
 
 pub no-start-zero : {m : Image} → HeapFilled m → isStart m 0 ≡ false
 no-start-zero {m} o = not-true _ (not-make (isStart m 0) (λ e. omega (arith, (o .start-range 0 e) .0)))
