@@ -3,10 +3,10 @@ use mathlib.Core.Path.{_≡_, refl, _∙_}
 use mathlib.Core.Logic.{inl, inr}
 use mathlib.Core.Bool.{Bool, true, false}
 use mathlib.Core.List.{List, _∷_, _++_}
-use Prim.Native.Nat.{ℕ, zero, suc, _+_, _*_, _≤_, _<_}
+use Prim.Native.Nat.{ℕ, zero, suc, _+_, _*_, _-_, _≤_, _<_}
 use native.Mathlib.Decide.{ℕ-discrete}
 use native.Mathlib.Omega.{arith}
-use lib.ListN.{length, getD, length-append, length-drop}
+use lib.ListN.{length, drop, getD, length-append, length-drop}
 use Rattle.model.specs.Image.{Image, granules, word, isStart}
 use Rattle.model.proofs.Laws.{bool-cases}
 use Rattle.model.specs.Mutate.{freeFrom, freeGranules}
@@ -127,8 +127,8 @@ module _ (m : Image) (keep : List Bool) (o : HeapFilled m) (z : HeapSized m) (ke
   value-freed : Balance (isStart m) (λ g. getD keep g false) kept (word m) (granules m) 1 ((finishWith m keep) .value)
   unfolding finishWith
   value-freed =
-      freed-count (isStart m) (λ g. getD keep g false) kept (word m) (granules m) (granules m) (o .heap-filled) (λ h i p. word-behind m h i p)
-      (omega (arith, length-drop 4 (m .heap), o .heap-words, z .some-granules)) (omega (arith, length-drop 4 (m .heap), o .heap-words, z .some-granules))
+      let l : length (drop 4 (m .heap)) ≡ length (m .heap) - 4 = length-drop 4 (m .heap) in
+      freed-count (isStart m) (λ g. getD keep g false) kept (word m) (granules m) (granules m) (o .heap-filled) (word-behind m) (omega arith) (omega arith)
 
   -- the free granules grow by what a finish says
   pub finish-value : (finishWith m keep) .value + freeGranules m ≡ freeGranules ((finishWith m keep) .image)

@@ -80,14 +80,14 @@ module _ (st : ℕ → Bool) (rd : ℕ → ℕ → ℕ) (e : ℕ) where
       let w : rd g 0 ≡ suc n = front g 0 (runWords n next ++ rest) a ∙ nth-head (suc n) _ in
       let w₁ : rd g 1 ≡ next = front g 1 (runWords n next ++ rest) a ∙ run-next n next rest in
       let r : suc (length (runTail n next)) ≡ 4 * suc n = length-run n next in
-      let zeros : (i : ℕ) → i < 4 * suc n - 2 → nth (runWords n next ++ rest) (2 + i) ≡ 0 =
-      λ i l. let z : 2 + i ≡ suc (suc i) = omega arith in rw z (second (suc n) (runTail n next ++ rest) (suc i) ∙ run-zero n next rest i l) in
       at-run (record {
         no-start = t;
         long = omega arith;
         ends = omega (arith, length-append (runTail n next) rest);
         alone = rw w ba;
-        zero-words = λ i l. front g (2 + i) (runWords n next ++ rest) a ∙ zeros i (omega arith);
+        zero-words = λ i l.
+            let z : 2 + i ≡ suc (suc i) = omega arith in
+            rw z (front g (suc (suc i)) (runWords n next ++ rest) a ∙ (second (suc n) (runTail n next ++ rest) (suc i) ∙ run-zero n next rest i (omega arith)));
       })
       (rw (w, w₁) (pieces-of f (reads-behind g (suc n) (runWords n next) rest r a) (omega (arith, length-append (runTail n next) rest))))
 
@@ -101,18 +101,15 @@ module _ (st : ℕ → Bool) (rd : ℕ → ℕ → ℕ) (e : ℕ) where
   filled-of {g} {next} {b} (at-object o p) (x ∷ ws) a q =
       let w : rd g 0 ≡ x = front g 0 (x ∷ ws) a ∙ nth-head x ws in
       let w₁ : rd g 1 ≡ nth ws 0 = front g 1 (x ∷ ws) a ∙ second x ws 0 in
-      object-filled st g x ws next b (o .starts) (omega (arith, w, o .long)) (omega (arith, w, o .ends)) (rw w at (o .alone)) (omega (arith, w, o .few)) (omega (arith, w, w₁, o .links-fit))
-      (subst (λ y. Filled st (g + y) (drop (4 * y) (x ∷ ws)) next false) w
-      (filled-of p (drop (4 * rd g 0) (x ∷ ws)) (reads-drop g (rd g 0) (x ∷ ws) a) (omega (arith, length-drop (4 * rd g 0) (x ∷ ws), o .ends))))
+      object-filled st g x ws next b (o .starts) (omega arith) (omega arith) (rw w at (o .alone)) (omega arith) (omega arith)
+      (rw w at (filled-of p (drop (4 * rd g 0) (x ∷ ws)) (reads-drop g (rd g 0) (x ∷ ws) a) (omega (arith, length-drop (4 * rd g 0) (x ∷ ws)))))
   filled-of (at-run o p) [] a q = absurd (omega arith)
   filled-of {g} (at-run o p) (x ∷ ws) a q =
       let w : rd g 0 ≡ x = front g 0 (x ∷ ws) a ∙ nth-head x ws in
       let w₁ : rd g 1 ≡ nth ws 0 = front g 1 (x ∷ ws) a ∙ second x ws 0 in
-      run-filled st g x ws g false refl refl (omega (arith, w, o .long)) (omega (arith, w, o .ends)) (o .no-start) (rw w at (o .alone))
-      (λ i l. let z : 2 + i ≡ suc (suc i) = omega arith in sym (second x ws (suc i)) ∙ (sym (front g (suc (suc i)) (x ∷ ws) a) ∙ (ap (rd g) (sym z) ∙ o .zero-words i (omega (arith, w)))))
-      (subst (λ y. Filled st (g + y) (drop (4 * y) (x ∷ ws)) (nth ws 0) true) w
-      (subst (λ y. Filled st (g + rd g 0) (drop (4 * rd g 0) (x ∷ ws)) y true) w₁
-      (filled-of p (drop (4 * rd g 0) (x ∷ ws)) (reads-drop g (rd g 0) (x ∷ ws) a) (omega (arith, length-drop (4 * rd g 0) (x ∷ ws), o .ends)))))
+      run-filled st g x ws g false refl refl (omega arith) (omega arith) (o .no-start) (rw w at (o .alone))
+      (λ i l. let z : 2 + i ≡ suc (suc i) = omega arith in sym (second x ws (suc i)) ∙ (sym (front g (suc (suc i)) (x ∷ ws) a) ∙ (ap (rd g) (sym z) ∙ o .zero-words i (omega arith))))
+      (rw (w, w₁) at (filled-of p (drop (4 * rd g 0) (x ∷ ws)) (reads-drop g (rd g 0) (x ∷ ws) a) (omega (arith, length-drop (4 * rd g 0) (x ∷ ws)))))
 
   -- every start begins an object
   pub object-in : {g next : ℕ} {b : Bool} → Pieces st rd e g next b → (h : ℕ) → g ≤ h → h < e → st h ≡ true → ObjectHere st rd e h
@@ -143,12 +140,12 @@ unfolding word
 word-behind m h i p = let z : 4 + (4 * (h - 1) + i) ≡ 4 * h + i = omega arith in nth-drop 4 (m .heap) (4 * (h - 1) + i) ∙ ap (nth (m .heap)) z
 
 pub image-pieces : (m : Image) → HeapFilled m → HeapSized m → Pieces (isStart m) (word m) (granules m) 1 (firstRun m) false
-image-pieces m o z = pieces-of (isStart m) (word m) (granules m) (o .heap-filled) (λ h i p. word-behind m h i p) (omega (arith, length-drop 4 (m .heap), o .heap-words, z .some-granules))
+image-pieces m o z = pieces-of (isStart m) (word m) (granules m) (o .heap-filled) (word-behind m) (omega (arith, length-drop 4 (m .heap)))
 
 pub pieces-image : (m : Image) → HeapSized m → length (m .heap) ≡ 4 * granules m → Pieces (isStart m) (word m) (granules m) 1 (firstRun m) false
     → ((g : ℕ) → isStart m g ≡ true → (1 ≤ g) × (g < granules m)) → HeapFilled m
 pieces-image m z l p range = record {
   heap-words = l;
-  heap-filled = filled-of (isStart m) (word m) (granules m) p (drop 4 (m .heap)) (λ h i q. word-behind m h i q) (omega (arith, length-drop 4 (m .heap), l, z .some-granules));
+  heap-filled = filled-of (isStart m) (word m) (granules m) p (drop 4 (m .heap)) (word-behind m) (omega (arith, length-drop 4 (m .heap)));
   start-range = range;
 }

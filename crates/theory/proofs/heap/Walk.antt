@@ -52,7 +52,7 @@ object-ok : (st : ℕ → Bool) (g s : ℕ) (ws rest : List ℕ) (next : ℕ) (b
 unfolding piece
 object-ok st g s ws rest next b o ba =
     every-cons _ _ (le-leb 1 s (omega arith))
-    (every-cons _ _ (le-leb (4 * s) _ (omega (arith, o .long, length-append ws rest)))
+    (every-cons _ _ (le-leb (4 * s) _ (omega (arith, length-append ws rest)))
     (every-cons _ _ (bare-make st g s ba)
     (every-cons _ _ (le-leb _ _ (o .few))
     (every-cons _ _ (le-leb _ (4 * s - 2) (rw (nth-left ws rest 0 (omega arith)) (o .links-fit))) every-nil))))
@@ -81,7 +81,7 @@ fill-make zero f l = absurd (omega arith)
 fill-make (suc n) f-end l = unfold fill in refl
 fill-make {st} {g} {next = next} {run = b} (suc n) (f-object s ws rest q o ba f) l =
     fill-piece st n g s (ws ++ rest) next b true q (object-ok st g s ws rest next b o ba)
-    (rw (drop-at (s ∷ ws) rest (4 * s) (o .long)) (fill-make n f (omega (arith, length-append ws rest, o .long))))
+    (rw (drop-at (s ∷ ws) rest (4 * s) (o .long)) (fill-make n f (omega (arith, length-append ws rest))))
 fill-make {st} {g} (suc n) (f-run m next rest q ba f) l =
     fill-piece st n g (suc m) (runTail m next ++ rest) g false false q (run-ok st g m rest next ba)
     (rw (drop-at (runWords m next) rest (4 * suc m) (length-run m next), run-head m next rest) (fill-make n f (omega (arith, length-append (runTail m next) rest, length-run m next))))

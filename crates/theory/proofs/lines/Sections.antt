@@ -134,7 +134,7 @@ dirtyState-is (suc (suc x)) = (omega arith, λ h. omega arith)
 pub state-ok : {k : ℕ} {cs : List ℕ} → CardsOk k cs → (c v : ℕ) → c < k → v ≤ 3 → CardsOk k (put cs c v)
 state-ok {k} {cs} o c v h hv = record {
   sized = simp length-put (o .sized);
-  states = λ d. elim (nth-put cs c d v (omega (arith, o .sized))) [ inl (e, w) ↦ omega arith | inr (n, w) ↦ omega (arith, o .states d) ];
+  states = λ d. elim (nth-put cs c d v (omega arith)) [ inl (e, w) ↦ omega arith | inr (n, w) ↦ omega (arith, o .states d) ];
 }
 
 pub dirtied-ok : {k : ℕ} {cs : List ℕ} → CardsOk k cs → (c : ℕ) → c < k → CardsOk k (put cs c (dirtyState (nth cs c)))
@@ -142,7 +142,7 @@ dirtied-ok o c h = state-ok o c _ h (dirtyState-is _ .0)
 
 -- a taken card stays taken
 pub taken-on : {k : ℕ} {cs : List ℕ} → CardsOk k cs → (c v d : ℕ) → c < k → (2 ≤ nth cs c → 2 ≤ v) → 2 ≤ nth cs d → 2 ≤ nth (put cs c v) d
-taken-on {k} {cs} o c v d h f hd = elim (nth-put cs c d v (omega (arith, o .sized))) [ inl (e, w) ↦ rw w (f (rw e at hd)) | inr (n, w) ↦ omega arith ]
+taken-on {k} {cs} o c v d h f hd = elim (nth-put cs c d v (omega arith)) [ inl (e, w) ↦ rw w (f (rw e at hd)) | inr (n, w) ↦ omega arith ]
 
 pub dirtied-on : {k : ℕ} {cs : List ℕ} → CardsOk k cs → (c d : ℕ) → c < k → 2 ≤ nth cs d → 2 ≤ nth (put cs c (dirtyState (nth cs c))) d
 dirtied-on {k} {cs} o c d h hd = taken-on o c (dirtyState (nth cs c)) d h (dirtyState-is _ .1) hd
@@ -152,7 +152,7 @@ dirtied-on {k} {cs} o c d h hd = taken-on o c (dirtyState (nth cs c)) d h (dirty
 pub owed-set : {k : ℕ} {ps : List ℕ} → PlayersOk k ps → (p v : ℕ) → p < 16 → v ≤ k → PlayersOk k (put ps (2 * p) v)
 owed-set {k} {ps} o p v hp hv = record {
   sized = simp length-put (o .sized);
-  owed-ok = λ q. elim (nth-put ps (2 * p) (2 * q) v (omega (arith, o .sized))) [ inl (e, w) ↦ omega arith | inr (n, w) ↦ omega (arith, o .owed-ok q) ];
+  owed-ok = λ q. elim (nth-put ps (2 * p) (2 * q) v (omega arith)) [ inl (e, w) ↦ omega arith | inr (n, w) ↦ omega (arith, o .owed-ok q) ];
   scanned-ok = λ q. rw (nth-put-other ps (2 * p) (2 * q + 1) v (omega arith)) (o .scanned-ok q);
 }
 
@@ -160,14 +160,14 @@ pub scanned-set : {k : ℕ} {ps : List ℕ} → PlayersOk k ps → (p : ℕ) →
 scanned-set {k} {ps} o p hp = record {
   sized = simp length-put (o .sized);
   owed-ok = λ q. rw (nth-put-other ps (2 * p + 1) (2 * q) 1 (omega arith)) (o .owed-ok q);
-  scanned-ok = λ q. elim (nth-put ps (2 * p + 1) (2 * q + 1) 1 (omega (arith, o .sized))) [ inl (e, w) ↦ omega arith | inr (n, w) ↦ omega (arith, o .scanned-ok q) ];
+  scanned-ok = λ q. elim (nth-put ps (2 * p + 1) (2 * q + 1) 1 (omega arith)) [ inl (e, w) ↦ omega arith | inr (n, w) ↦ omega (arith, o .scanned-ok q) ];
 }
 
 -- a register is set to nil or a start
 pub reg-ok : {St : ℕ → Type 0} {rs : List ℕ} → RegsOk St rs → (i v : ℕ) → i < 256 → NilOr St v → RegsOk St (put rs i v)
 reg-ok {St} {rs} o i v h ok = record {
   sized = simp length-put (o .sized);
-  values = λ j. elim (nth-put rs i j v (omega (arith, o .sized))) [ inl (e, w) ↦ rw w ok | inr (n, w) ↦ rw w (o .values j) ];
+  values = λ j. elim (nth-put rs i j v (omega arith)) [ inl (e, w) ↦ rw w ok | inr (n, w) ↦ rw w (o .values j) ];
 }
 
 -- a start is marked

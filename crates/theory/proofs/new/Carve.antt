@@ -104,7 +104,7 @@ module _ (m n : Image) (b c r before next : ℕ) (w : Carved m n b c r before ne
     left-here l = record {
       no-start = w .start-old (r + b) (omega arith) ∙ o .alone (r + b) (omega arith) (omega arith);
       long = omega (arith, w .left-size l);
-      ends = omega (arith, w .left-size l, o .ends);
+      ends = omega (arith, w .left-size l);
       alone = λ h p q. w .start-old h (omega arith) ∙ o .alone h (omega arith) (omega (arith, w .left-size l));
       zero-words = λ i k.
           let j : 4 * (r + b) + (2 + i) ≡ 4 * r + (2 + (4 * b + i)) = omega arith in

@@ -73,7 +73,7 @@ module _ (m : Image) (g before b c : ℕ) where
     some-left : b < word m g 0 → (word (placed m g before b c) (g + b) 0 ≡ run-left) × (word (placed m g before b c) (g + b) 1 ≡ word m g 1)
     unfolding word
     some-left l =
-        let k = take-left m g before b (word m g 0 - b) (omega arith) (omega arith) (omega (arith, len, o .ends)) in
+        let k = take-left m g before b (word m g 0 - b) (omega arith) (omega arith) (omega arith) in
         (placed-nth (4 * (g + b) + 0) (omega arith) (omega arith) ∙ k .0, placed-nth (4 * (g + b) + 1) (omega arith) (omega arith) ∙ k .1)
 
     pub placed-carved : Carved m (placed m g before b c) b c g before (nextOf m g b run-left)
