@@ -15,20 +15,13 @@ use Rattle.theory.proofs.heap.Pieces.{loosen}
 
 -- ---- where the places lie
 
-pub place-past : (m : Image) {b x next last r before : ℕ} {f : Bool} → PlaceIn m b x next f last r before → x ≤ r
-place-past m (past-object o p) = omega (arith, place-past m p)
-place-past m (past-run o l p) = omega (arith, place-past m p)
-place-past m (place-here o l p) = omega arith
-
-place-order : (m : Image) {b x next last r before : ℕ} {f : Bool} → PlaceIn m b x next f last r before → (before ≡ last) ⊎ (x ≤ before)
-place-order m (past-object o p) = elim (place-order m p) [ inl e ↦ inl e | inr l ↦ inr (omega arith) ]
-place-order m (past-run o k p) = elim (place-order m p) [ inl e ↦ inr (omega arith) | inr l ↦ inr (omega arith) ]
-place-order m (place-here o l p) = inl refl
+place-order : (m : Image) {b x next last r before : ℕ} {f : Bool} → PlaceIn m b x next f last r before → (x ≤ r) × ((before ≡ last) ⊎ ((x ≤ before) × (before < r)))
+place-order m (past-object o p) = let k = place-order m p in (omega (arith, k .0), elim (k .1) [ inl e ↦ inl e | inr l ↦ inr (omega arith) ])
+place-order m (past-run o s p) = let k = place-order m p in (omega (arith, k .0), inr (elim (k .1) [ inl e ↦ omega (arith, k .0) | inr l ↦ omega arith ]))
+place-order m (place-here o l p) = (omega arith, inl refl)
 
 pub place-below : (m : Image) {b x next last r before : ℕ} {f : Bool} → PlaceIn m b x next f last r before → last < x → before < r
-place-below m (past-object o p) h = place-below m p (omega arith)
-place-below m (past-run o l p) h = place-below m p (omega arith)
-place-below m (place-here o l p) h = h
+place-below m p h = let k = place-order m p in elim (k .1) [ inl e ↦ omega (arith, k .0) | inr l ↦ l .1 ]
 
 module _ (m n : Image) (b c r before next : ℕ) (w : Carved m n b c r before next) (hb : 1 ≤ b) (below : before < r) where
   -- pieces of n are those of m's granules
@@ -133,15 +126,15 @@ module _ (m n : Image) (b c r before next : ℕ) (w : Carved m n b c r before ne
 
   pub carve : {x nx last : ℕ} {f : Bool} → b ≤ 1024 → c + 2 ≤ 4 * b → PlaceIn m b x nx f last r before → last < x → Now x (following before next last nx) f
   carve {x} {nx} {last} few fits (past-object o p) h =
-      let past : x + word m x 0 ≤ r = place-past m p in
+      let past : x + word m x 0 ≤ r = place-order m p .0 in
       let e : word n x 0 ≡ word m x 0 = word-before x 0 (omega arith) (omega arith) in
-      let off : x ≡ before → ⊥ = elim (place-order m p) [ inl y ↦ omega arith | inr y ↦ omega arith ] in
+      let off : x ≡ before → ⊥ = elim (place-order m p .1) [ inl y ↦ omega arith | inr y ↦ omega arith ] in
       at-object {next = following before next last nx}
       (object-same x (omega arith) e (word-before x 1 (omega arith) (λ q. off (omega arith))) (λ i u v. omega arith) o)
       (rw e (carve few fits p (omega arith)))
   carve {x} {last = last} few fits (past-run o l p) h =
-      let past : x + word m x 0 ≤ r = place-past m p in
-      let d = place-order m p in
+      let past : x + word m x 0 ≤ r = place-order m p .0 in
+      let d = place-order m p .1 in
       let up : x ≤ before = elim d [ inl y ↦ omega arith | inr y ↦ omega arith ] in
       let e : word n x 0 ≡ word m x 0 = word-before x 0 (omega arith) (omega arith) in
       let off : (i : ℕ) → 2 + i < 4 * word m x 0 → 4 * x + (2 + i) ≡ 4 * before + 1 → ⊥ = λ i k. elim d [ inl y ↦ omega arith | inr y ↦ omega arith ] in
