@@ -1,9 +1,8 @@
 -- What the lines give of the heap: it is filled, objects lie apart, links and registers are nil or starts.
-use mathlib.Core.Path.{_≡_, refl, sym, subst, _∙_}
+use mathlib.Core.Path.{_≡_, sym, _∙_}
 use mathlib.Core.Logic.{inl, inr}
-use mathlib.Core.Bool.{Bool, true, false}
-use mathlib.Core.List.{List}
-use Prim.Native.Nat.{ℕ, zero, suc, _+_, _*_, _≤_, _<_}
+use mathlib.Core.Bool.{true, false}
+use Prim.Native.Nat.{ℕ, _+_, _*_, _≤_, _<_}
 use native.Mathlib.Decide.{ℕ-discrete}
 use native.Mathlib.Omega.{arith}
 use lib.ListN.{drop}
@@ -15,18 +14,9 @@ use Rattle.theory.specs.Heap.{HeapFilled, HeapSized, Laid, Proper}
 use Rattle.theory.specs.Lines.{NilOr, Start, Lines}
 use Rattle.theory.proofs.heap.Walk.{fill-use, laid}
 
-fill-none : (st : ℕ → Bool) (n g : ℕ) (ws : List ℕ) (next : ℕ) (run : Bool) → n ≡ 0 → fill st n g ws next run ≡ true → false ≡ true
-unfolding fill
-fill-none st zero g ws next run e f = f
-fill-none st (suc n) g ws next run e f = absurd (omega arith)
-
 module _ {m : Image} (o : Lines m) where
   pub start-pos : (g : ℕ) → bit (m .width) (m .starts) g ≡ true → 1 ≤ g
-  start-pos g s = go (ℕ-discrete g 0)
-    where
-      go : Dec (g ≡ 0) → 1 ≤ g
-      go (yes e) = false≢ (sym (o .heap-ok .unused) ∙ subst (λ x. bit (m .width) (m .starts) x ≡ true) e s)
-      go (no n) = omega arith
+  start-pos g s = elim (ℕ-discrete g 0) [ yes e ↦ false≢ (sym (o .heap-ok .unused) ∙ (rw e at s)) | no n ↦ omega arith ]
 
   pub heap-filled-of : HeapFilled m
   unfolding granules isStart firstRun
@@ -37,11 +27,8 @@ module _ {m : Image} (o : Lines m) where
   }
 
   pub some-card : 1 ≤ m .k
-  some-card = go (m .k) refl
-    where
-      go : (k : ℕ) → m .k ≡ k → 1 ≤ m .k
-      go zero e = false≢ (fill-none (bit (m .width) (m .starts)) (64 * m .k) 1 (drop 4 (m .heap)) (nth (m .general) 1) false (omega arith) (o .heap-ok .filled))
-      go (suc k) e = omega arith
+  unfolding fill
+  some-card = elim (ℕ-discrete (m .k) 0) [ yes e ↦ false≢ (rw e at (o .heap-ok .filled)) | no n ↦ omega arith ]
 
   pub heap-sized-of : HeapSized m
   unfolding granules
@@ -70,11 +57,7 @@ module _ {m : Image} (o : Lines m) where
   pub proper-of : Proper m
   unfolding isStart marked
   proper-of = record {
-    reg-start = λ p r hp hr n. some-start (reg m p r) n (reg-value p r);
-    link-start = λ g i s l n. some-start (link m g i) n (link-value g i (start-at g s) l);
+    reg-start = λ p r hp hr n. elim (reg-value p r) [ inl z ↦ absurd (n z) | inr s ↦ s .1 ];
+    link-start = λ g i s l n. elim (link-value g i (start-at g s) l) [ inl z ↦ absurd (n z) | inr s ↦ s .1 ];
     mark-start = λ g k. o .marks-ok .on-starts g k .1;
   }
-    where
-      some-start : (a : ℕ) → (a ≡ 0 → ⊥) → NilOr (Start m) a → bit (m .width) (m .starts) a ≡ true
-      some-start a n (inl z) = absurd (n z)
-      some-start a n (inr s) = s .1

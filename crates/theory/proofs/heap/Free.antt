@@ -1,14 +1,16 @@
 -- Free granules: those of the run chain are all that no object has, and a finish adds what it says.
 use mathlib.Core.Path.{_≡_, refl, _∙_}
-use mathlib.Core.Bool.{Bool, true, false, cond}
-use mathlib.Core.List.{List, [], _∷_, _++_}
-use Prim.Native.Nat.{ℕ, zero, suc, _+_, _*_, _≤_, _<_}
+use mathlib.Core.Logic.{inl, inr}
+use mathlib.Core.Bool.{Bool, true, false}
+use mathlib.Core.List.{List, _∷_, _++_}
+use Prim.Native.Nat.{ℕ, zero, suc, _+_, _*_, _-_, _≤_, _<_}
 use native.Mathlib.Decide.{ℕ-discrete}
 use native.Mathlib.Omega.{arith}
-use lib.ListN.{length, getD, length-append, length-drop}
+use lib.ListN.{length, drop, getD, length-append, length-drop}
 use Rattle.model.specs.Image.{Image, granules, word, isStart}
+use Rattle.model.proofs.Laws.{bool-cases}
 use Rattle.model.specs.Mutate.{freeFrom, freeGranules}
-use Rattle.model.specs.Finish.{runTail, Swept, swept, sweep, finishWith}
+use Rattle.model.specs.Finish.{runTail, swept, sweep, finishWith}
 use Rattle.theory.specs.Heap.{runWords, Bare, Filled, f-end, f-object, f-run, HeapFilled, HeapSized}
 use Rattle.theory.specs.Pieces.{Reads, Pieces, at-end, at-object, at-run, sumBelow, sizes, usedGranules}
 use Rattle.theory.proofs.heap.Lists.{nth-head, length-run}
@@ -24,15 +26,14 @@ unfolding sumBelow
 total-ext v u zero f = refl
 total-ext v u (suc n) f = let a : sumBelow v n ≡ sumBelow u n = total-ext v u n (λ g h. f g (omega arith)) in let b : v n ≡ u n = f n (omega arith) in omega arith
 
--- past a piece of which only the first granule counts
-total-piece : (v : ℕ → ℕ) (x y : ℕ) → x < y → ((h : ℕ) → x < h → h < y → v h ≡ 0) → sumBelow v y ≡ sumBelow v x + v x
+-- past granules that count the same
+pub total-same : (v : ℕ → ℕ) (a x y : ℕ) → x ≤ y → ((h : ℕ) → x ≤ h → h < y → v h ≡ a) → sumBelow v y + a * x ≡ sumBelow v x + a * y
 unfolding sumBelow
-total-piece v x zero l f = absurd (omega arith)
-total-piece v x (suc y) l f = cs (λ k. total-piece v x y k (λ h p q. f h p (omega arith))) (ℕ-discrete x y)
-  where
-    cs : (x < y → sumBelow v y ≡ sumBelow v x + v x) → Dec (x ≡ y) → sumBelow v y + v y ≡ sumBelow v x + v x
-    cs ih (yes e) = rw e
-    cs ih (no e) = let a = ih (omega arith) in omega (arith, a, f y (omega arith) (omega arith))
+total-same v a x zero l f = let z : x ≡ 0 = omega arith in rw z
+total-same v a x (suc y) l f = elim (ℕ-discrete x (suc y)) [
+  | yes e ↦ rw e
+  | no e ↦ omega (arith, total-same v a x y (omega arith) (λ h p q. f h p (omega arith)), f y (omega arith) (omega arith))
+]
 
 module _ (st : ℕ → Bool) (rd : ℕ → ℕ → ℕ) where
   sizes-no : (g : ℕ) → st g ≡ false → sizes st rd g ≡ 0
@@ -41,8 +42,10 @@ module _ (st : ℕ → Bool) (rd : ℕ → ℕ → ℕ) where
   sizes-yes : (g : ℕ) → st g ≡ true → sizes st rd g ≡ rd g 0
   sizes-yes g e = rw e
 
+  -- of a piece only the first granule counts
   total-past : (x s : ℕ) → 1 ≤ s → Bare st x s → sumBelow (sizes st rd) (x + s) ≡ sumBelow (sizes st rd) x + sizes st rd x
-  total-past x s l ba = total-piece (sizes st rd) x (x + s) (omega arith) (λ h p q. sizes-no h (ba h p q))
+  unfolding sumBelow
+  total-past x s l ba = omega (arith, total-same (sizes st rd) 0 (suc x) (x + s) (omega arith) (λ h p q. sizes-no h (ba h p q)))
 
 -- ---- the chain has every granule that no object has
 
@@ -57,12 +60,12 @@ chain-count : (m : Image) {x next : ℕ} {b : Bool} (n : ℕ) → Pieces (isStar
 unfolding freeFrom
 chain-count m n at-end h l = omega (arith, chain-end m n)
 chain-count m {x} {next} n (at-object o p) h l =
-    let ih = chain-count m n p (omega arith) (omega (arith, o .long)) in
+    let ih = chain-count m n p (omega arith) (omega arith) in
     omega (arith, ih, total-past (isStart m) (word m) x (word m x 0) (o .long) (o .alone), sizes-yes (isStart m) (word m) x (o .starts))
-chain-count m zero (at-run o p) h l = absurd (omega (arith, o .ends, o .long))
+chain-count m zero (at-run o p) h l = absurd (omega arith)
 chain-count m {x = zero} (suc n) (at-run o p) h l = absurd (omega arith)
 chain-count m {x = suc x} (suc n) (at-run o p) h l =
-    let ih = chain-count m n p (omega arith) (omega (arith, o .long)) in
+    let ih = chain-count m n p (omega arith) (omega arith) in
     omega (arith, ih, total-past (isStart m) (word m) (suc x) (word m (suc x) 0) (o .long) (o .alone), sizes-no (isStart m) (word m) (suc x) (o .no-start))
 
 total-one : (st : ℕ → Bool) (rd : ℕ → ℕ → ℕ) → st 0 ≡ false → sumBelow (sizes st rd) 1 ≡ 0
@@ -83,42 +86,31 @@ module _ (st keep : ℕ → Bool) (kept : (g : ℕ) → keep g ≡ true → st g
   bare-kept : (g s : ℕ) → Bare st g s → Bare keep g s
   bare-kept g s ba h p q = not-kept st keep kept h (ba h p q)
 
-  none-freed : (n g : ℕ) → e ≡ g → Balance g ((sweep st keep (suc n) g []) .freed)
-  unfolding sweep
-  none-freed n g x = rw x (omega arith)
-
   -- what is freed, and what kept objects have, is what all objects have
-  pub freed-count : {g next : ℕ} {run : Bool} {ws : List ℕ} (n : ℕ) → Filled st g ws next run → Reads rd g ws → 4 * g + length ws ≡ 4 * e → length ws < 4 * n → Balance g ((sweep st keep n g ws) .freed)
+  freed-count : {g next : ℕ} {run : Bool} {ws : List ℕ} (n : ℕ) → Filled st g ws next run → Reads rd g ws → 4 * g + length ws ≡ 4 * e → length ws < 4 * n
+      → Balance g ((sweep st keep n g ws) .freed)
+  unfolding swept sweep
   freed-count zero f a q l = absurd (omega arith)
-  freed-count {g} (suc n) f-end a q l = none-freed n g (omega arith)
+  freed-count {g} (suc n) f-end a q l = let x : e ≡ g = omega arith in rw x (omega arith)
   freed-count {g} (suc n) (f-object s ws rest t o ba f) a q l =
+      let j : length (ws ++ rest) ≡ length ws + length rest = length-append ws rest in
+      let ih = freed-count n f (reads-behind st rd e g s (s ∷ ws) rest (o .long) a) (omega arith) (omega arith) in
+      let w : rd g 0 ≡ s = front st rd e g 0 ((s ∷ ws) ++ rest) a ∙ nth-head s (ws ++ rest) in
+      let all-past : sumBelow (sizes st rd) (g + s) ≡ sumBelow (sizes st rd) g + s = omega (arith, total-past st rd g s (omega arith) ba, sizes-yes st rd g t) in
+      let kept-past = total-past keep rd g s (omega arith) (bare-kept g s ba) in
       rw (sweep-piece st keep kept n g s ws rest (o .long))
-      (go (freed-count n f (reads-behind st rd e g s (s ∷ ws) rest (o .long) a) (omega (arith, length-append ws rest, o .long)) (omega (arith, length-append ws rest, o .long))) (keep g) refl)
-    where
-      r : Swept
-      r = sweep st keep n (g + s) rest
-
-      w : rd g 0 ≡ s
-      w = front st rd e g 0 ((s ∷ ws) ++ rest) a ∙ nth-head s (ws ++ rest)
-
-      all-past : sumBelow (sizes st rd) (g + s) ≡ sumBelow (sizes st rd) g + s
-      all-past = omega (arith, total-past st rd g s (omega (arith, o .long)) ba, sizes-yes st rd g t, w)
-
-      kept-past : sumBelow (sizes keep rd) (g + s) ≡ sumBelow (sizes keep rd) g + sizes keep rd g
-      kept-past = total-past keep rd g s (omega (arith, o .long)) (bare-kept g s ba)
-
-      go : Balance (g + s) (r .freed) → (k : Bool) → keep g ≡ k → Balance g ((swept st g s (s ∷ ws) k r) .freed)
-      go ih true k = unfold swept in omega (arith, ih, all-past, kept-past, sizes-yes keep rd g k, w)
-      go ih false k = unfold swept in rw t (omega (arith, ih, all-past, kept-past, sizes-no keep rd g k))
+      (elim (bool-cases (keep g)) [
+        | inl k ↦ rw k (omega (arith, ih, kept-past, sizes-yes keep rd g k))
+        | inr k ↦ rw (k, t) (omega (arith, ih, kept-past, sizes-no keep rd g k))
+      ])
   freed-count {g} (suc n) (f-run i next rest t ba f) a q l =
-      rw (sweep-piece st keep kept n g (suc i) (runTail i next) rest (length-run i next), not-kept st keep kept g t)
-      (go (freed-count n f (reads-behind st rd e g (suc i) (runWords i next) rest (length-run i next) a) (omega (arith, length-append (runTail i next) rest, length-run i next)) (omega (arith, length-append (runTail i next) rest, length-run i next))))
-    where
-      r : Swept
-      r = sweep st keep n (g + suc i) rest
-
-      go : Balance (g + suc i) (r .freed) → Balance g ((swept st g (suc i) (runWords i next) false r) .freed)
-      go ih = unfold swept in rw t (omega (arith, ih, total-past st rd g (suc i) (omega arith) ba, total-past keep rd g (suc i) (omega arith) (bare-kept g (suc i) ba), sizes-no st rd g t, sizes-no keep rd g (not-kept st keep kept g t)))
+      let r : suc (length (runTail i next)) ≡ 4 * suc i = length-run i next in
+      let j : length (runTail i next ++ rest) ≡ length (runTail i next) + length rest = length-append (runTail i next) rest in
+      let ih = freed-count n f (reads-behind st rd e g (suc i) (runWords i next) rest r a) (omega arith) (omega arith) in
+      let no : keep g ≡ false = not-kept st keep kept g t in
+      let all-past = total-past st rd g (suc i) (omega arith) ba in
+      let kept-past = total-past keep rd g (suc i) (omega arith) (bare-kept g (suc i) ba) in
+      rw (sweep-piece st keep kept n g (suc i) (runTail i next) rest r, no, t) (omega (arith, ih, all-past, kept-past, sizes-no st rd g t, sizes-no keep rd g no))
 
 module _ (m : Image) (keep : List Bool) (o : HeapFilled m) (z : HeapSized m) (kept : (g : ℕ) → getD keep g false ≡ true → isStart m g ≡ true) where
   same-granules : granules ((finishWith m keep) .image) ≡ granules m
@@ -127,20 +119,20 @@ module _ (m : Image) (keep : List Bool) (o : HeapFilled m) (z : HeapSized m) (ke
 
   used-kept : usedGranules ((finishWith m keep) .image) ≡ sumBelow (sizes (λ g. getD keep g false) (word m)) (granules m)
   unfolding usedGranules
-  used-kept = rw same-granules (total-ext _ _ (granules m) (λ g h. rw (finish-starts m keep o z kept g) (same g (getD keep g false) refl)))
-    where
-      same : (g : ℕ) (k : Bool) → getD keep g false ≡ k → cond k (word ((finishWith m keep) .image) g 0) 0 ≡ cond k (word m g 0) 0
-      same g true e = finish-words m keep o z kept g 0 e (omega (arith, (object-at m o g (kept g e)) .sized))
-      same g false e = refl
+  used-kept = rw same-granules (total-ext _ _ (granules m) (λ g h. rw (finish-starts m keep o z kept g) (elim (bool-cases (getD keep g false)) [
+    | inl e ↦ rw e (finish-words m keep o z kept g 0 e (omega (arith, (object-at m o g (kept g e)) .sized)))
+    | inr e ↦ rw e
+  ])))
 
   value-freed : Balance (isStart m) (λ g. getD keep g false) kept (word m) (granules m) 1 ((finishWith m keep) .value)
   unfolding finishWith
   value-freed =
-      freed-count (isStart m) (λ g. getD keep g false) kept (word m) (granules m) (granules m) (o .heap-filled) (λ h i p. word-behind m h i p)
-      (omega (arith, length-drop 4 (m .heap), o .heap-words, z .some-granules)) (omega (arith, length-drop 4 (m .heap), o .heap-words, z .some-granules))
+      let l : length (drop 4 (m .heap)) ≡ length (m .heap) - 4 = length-drop 4 (m .heap) in
+      freed-count (isStart m) (λ g. getD keep g false) kept (word m) (granules m) (granules m) (o .heap-filled) (word-behind m) (omega arith) (omega arith)
 
   -- the free granules grow by what a finish says
   pub finish-value : (finishWith m keep) .value + freeGranules m ≡ freeGranules ((finishWith m keep) .image)
+  unfolding usedGranules
   finish-value =
       omega (
         arith,
@@ -148,11 +140,7 @@ module _ (m : Image) (keep : List Bool) (o : HeapFilled m) (z : HeapSized m) (ke
         used-kept,
         same-granules,
         free-count m o z,
-        all-used,
         free-count ((finishWith m keep) .image) (finish-filled m keep o z kept) (finish-sized m keep o z kept),
         total-one (isStart m) (word m) (no-start-zero o),
         total-one (λ g. getD keep g false) (word m) (not-kept (isStart m) (λ g. getD keep g false) kept 0 (no-start-zero o)),
       )
-    where
-      all-used : usedGranules m ≡ sumBelow (sizes (isStart m) (word m)) (granules m)
-      all-used = unfold usedGranules in refl

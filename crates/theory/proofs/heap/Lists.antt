@@ -2,6 +2,7 @@
 use mathlib.Core.Path.{_≡_, refl, ap, ap₂, _∙_}
 use mathlib.Core.List.{List, [], _∷_, _++_}
 use Prim.Native.Nat.{ℕ, zero, suc, _+_, _*_, _-_, _≤_, _<_, suc-le-suc}
+use native.Mathlib.Nat.{add-zero}
 use native.Mathlib.Omega.{arith}
 use lib.ListN.{length, take, replicate, length-replicate, List·getD-append}
 use lib.Seq.{getD-append-add}
@@ -48,7 +49,4 @@ pub nth-behind : (g s h i : ℕ) (l r : List ℕ) → length l ≡ 4 * s → g +
 nth-behind g s h i l r e p = let j : 4 * (h - g) + i ≡ 4 * s + (4 * (h - (g + s)) + i) = omega arith in ap (nth (l ++ r)) j ∙ nth-right l r _ (4 * s) e
 
 pub head-behind : (g s h : ℕ) (l r : List ℕ) → length l ≡ 4 * s → g + s ≤ h → nth (l ++ r) (4 * (h - g)) ≡ nth r (4 * (h - (g + s)))
-head-behind g s h l r e u =
-    let z : 4 * (h - g) ≡ 4 * (h - g) + 0 = omega arith in
-    let z₁ : 4 * (h - (g + s)) + 0 ≡ 4 * (h - (g + s)) = omega arith in
-    ap (nth (l ++ r)) z ∙ (nth-behind g s h 0 l r e u ∙ ap (nth r) z₁)
+head-behind g s h l r e u = simp add-zero at (nth-behind g s h 0 l r e u)

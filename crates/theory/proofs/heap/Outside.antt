@@ -1,42 +1,19 @@
 -- The free granules are those that are in no object.
-use mathlib.Core.Path.{_≡_, refl}
-use mathlib.Core.Logic.{_⊎_, inl, inr}
-use mathlib.Core.Bool.{Bool, true, false, cond, _&&_}
+use mathlib.Core.Path.{_≡_}
+use mathlib.Core.Logic.{inl, inr}
+use mathlib.Core.Bool.{Bool, true, false, cond}
 use Prim.Native.Nat.{ℕ, zero, suc, _+_, _≤_, _<_}
-use native.Mathlib.Decide.{ℕ-discrete}
 use native.Mathlib.Omega.{arith}
 use lib.Dec.{ltb}
 use borrow.Author.Tests.{ltb-true, lt-ltb}
-use Rattle.model.specs.Base.{any}
 use Rattle.model.specs.Image.{Image, granules, word, isStart, size}
 use Rattle.model.specs.Mutate.{freeFrom, freeGranules}
 use Rattle.model.proofs.Laws.{bool-cases, and-split, and-join, any-use, any-make}
 use Rattle.theory.specs.Heap.{HeapFilled, HeapSized}
-use Rattle.theory.specs.Pieces.{at-end, at-object, at-run, PiecesIn, RunApart, Clear, sumBelow, inObject, granulesOutside}
+use Rattle.theory.specs.Pieces.{at-end, at-object, at-run, PiecesIn, Clear, sumBelow, inObject, granulesOutside}
 use Rattle.theory.proofs.heap.Pieces.{image-pieces}
-use Rattle.theory.proofs.heap.Free.{chain-end}
+use Rattle.theory.proofs.heap.Free.{total-same, chain-end}
 use Rattle.theory.proofs.heap.Unused.{clear-object, clear-run, run-apart, run-unused, clear-one}
-
--- ---- sums over a piece
-
-total-same : (v : ℕ → ℕ) (a x y : ℕ) → x ≤ y → ((h : ℕ) → x ≤ h → h < y → v h ≡ a) → sumBelow v y + sumBelow (λ h. a) x ≡ sumBelow (λ h. a) y + sumBelow v x
-unfolding sumBelow
-total-same v a x zero l f = let z : x ≡ 0 = omega arith in rw z (omega arith)
-total-same v a x (suc y) l f = cs (λ k. total-same v a x y k (λ h p q. f h p (omega arith))) (ℕ-discrete x (suc y))
-  where
-    cs : (x ≤ y → sumBelow v y + sumBelow (λ h. a) x ≡ sumBelow (λ h. a) y + sumBelow v x) → Dec (x ≡ suc y) → sumBelow v y + v y + sumBelow (λ h. a) x ≡ sumBelow (λ h. a) y + a + sumBelow v x
-    cs ih (yes e) = rw e (omega arith)
-    cs ih (no e) = let k = ih (omega arith) in omega (arith, k, f y (omega arith) (omega arith))
-
-total-zero : (n : ℕ) → sumBelow (λ h. 0) n ≡ 0
-unfolding sumBelow
-total-zero zero = refl
-total-zero (suc n) = omega (arith, total-zero n)
-
-total-one : (n : ℕ) → sumBelow (λ h. 1) n ≡ n
-unfolding sumBelow
-total-one zero = refl
-total-one (suc n) = omega (arith, total-one n)
 
 module _ (m : Image) where
   -- ---- which granules are in an object
@@ -47,40 +24,32 @@ module _ (m : Image) where
 
   none-inside : (y : ℕ) → ((h : ℕ) → isStart m h ≡ true → h ≤ y → y < h + size m h → ⊥) → inObject m y ≡ false
   unfolding inObject
-  none-inside y f = cs (bool-cases (any (suc y) (λ h. isStart m h && ltb y (h + size m h))))
-    where
-      cs : (any (suc y) (λ h. isStart m h && ltb y (h + size m h)) ≡ true) ⊎ (any (suc y) (λ h. isStart m h && ltb y (h + size m h)) ≡ false) → any (suc y) (λ h. isStart m h && ltb y (h + size m h)) ≡ false
-      cs (inl e) = let u = any-use (suc y) _ e in let k = and-split (isStart m (u .0)) _ (u .2) in absurd (f (u .0) (k .0) (omega (arith, u .1)) (ltb-true _ _ (k .1)))
-      cs (inr e) = e
+  none-inside y f = elim (bool-cases (inObject m y)) [
+    | inl e ↦ let u = any-use (suc y) _ e in let k = and-split (isStart m (u .0)) _ (u .2) in absurd (f (u .0) (k .0) (omega (arith, u .1)) (ltb-true _ _ (k .1)))
+    | inr e ↦ e
+  ]
 
   -- ---- the chain, counted
 
   abbrev out : ℕ → ℕ
   out y = cond (inObject m y) 0 1
 
-  out-object : (x y : ℕ) → isStart m x ≡ true → x ≤ y → y < x + word m x 0 → out y ≡ 0
-  unfolding size
-  out-object x y e l q = rw (object-inside x y e l q)
-
-  out-run : (r y : ℕ) → RunApart m r → r ≤ y → y < r + word m r 0 → out y ≡ 1
-  out-run r y a l q = rw (none-inside y ((run-unused m r y a l q) .in-no-object))
-
   chain-outside : {x next : ℕ} {b : Bool} (n : ℕ) → PiecesIn m x next b → 1 ≤ x → Clear m x → granules m ≤ x + n → sumBelow out (granules m) ≡ freeFrom m n next + sumBelow out x
-  unfolding freeFrom
+  unfolding freeFrom size
   chain-outside n at-end h c l = omega (arith, chain-end m n)
   chain-outside {x} n (at-object o p) h c l =
       let ih = chain-outside n p (omega arith) (clear-object m x o c) (omega arith) in
-      omega (arith, ih, total-same out 0 x (x + word m x 0) (omega arith) (λ y p q. out-object x y (o .starts) p q), total-zero x, total-zero (x + word m x 0))
-  chain-outside zero (at-run o p) h c l = absurd (omega (arith, o .ends, o .long))
+      omega (arith, ih, total-same out 0 x (x + word m x 0) (omega arith) (λ y p q. rw (object-inside x y (o .starts) p q)))
+  chain-outside zero (at-run o p) h c l = absurd (omega arith)
   chain-outside {x = zero} (suc n) (at-run o p) h c l = absurd (omega arith)
   chain-outside {x = suc x} (suc n) (at-run o p) h c l =
-      let ih = chain-outside n p (omega arith) (clear-run m (suc x) o c) (omega (arith, o .long)) in
-      omega (arith, ih, total-same out 1 (suc x) (suc x + word m (suc x) 0) (omega arith) (λ y p q. out-run (suc x) y (run-apart m (suc x) h o c) p q), total-one (suc x), total-one (suc x + word m (suc x) 0))
+      let ih = chain-outside n p (omega arith) (clear-run m (suc x) o c) (omega arith) in
+      let a = run-apart m (suc x) h o c in
+      omega (arith, ih, total-same out 1 (suc x) (suc x + word m (suc x) 0) (omega arith) (λ y p q. rw (none-inside y (run-unused m (suc x) y a p q .in-no-object))))
 
   -- the chain has just the granules that are in no object, but granule 0
   pub free-outside : HeapFilled m → HeapSized m → freeGranules m + 1 ≡ granulesOutside m
   unfolding freeGranules granulesOutside
-  free-outside o z = omega (arith, chain-outside (granules m) (image-pieces m o z) (omega arith) (clear-one m o) (omega arith), first)
-    where
-      first : sumBelow out 1 ≡ 1
-      first = unfold sumBelow in rw (none-inside 0 (λ h e l q. omega (arith, (o .start-range h e) .0)))
+  free-outside o z =
+      let first : sumBelow out 1 ≡ 1 = unfold sumBelow in rw (none-inside 0 (λ h e l q. omega (arith, (o .start-range h e) .0))) in
+      omega (arith, chain-outside (granules m) (image-pieces m o z) (omega arith) (clear-one m o) (omega arith))

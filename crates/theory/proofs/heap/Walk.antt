@@ -1,21 +1,23 @@
 -- The walk over the heap, as a test and by derivations; every start begins an object, and objects lie apart.
-use mathlib.Core.Path.{_≡_, refl, sym, ap, ap₂, subst, _∙_}
+use mathlib.Core.Path.{_≡_, refl, sym, ap, subst, _∙_}
 use mathlib.Core.Bool.{Bool, true, false, not, cond}
+use mathlib.Core.Logic.{inl, inr}
 use mathlib.Core.List.{List, [], _∷_, _++_}
 use Prim.Native.Nat.{ℕ, zero, suc, _+_, _*_, _-_, _≤_, _<_}
-use native.Mathlib.Decide.{ℕ-discrete, decLt}
+use native.Mathlib.Decide.{decLt}
 use native.Mathlib.Omega.{arith}
-use lib.ListN.{length, take, drop, replicate, take-append-drop, length-append, length-drop}
-use lib.Seq.{drop-at, length-take-le}
+use lib.ListN.{length, drop, length-append, length-drop}
+use lib.Seq.{drop-at}
 use borrow.Author.Tests.{leb-true, eqb-true, le-leb, eq-eqb, not-true}
 use Rattle.model.specs.Base.{nth}
 use Rattle.model.specs.Image.{Image, granules, word, isStart, marked, size, links}
 use Rattle.model.specs.Undamaged.{bare, piece, fill, filled}
 use Rattle.model.specs.Finish.{runTail}
-use Rattle.model.proofs.Laws.{every-use, every-cons, every-nil, all-use, all-make, false≢, not-make}
-use Rattle.model.proofs.Entries.{nth-drop, nth-take}
-use Rattle.theory.specs.Heap.{ObjectPiece, runWords, Bare, Filled, f-end, f-object, f-run, At, HeapFilled, ObjectAt, Laid}
-use Rattle.theory.proofs.heap.Lists.{nth-head, nth-left, zeros-take, length-run, run-zero, nth-behind, head-behind}
+use Rattle.model.proofs.Laws.{bool-cases, every-use, every-cons, every-nil, all-use, all-make, false≢, not-make}
+use Rattle.theory.specs.Heap.{ObjectPiece, runWords, Bare, Filled, f-end, f-object, f-run, HeapFilled, ObjectAt, Laid}
+use Rattle.theory.proofs.heap.Pieces.{run-filled, object-filled, start-beside, pieces-of, object-in}
+pub use Rattle.theory.proofs.heap.Pieces.{word-behind}
+use Rattle.theory.proofs.heap.Lists.{nth-left, length-run, run-zero}
 
 -- ---- what the test says
 
@@ -29,50 +31,16 @@ bare-make : (st : ℕ → Bool) (g s : ℕ) → Bare st g s → bare st g s ≡ 
 unfolding bare
 bare-make st g s f = all-make (s - 1) _ (λ i h. ap not (f (g + 1 + i) (omega arith) (omega arith)))
 
-run-words : (n : ℕ) (ws : List ℕ) → 4 * suc n ≤ suc (length ws) → ((i : ℕ) → i < 4 * suc n - 2 → nth ws (suc i) ≡ 0) → ws ≡ runTail n (nth ws 0) ++ drop (4 * suc n - 1) ws
-unfolding runTail nth
-run-words n [] h z = absurd (omega arith)
-run-words n (x ∷ ws) h z = go (nth-head x ws) (4 * suc n - 1) refl
-  where
-    go : nth (x ∷ ws) 0 ≡ x → (k : ℕ) → 4 * suc n - 1 ≡ k → x ∷ ws ≡ nth (x ∷ ws) 0 ∷ replicate (4 * suc n - 2) 0 ++ drop k (x ∷ ws)
-    go e zero q = absurd (omega arith)
-    go e (suc k) q =
-        let k₁ : 4 * suc n - 2 ≡ k = omega arith in
-        let zs : take k ws ≡ replicate k 0 = zeros-take k ws (omega arith) (λ i hi. z i (omega arith)) in
-        ap₂ _∷_ (sym e) (sym (take-append-drop k ws) ∙ rw (k₁, zs))
-
--- a run of s granules in front, by its words
-pub run-filled : (st : ℕ → Bool) (g s : ℕ) (ws : List ℕ) (next : ℕ) (b : Bool) → not b ≡ true → g ≡ next → 1 ≤ s → 4 * s ≤ suc (length ws) → st g ≡ false → Bare st g s
-    → ((i : ℕ) → i < 4 * s - 2 → nth ws (suc i) ≡ 0) → Filled st (g + s) (drop (4 * s) (s ∷ ws)) (nth ws 0) true → Filled st g (s ∷ ws) next b
-run-filled st g zero ws next b nb e h₁ h₂ q ba z f = absurd (omega arith)
-run-filled st g (suc n) ws next true nb e h₁ h₂ q ba z f = false≢ nb
-run-filled st g (suc n) ws next false nb e h₁ h₂ q ba z f =
-    let k : 4 * suc n ≡ suc (4 * suc n - 1) = omega arith in
-    let d : drop (4 * suc n) (suc n ∷ ws) ≡ drop (4 * suc n - 1) ws = ap (λ x. drop x (suc n ∷ ws)) k in
-    subst (λ x. Filled st g (suc n ∷ ws) x false) e
-    (subst (λ l. Filled st g (suc n ∷ l) g false) (sym (run-words n ws h₂ z))
-    (f-run n (nth ws 0) (drop (4 * suc n - 1) ws) q ba (subst (λ l. Filled st (g + suc n) l (nth ws 0) true) d f)))
-
--- an object of s granules in front, by its words
-pub object-filled : (st : ℕ → Bool) (g s : ℕ) (ws : List ℕ) (next : ℕ) (b : Bool) → st g ≡ true → 1 ≤ s → 4 * s ≤ suc (length ws) → Bare st g s → s ≤ 1024 → nth ws 0 ≤ 4 * s - 2
-    → Filled st (g + s) (drop (4 * s) (s ∷ ws)) next false → Filled st g (s ∷ ws) next b
-object-filled st g s ws next b q h₁ h₂ ba few fit f =
-    let len : length (take (4 * s - 1) ws) ≡ 4 * s - 1 = length-take-le (4 * s - 1) ws (omega arith) in
-    let k : 4 * s ≡ suc (4 * s - 1) = omega arith in
-    let d : drop (4 * s) (s ∷ ws) ≡ drop (4 * s - 1) ws = ap (λ x. drop x (s ∷ ws)) k in
-    subst (λ l. Filled st g (s ∷ l) next b) (take-append-drop (4 * s - 1) ws)
-    (f-object s (take (4 * s - 1) ws) (drop (4 * s - 1) ws) q
-    (record { long = omega arith; few = few; links-fit = rw (nth-take (4 * s - 1) ws 0 (omega arith)) fit }) ba
-    (subst (λ l. Filled st (g + s) l next false) d f))
-
 -- ---- the test and the derivations are the same
 
 pub fill-use : (st : ℕ → Bool) (n g : ℕ) (ws : List ℕ) (next : ℕ) (run : Bool) → fill st n g ws next run ≡ true → Filled st g ws next run
 unfolding fill
 fill-use st zero g ws next b e = false≢ e
 fill-use st (suc n) g [] next b e = subst (λ x. Filled st g [] x b) (sym (eqb-true _ _ e)) f-end
-fill-use st (suc n) g (s ∷ ws) next b e =
-    ok (fill-use st n (g + s) (drop (4 * s) (s ∷ ws)) (cond (st g) next (nth ws 0)) (not (st g))) (piece st g s ws next b (st g)) refl e
+fill-use st (suc n) g (s ∷ ws) next b e = elim (bool-cases (piece st g s ws next b (st g))) [
+  | inl h ↦ go (st g) refl h (fill-use st n _ _ _ _ (rw (h, fill) at e))
+  | inr h ↦ false≢ (rw (h, fill) at e)
+]
   where
     go : (k : Bool) → st g ≡ k → piece st g s ws next b k ≡ true → Filled st (g + s) (drop (4 * s) (s ∷ ws)) (cond k next (nth ws 0)) (not k) → Filled st g (s ∷ ws) next b
     go true q h f = unfold piece in object-filled st g s ws next b q (leb-true _ _ (every-use _ h 0)) (leb-true _ _ (every-use _ h 1)) (bare-use st g s (every-use _ h 2))
@@ -80,20 +48,14 @@ fill-use st (suc n) g (s ∷ ws) next b e =
     go false q h f = unfold piece in run-filled st g s ws next b (every-use _ h 3) (eqb-true _ _ (every-use _ h 4)) (leb-true _ _ (every-use _ h 0)) (leb-true _ _ (every-use _ h 1)) q
         (bare-use st g s (every-use _ h 2)) (λ i l. eqb-true _ _ (all-use (4 * s - 2) _ (every-use _ h 5) i l)) f
 
-    ok : (fill st n (g + s) (drop (4 * s) (s ∷ ws)) (cond (st g) next (nth ws 0)) (not (st g)) ≡ true → Filled st (g + s) (drop (4 * s) (s ∷ ws)) (cond (st g) next (nth ws 0)) (not (st g)))
-        → (p : Bool) → piece st g s ws next b (st g) ≡ p
-        → _≡_ {A = Bool} (elim p [ false ↦ false | true ↦ fill st n (g + s) (drop (4 * s) (s ∷ ws)) (cond (st g) next (nth ws 0)) (not (st g)) ]) true → Filled st g (s ∷ ws) next b
-    ok ih false h x = false≢ x
-    ok ih true h x = go (st g) refl h (ih x)
-
 object-ok : (st : ℕ → Bool) (g s : ℕ) (ws rest : List ℕ) (next : ℕ) (b : Bool) → ObjectPiece s ws → Bare st g s → piece st g s (ws ++ rest) next b true ≡ true
 unfolding piece
 object-ok st g s ws rest next b o ba =
-    every-cons _ _ (le-leb 1 s (omega (arith, o .long)))
-    (every-cons _ _ (le-leb (4 * s) _ (omega (arith, o .long, length-append ws rest)))
+    every-cons _ _ (le-leb 1 s (omega arith))
+    (every-cons _ _ (le-leb (4 * s) _ (omega (arith, length-append ws rest)))
     (every-cons _ _ (bare-make st g s ba)
     (every-cons _ _ (le-leb _ _ (o .few))
-    (every-cons _ _ (le-leb _ (4 * s - 2) (rw (nth-left ws rest 0 (omega (arith, o .long))) (o .links-fit))) every-nil))))
+    (every-cons _ _ (le-leb _ (4 * s - 2) (rw (nth-left ws rest 0 (omega arith)) (o .links-fit))) every-nil))))
 
 run-ok : (st : ℕ → Bool) (g n : ℕ) (rest : List ℕ) (next : ℕ) → Bare st g (suc n) → piece st g (suc n) (runTail n next ++ rest) g false false ≡ true
 unfolding piece
@@ -112,64 +74,17 @@ run-head n next rest = refl
 fill-piece : (st : ℕ → Bool) (n g s : ℕ) (ws : List ℕ) (next : ℕ) (b k : Bool) → st g ≡ k → piece st g s ws next b k ≡ true
     → fill st n (g + s) (drop (4 * s) (s ∷ ws)) (cond k next (nth ws 0)) (not k) ≡ true → fill st (suc n) g (s ∷ ws) next b ≡ true
 unfolding fill
-fill-piece st n g s ws next b k q h f = go (piece st g s ws next b (st g)) (ap (piece st g s ws next b) q ∙ h) (rw q f)
-  where
-    go : (p : Bool) → p ≡ true → fill st n (g + s) (drop (4 * s) (s ∷ ws)) (cond (st g) next (nth ws 0)) (not (st g)) ≡ true
-        → _≡_ {A = Bool} (elim p [ false ↦ false | true ↦ fill st n (g + s) (drop (4 * s) (s ∷ ws)) (cond (st g) next (nth ws 0)) (not (st g)) ]) true
-    go true e f = f
-    go false e f = e
+fill-piece st n g s ws next b k q h f = rw (ap (piece st g s ws next b) q ∙ h, fill) (rw q f)
 
 pub fill-make : {st : ℕ → Bool} {g : ℕ} {ws : List ℕ} {next : ℕ} {run : Bool} (n : ℕ) → Filled st g ws next run → length ws < 4 * n → fill st n g ws next run ≡ true
 fill-make zero f l = absurd (omega arith)
 fill-make (suc n) f-end l = unfold fill in refl
 fill-make {st} {g} {next = next} {run = b} (suc n) (f-object s ws rest q o ba f) l =
     fill-piece st n g s (ws ++ rest) next b true q (object-ok st g s ws rest next b o ba)
-    (rw (drop-at (s ∷ ws) rest (4 * s) (o .long)) (fill-make n f (omega (arith, length-append ws rest, o .long))))
+    (rw (drop-at (s ∷ ws) rest (4 * s) (o .long)) (fill-make n f (omega (arith, length-append ws rest))))
 fill-make {st} {g} (suc n) (f-run m next rest q ba f) l =
     fill-piece st n g (suc m) (runTail m next ++ rest) g false false q (run-ok st g m rest next ba)
     (rw (drop-at (runWords m next) rest (4 * suc m) (length-run m next), run-head m next rest) (fill-make n f (omega (arith, length-append (runTail m next) rest, length-run m next))))
-
--- ---- every start begins an object
-
-behind-at : (st : ℕ → Bool) (g s h : ℕ) (l r : List ℕ) → length l ≡ 4 * s → g + s ≤ h → At st (g + s) r h → At st g (l ++ r) h
-behind-at st g s h l r e k a =
-    let w : nth (l ++ r) (4 * (h - g)) ≡ nth r (4 * (h - (g + s))) = head-behind g s h l r e k in
-    let w₁ : nth (l ++ r) (4 * (h - g) + 1) ≡ nth r (4 * (h - (g + s)) + 1) = nth-behind g s h 1 l r e k in
-    record {
-      size-pos = rw w (a .size-pos);
-      links-in = rw (w, w₁) (a .links-in);
-      in-words = omega (arith, w, a .in-words, length-append l r);
-      none-inside = λ i p q. a .none-inside i p (omega (arith, w));
-    }
-
-first-at : (st : ℕ → Bool) (g s h : ℕ) (ws rest : List ℕ) → h ≡ g → ObjectPiece s ws → Bare st g s → At st g ((s ∷ ws) ++ rest) h
-unfolding nth
-first-at st g s h ws rest x o ba =
-    let z : 4 * (h - g) ≡ 0 = omega arith in
-    let w : nth ((s ∷ ws) ++ rest) (4 * (h - g)) ≡ s = ap (nth ((s ∷ ws) ++ rest)) z in
-    let z₁ : 4 * (h - g) + 1 ≡ 1 = omega arith in
-    let w₁ : nth ((s ∷ ws) ++ rest) (4 * (h - g) + 1) ≡ nth ws 0 = ap (nth ((s ∷ ws) ++ rest)) z₁ ∙ nth-left ws rest 0 (omega (arith, o .long)) in
-    record {
-      size-pos = omega (arith, w, o .long);
-      links-in = omega (arith, w, w₁, o .links-fit, o .long);
-      in-words = omega (arith, w, o .long, length-append ws rest);
-      none-inside = λ i p q. ba i (omega arith) (omega (arith, w));
-    }
-
-pub starts-at : {st : ℕ → Bool} {g : ℕ} {ws : List ℕ} {next : ℕ} {run : Bool} → Filled st g ws next run → (h : ℕ) → g ≤ h → 4 * h < 4 * g + length ws → st h ≡ true → At st g ws h
-starts-at f-end h p q e = absurd (omega arith)
-starts-at {st} {g} (f-object s ws rest t o ba f) h p q e = cs (λ u v w. starts-at f h u v w) (ℕ-discrete h g) (decLt h (g + s))
-  where
-    cs : (g + s ≤ h → 4 * h < 4 * (g + s) + length rest → st h ≡ true → At st (g + s) rest h) → Dec (h ≡ g) → Dec (h < g + s) → At st g ((s ∷ ws) ++ rest) h
-    cs ih (yes x) d = first-at st g s h ws rest x o ba
-    cs ih (no x) (yes l) = false≢ (sym (ba h (omega arith) l) ∙ e)
-    cs ih (no x) (no l) = behind-at st g s h (s ∷ ws) rest (o .long) (omega arith) (ih (omega arith) (omega (arith, length-append ws rest, o .long)) e)
-starts-at {st} {g} (f-run n next rest t ba f) h p q e = cs (λ u v w. starts-at f h u v w) (ℕ-discrete h g) (decLt h (g + suc n))
-  where
-    cs : (g + suc n ≤ h → 4 * h < 4 * (g + suc n) + length rest → st h ≡ true → At st (g + suc n) rest h) → Dec (h ≡ g) → Dec (h < g + suc n) → At st g (runWords n next ++ rest) h
-    cs ih (yes x) d = false≢ (sym t ∙ (rw x at e))
-    cs ih (no x) (yes l) = false≢ (sym (ba h (omega arith) l) ∙ e)
-    cs ih (no x) (no l) = behind-at st g (suc n) h (runWords n next) rest (length-run n next) (omega arith) (ih (omega arith) (omega (arith, length-append (runTail n next) rest, length-run n next)) e)
 
 -- ---- of an image
 
@@ -178,49 +93,28 @@ pub filled-make : (m : Image) → 1 ≤ granules m → HeapFilled m → filled m
 unfolding filled
 filled-make m h o = fill-make (granules m) (o .heap-filled) (omega (arith, length-drop 4 (m .heap), o .heap-words))
 
--- word i of granule h, in the words behind granule 0
-pub word-behind : (m : Image) (h i : ℕ) → 1 ≤ h → nth (drop 4 (m .heap)) (4 * (h - 1) + i) ≡ word m h i
-unfolding word
-word-behind m h i p = let z : 4 + (4 * (h - 1) + i) ≡ 4 * h + i = omega arith in nth-drop 4 (m .heap) (4 * (h - 1) + i) ∙ ap (nth (m .heap)) z
-
 pub object-at : (m : Image) → HeapFilled m → (g : ℕ) → isStart m g ≡ true → ObjectAt m g
 unfolding size links
-object-at m o g e = record {
-  sized = rw w at (a .size-pos);
-  links-in = omega (arith, w, word-behind m g 1 (range .0), a .links-in);
-  in-heap = omega (arith, w, a .in-words, length-drop 4 (m .heap), o .heap-words, range);
-  none-inside = λ h p q. a .none-inside h p (omega (arith, w));
-}
-  where
-    range : (1 ≤ g) × (g < granules m)
-    range = o .start-range g e
-
-    a : At (isStart m) 1 (drop 4 (m .heap)) g
-    a = starts-at (o .heap-filled) g (range .0) (omega (arith, length-drop 4 (m .heap), o .heap-words, range)) e
-
-    w : nth (drop 4 (m .heap)) (4 * (g - 1)) ≡ word m g 0
-    w = let z : 4 * (g - 1) ≡ 4 * (g - 1) + 0 = omega arith in ap (nth (drop 4 (m .heap))) z ∙ word-behind m g 0 (range .0)
+object-at m o g e =
+    let range : (1 ≤ g) × (g < granules m) = o .start-range g e in
+    let ps = pieces-of (isStart m) (word m) (granules m) (o .heap-filled) (word-behind m) (omega (arith, length-drop 4 (m .heap))) in
+    let a = object-in (isStart m) (word m) (granules m) ps g (range .0) (range .1) e in
+    record { sized = a .long; links-in = a .links-fit; in-heap = a .ends; none-inside = a .alone }
 
 pub no-start-zero : {m : Image} → HeapFilled m → isStart m 0 ≡ false
 no-start-zero {m} o = not-true _ (not-make (isStart m 0) (λ e. omega (arith, (o .start-range 0 e) .0)))
 
 pub laid : (m : Image) → HeapFilled m → ((g : ℕ) → marked m g ≡ true → isStart m g ≡ true) → Laid m
 laid m o marks = record {
-  apart = λ g h e e₁ l. apart g h e e₁ l (decLt h (g + size m g));
+  apart = λ g h e e₁ l. elim (start-beside (isStart m) g (size m g) (object-at m o g e .none-inside) h e₁) [ inl y ↦ absurd (omega arith) | inr y ↦ y ];
   inside = λ g e. let a = object-at m o g e in (a .links-in, a .in-heap);
   heap-length = o .heap-words;
   marks-start = marks;
 }
-  where
-    apart : (g h : ℕ) → isStart m g ≡ true → isStart m h ≡ true → g < h → Dec (h < g + size m g) → g + size m g ≤ h
-    apart g h e e₁ l (yes x) = false≢ (sym ((object-at m o g e) .none-inside h l x) ∙ e₁)
-    apart g h e e₁ l (no x) = omega arith
 
 -- two words of objects are one only if object and place are
 pub same-place : (m : Image) → Laid m → (g h i j : ℕ) → isStart m g ≡ true → isStart m h ≡ true → i < 4 * size m g → j < 4 * size m h → 4 * g + i ≡ 4 * h + j → (g ≡ h) × (i ≡ j)
-same-place m d g h i j sg sh li lj e = cs (decLt g h) (decLt h g)
-  where
-    cs : Dec (g < h) → Dec (h < g) → (g ≡ h) × (i ≡ j)
-    cs (yes lt) b = absurd (omega (arith, d .apart g h sg sh lt))
-    cs (no x) (yes lt) = absurd (omega (arith, d .apart h g sh sg lt))
-    cs (no x) (no y) = (omega arith, omega arith)
+same-place m d g h i j sg sh li lj e = elim (decLt g h) [
+  | yes lt ↦ absurd (omega (arith, d .apart g h sg sh lt))
+  | no x ↦ elim (decLt h g) [ yes lt ↦ absurd (omega (arith, d .apart h g sh sg lt)) | no y ↦ (omega arith, omega arith) ]
+]

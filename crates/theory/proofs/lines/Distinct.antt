@@ -1,7 +1,7 @@
 -- Entries by place: no word of a list stands twice, and no object is entered twice.
 use mathlib.Core.Path.{_≡_, refl, sym, ap, _∙_}
-use mathlib.Core.Logic.{_⊎_, inl, inr}
-use mathlib.Core.Bool.{true, false, not, _&&_, _||_}
+use mathlib.Core.Logic.{inl, inr}
+use mathlib.Core.Bool.{true, false, not}
 use mathlib.Core.List.{List, [], _∷_, _++_}
 use Prim.Native.Nat.{ℕ, zero, suc, _+_, _*_, _≤_, _<_}
 use native.Mathlib.Omega.{arith}
@@ -35,39 +35,29 @@ distinct-make (x ∷ l) f =
 distinct-split : (l r : List ℕ) → distinct (l ++ r) ≡ true → (distinct l ≡ true) × (distinct r ≡ true) × ((g : ℕ) → elem g l ≡ true → elem g r ≡ true → ⊥)
 unfolding distinct elem
 distinct-split [] r e = (refl, e, λ g a b. false≢ a)
-distinct-split (x ∷ l) r e = go (and-split (not (elem x (l ++ r))) (distinct (l ++ r)) e) (distinct-split l r)
-  where
-    no : elem x (l ++ r) ≡ false → elem x l ≡ true → ⊥
-    no n a = false≢ (sym n ∙ elem-left x l r a)
-
-    go : (not (elem x (l ++ r)) ≡ true) × (distinct (l ++ r) ≡ true)
-        → (distinct (l ++ r) ≡ true → (distinct l ≡ true) × (distinct r ≡ true) × ((g : ℕ) → elem g l ≡ true → elem g r ≡ true → ⊥))
-        → ((not (elem x l) && distinct l) ≡ true) × (distinct r ≡ true) × ((g : ℕ) → (eqb g x || elem g l) ≡ true → elem g r ≡ true → ⊥)
-    go (a, b) ih = let s = ih b in (and-join (not (elem x l)) (distinct l) (not-make _ (no (not-true _ a))) (s .0), s .1, λ g c d. apart s g (or-split (eqb g x) (elem g l) c) d)
-      where
-        apart : (distinct l ≡ true) × (distinct r ≡ true) × ((g : ℕ) → elem g l ≡ true → elem g r ≡ true → ⊥) → (g : ℕ) → (eqb g x ≡ true) ⊎ (elem g l ≡ true) → elem g r ≡ true → ⊥
-        apart s g (inl q) d = false≢ (sym (not-true _ a) ∙ elem-right x l r (rw (eqb-true g x q) at d))
-        apart s g (inr q) d = s .2 g q d
+distinct-split (x ∷ l) r e =
+    let a = and-split (not (elem x (l ++ r))) (distinct (l ++ r)) e in
+    let s = distinct-split l r (a .1) in
+    let no : elem x (l ++ r) ≡ false = not-true _ (a .0) in (
+      and-join (not (elem x l)) (distinct l) (not-make _ (λ q. false≢ (sym no ∙ elem-left x l r q))) (s .0),
+      s .1,
+      λ g c d. elim (or-split (eqb g x) (elem g l) c) [ inl q ↦ false≢ (sym no ∙ elem-right x l r (rw (eqb-true g x q) at d)) | inr q ↦ s .2 g q d ],
+    )
 
 distinct-append : (l r : List ℕ) → distinct l ≡ true → distinct r ≡ true → ((g : ℕ) → elem g l ≡ true → elem g r ≡ true → ⊥) → distinct (l ++ r) ≡ true
 unfolding distinct elem
 distinct-append [] r a b f = b
 distinct-append (x ∷ l) r a b f =
     let s = and-split (not (elem x l)) (distinct l) a in
-    and-join (not (elem x (l ++ r))) (distinct (l ++ r)) (not-make _ (λ e. out (s .0) (elem-split x l r e))) (distinct-append l r (s .1) b (λ g p q. f g (or-right (eqb g x) (elem g l) p) q))
-  where
-    out : not (elem x l) ≡ true → (elem x l ≡ true) ⊎ (elem x r ≡ true) → ⊥
-    out n (inl q) = false≢ (sym (not-true _ n) ∙ q)
-    out n (inr q) = f x (or-left (eqb x x) (elem x l) (eq-eqb x x refl)) q
+    and-join (not (elem x (l ++ r))) (distinct (l ++ r))
+    (not-make _ (λ e. elim (elem-split x l r e) [ inl q ↦ false≢ (sym (not-true _ (s .0)) ∙ q) | inr q ↦ f x (or-left (eqb x x) (elem x l) (eq-eqb x x refl)) q ]))
+    (distinct-append l r (s .1) b (λ g p q. f g (or-right (eqb g x) (elem g l) p) q))
 
 -- ---- no object is entered twice
 
 -- the first packet's entries
 abbrev front : List ℕ → List ℕ
 front ps = take (nth ps 0) (drop 2 ps)
-
-front-length : (ps : List ℕ) → 32 ≤ length ps → nth ps 0 ≤ 30 → length (front ps) ≡ nth ps 0
-front-length ps l c = length-take (nth ps 0) (drop 2 ps) ∙ omega (arith, length-drop 2 ps)
 
 front-nth : (ps : List ℕ) (e : ℕ) → e < nth ps 0 → nth (front ps) e ≡ nth ps (2 + e)
 front-nth ps e h = nth-take (nth ps 0) (drop 2 ps) e h ∙ nth-drop 2 ps e
@@ -89,47 +79,47 @@ Few n ps = (p : ℕ) → p < n → countIn ps p ≤ 30
 few-next : (n : ℕ) (ps : List ℕ) → Few (suc n) ps → Few n (drop 32 ps)
 few-next n ps f p h = rw (next-count ps p) (f (suc p) (omega arith))
 
+front-length : (n : ℕ) (ps : List ℕ) → 32 * suc n ≤ length ps → Few (suc n) ps → length (front ps) ≡ nth ps 0
+front-length n ps l c = length-take (nth ps 0) (drop 2 ps) ∙ omega (arith, length-drop 2 ps, c zero (omega arith))
+
+-- an entry of the first packet is none of a later one
+apart : (n : ℕ) (ps : List ℕ) → 32 * suc n ≤ length ps → Few (suc n) ps → distinct (front ps ++ entriesOf n (drop 32 ps)) ≡ true
+    → (e q f : ℕ) → q < n → e < nth ps 0 → f < countIn ps (suc q) → nth ps (2 + e) ≡ entryIn ps (suc q) f → ⊥
+apart n ps l c d e q f hq he hf s =
+    distinct-split (front ps) (entriesOf n (drop 32 ps)) d .2 (nth ps (2 + e)) (elem-make _ (front ps) e (omega (arith, front-length n ps l c)) (front-nth ps e he))
+    (entries-make n (drop 32 ps) q f _ (omega (arith, length-drop 32 ps)) hq (rw (next-count ps q) hf) (few-next n ps c q hq) (next-entry ps q f ∙ sym s))
+
 pub once-use : (n : ℕ) (ps : List ℕ) → 32 * n ≤ length ps → Few n ps → distinct (entriesOf n ps) ≡ true → Once n ps
 unfolding entriesOf
 once-use zero ps l c d p e q f hp hq he hf s = absurd (omega arith)
-once-use (suc n) ps l c d p e q f hp hq he hf s = go (distinct-split (front ps) (entriesOf n (drop 32 ps)) d) (once-use n (drop 32 ps) (omega (arith, length-drop 32 ps)) (few-next n ps c)) p e q f hp hq he hf s
-  where
-    fl : length (front ps) ≡ nth ps 0
-    fl = front-length ps (omega arith) (c zero (omega arith))
-
-    -- an entry of the first packet is none of a later one
-    apart : ((g : ℕ) → elem g (front ps) ≡ true → elem g (entriesOf n (drop 32 ps)) ≡ true → ⊥) → (e q f : ℕ) → q < n → e < nth ps 0 → f < countIn ps (suc q) → nth ps (2 + e) ≡ entryIn ps (suc q) f → ⊥
-    apart x e q f hq he hf s =
-        x (nth ps (2 + e)) (elem-make _ (front ps) e (omega (arith, fl)) (front-nth ps e he))
-        (entries-make n (drop 32 ps) q f _ (omega (arith, length-drop 32 ps)) hq (rw (next-count ps q) hf) (few-next n ps c q hq) (next-entry ps q f ∙ sym s))
-
-    go : (distinct (front ps) ≡ true) × (distinct (entriesOf n (drop 32 ps)) ≡ true) × ((g : ℕ) → elem g (front ps) ≡ true → elem g (entriesOf n (drop 32 ps)) ≡ true → ⊥)
-        → (distinct (entriesOf n (drop 32 ps)) ≡ true → Once n (drop 32 ps)) → Once (suc n) ps
-    go (a, b, x) ih zero e zero f hp hq he hf s = (refl, distinct-use (front ps) a e f (omega (arith, fl)) (omega (arith, fl)) (front-nth ps e he ∙ (s ∙ sym (front-nth ps f hf))))
-    go (a, b, x) ih zero e (suc q) f hp hq he hf s = absurd (apart x e q f (omega arith) he hf s)
-    go (a, b, x) ih (suc p) e zero f hp hq he hf s = absurd (apart x f p e (omega arith) hf he (sym s))
-    go (a, b, x) ih (suc p) e (suc q) f hp hq he hf s =
-        let r = ih b p e q f (omega arith) (omega arith) (rw (next-count ps p) he) (rw (next-count ps q) hf) (next-entry ps p e ∙ (s ∙ sym (next-entry ps q f))) in
-        (ap suc (r .0), r .1)
+once-use (suc n) ps l c d zero e zero f hp hq he hf s =
+    let fl : length (front ps) ≡ nth ps 0 = front-length n ps l c in
+    let u = distinct-split (front ps) (entriesOf n (drop 32 ps)) d .0 in
+    (refl, distinct-use (front ps) u e f (omega arith) (omega arith) (front-nth ps e he ∙ (s ∙ sym (front-nth ps f hf))))
+once-use (suc n) ps l c d zero e (suc q) f hp hq he hf s = absurd (apart n ps l c d e q f (omega arith) he hf s)
+once-use (suc n) ps l c d (suc p) e zero f hp hq he hf s = absurd (apart n ps l c d f p e (omega arith) hf he (sym s))
+once-use (suc n) ps l c d (suc p) e (suc q) f hp hq he hf s =
+    let ih = once-use n (drop 32 ps) (omega (arith, length-drop 32 ps)) (few-next n ps c) (distinct-split (front ps) (entriesOf n (drop 32 ps)) d .1) in
+    let r = ih p e q f (omega arith) (omega arith) (rw (next-count ps p) he) (rw (next-count ps q) hf) (cc (next-entry ps p e, next-entry ps q f)) in
+    (ap suc (r .0), r .1)
 
 pub once-make : (n : ℕ) (ps : List ℕ) → 32 * n ≤ length ps → Few n ps → Once n ps → distinct (entriesOf n ps) ≡ true
 unfolding entriesOf distinct
 once-make zero ps l c o = refl
-once-make (suc n) ps l c o = distinct-append (front ps) (entriesOf n (drop 32 ps)) here (once-make n (drop 32 ps) (omega (arith, length-drop 32 ps)) (few-next n ps c) later) apart
-  where
-    fl : length (front ps) ≡ nth ps 0
-    fl = front-length ps (omega arith) (c zero (omega arith))
-
-    here : distinct (front ps) ≡ true
-    here = distinct-make (front ps) (λ i j hi hj s. (o zero i zero j (omega arith) (omega arith) (omega (arith, fl)) (omega (arith, fl)) (sym (front-nth ps i (omega (arith, fl))) ∙ (s ∙ front-nth ps j (omega (arith, fl))))) .1)
-
-    later : Once n (drop 32 ps)
-    later p e q f hp hq he hf s =
-        let r = o (suc p) e (suc q) f (omega arith) (omega arith) (rw (next-count ps p) at he) (rw (next-count ps q) at hf) (sym (next-entry ps p e) ∙ (s ∙ next-entry ps q f)) in
-        (omega (arith, r .0), r .1)
-
-    apart : (g : ℕ) → elem g (front ps) ≡ true → elem g (entriesOf n (drop 32 ps)) ≡ true → ⊥
-    apart g a b =
-        let i = elem-use g (front ps) a in
-        let j = entries-use n (drop 32 ps) g b in
-        omega (arith, o zero (i .0) (suc (j .packet)) (j .place) (omega arith) (omega (arith, j .is-packet)) (omega (arith, fl, i .1)) (rw (next-count ps (j .packet)) at (j .below)) (sym (front-nth ps (i .0) (omega (arith, fl, i .1))) ∙ (i .2 ∙ (sym (j .is-entry) ∙ next-entry ps (j .packet) (j .place)))))
+once-make (suc n) ps l c o =
+    let fl : length (front ps) ≡ nth ps 0 = front-length n ps l c in
+    distinct-append (front ps) (entriesOf n (drop 32 ps))
+    (distinct-make (front ps) (λ i j hi hj s.
+    o zero i zero j (omega arith) (omega arith) (omega arith) (omega arith) (cc (front-nth ps i (omega arith), front-nth ps j (omega arith))) .1))
+    (once-make n (drop 32 ps) (omega (arith, length-drop 32 ps)) (few-next n ps c) (λ p e q f hp hq he hf s.
+    let r = o (suc p) e (suc q) f (omega arith) (omega arith) (rw (next-count ps p) at he) (rw (next-count ps q) at hf) (cc (next-entry ps p e, next-entry ps q f)) in
+    (omega (arith, r .0), r .1)))
+    (λ g a b.
+    let i = elem-use g (front ps) a in
+    let j = entries-use n (drop 32 ps) g b in
+    let h : i .0 < nth ps 0 = omega (arith, i .1) in
+    omega (
+      arith,
+      o zero (i .0) (suc (j .packet)) (j .place) (omega arith) (omega (arith, j .is-packet)) h (rw (next-count ps (j .packet)) at (j .below))
+          (cc (front-nth ps (i .0) h, i .2, j .is-entry, next-entry ps (j .packet) (j .place))),
+    ))

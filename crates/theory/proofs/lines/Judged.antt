@@ -1,43 +1,35 @@
 -- "Undamaged" as the model tests it, and as its lines: the law each way.
-use mathlib.Core.Path.{_≡_, refl, sym, ap, subst, _∙_}
+use mathlib.Core.Path.{_≡_, refl, ap, _∙_}
 use mathlib.Core.Logic.{inl, inr}
 use mathlib.Core.Bool.{true, not}
-use mathlib.Core.List.{List, [], _∷_}
+use mathlib.Core.List.{List}
 use Prim.Native.Nat.{ℕ, suc, _+_, _*_, _≤_, _<_}
 use native.Mathlib.Decide.{ℕ-discrete, decLt}
 use native.Mathlib.Omega.{arith}
 use lib.Dec.{eqb}
 use lib.ListN.{length}
 use borrow.Author.Tests.{ltb-true, leb-true, eqb-true, eqb-false, not-true, lt-ltb, le-leb, eq-eqb, ne-eqb}
-use Rattle.model.specs.Base.{nth, all, every, zeroes}
+use Rattle.model.specs.Base.{nth, all}
 use Rattle.model.specs.Image.{Image, granules, word, isStart, marked, links, link, state, count, owed, scanned, running, firstRun}
 use Rattle.model.specs.Undamaged.{zeroGranule, filled, nilOrStart, linksOk, regOk, playerOk, cardOk, markOk, generalOk, idleOk, sound, undamaged}
 use Rattle.model.proofs.Laws.{nth-out, imp-use, imp-make, either-no, either-make, all-use, all-make, every-use, every-nil, every-cons, zeroes-use, zeroes-make}
 use Rattle.theory.specs.Cover.{Counted}
-use Rattle.theory.specs.Lines.{PlayersOk, NilOr, MarksOk, GeneralOk, HeapOk, Start, Lines, Idle, Sound, Undamaged, Sizes}
+use Rattle.theory.specs.Lines.{PlayersOk, NilOr, GeneralOk, HeapOk, Start, Marked, Lines, Idle, Sound, Undamaged, Sizes}
 use Rattle.theory.proofs.lines.Cover.{cover-use, cover-make}
 use Rattle.theory.proofs.lines.Tests.{packets-use, packets-make, tracers-use, tracers-make}
 
 -- ---- words of a list
 
--- what holds of the n words of a list and of 0 holds of every word
-each-word : (P : ℕ → Type 0) (l : List ℕ) (n : ℕ) → length l ≡ n → P 0 → ((i : ℕ) → i < n → P (nth l i)) → (i : ℕ) → P (nth l i)
-each-word P l n e z f i = go (decLt i n)
-  where
-    go : Dec (i < n) → P (nth l i)
-    go (yes h) = f i h
-    go (no h) = subst P (sym (nth-out l i (omega arith))) z
+-- what holds of 0 holds of word i of a list, if it does where there is such a word
+each-word : (P : ℕ → Type 0) (l : List ℕ) (i : ℕ) → P 0 → (i < length l → P (nth l i)) → P (nth l i)
+each-word P l i z f = elim (decLt i (length l)) [ yes h ↦ f h | no h ↦ rw (nth-out l i (omega arith)) z ]
 
 -- ---- line by line
 
 module _ (m : Image) where
   nil-use : (a : ℕ) → nilOrStart m a ≡ true → NilOr (Start m) a
   unfolding nilOrStart granules isStart
-  nil-use a e = go (ℕ-discrete a 0)
-    where
-      go : Dec (a ≡ 0) → NilOr (Start m) a
-      go (yes z) = inl z
-      go (no n) = let r = either-no _ _ _ (ne-eqb a 0 n) e in inr (ltb-true _ _ (every-use _ r 0), every-use _ r 1)
+  nil-use a e = elim (ℕ-discrete a 0) [ yes z ↦ inl z | no n ↦ let r = either-no _ _ _ (ne-eqb a 0 n) e in inr (ltb-true _ _ (every-use _ r 0), every-use _ r 1) ]
 
   nil-make : (a : ℕ) → NilOr (Start m) a → nilOrStart m a ≡ true
   unfolding nilOrStart granules isStart
@@ -67,38 +59,36 @@ module _ (m : Image) where
 
   players-use : length (m .players) ≡ 32 → all 16 (playerOk m) ≡ true → PlayersOk (m .k) (m .players)
   unfolding playerOk owed scanned
-  players-use l a = record { sized = l; owed-ok = λ p. go p (decLt p 16) .0; scanned-ok = λ p. go p (decLt p 16) .1 }
-    where
-      go : (p : ℕ) → Dec (p < 16) → (nth (m .players) (2 * p) ≤ m .k) × (nth (m .players) (2 * p + 1) ≤ 1)
-      go p (yes h) = let e = all-use 16 _ a p h in (leb-true _ _ (every-use _ e 0), leb-true _ _ (every-use _ e 1))
-      go p (no h) = (rw (nth-out (m .players) (2 * p) (omega arith)) (omega arith), rw (nth-out (m .players) (2 * p + 1) (omega arith)) (omega arith))
+  players-use l a = record {
+    sized = l;
+    owed-ok = λ p. each-word (λ x. x ≤ m .k) (m .players) (2 * p) (omega arith) (λ h. leb-true _ _ (every-use _ (all-use 16 _ a p (omega arith)) 0));
+    scanned-ok = λ p. each-word (λ x. x ≤ 1) (m .players) (2 * p + 1) (omega arith) (λ h. leb-true _ _ (every-use _ (all-use 16 _ a p (omega arith)) 1));
+  }
 
   general-use : length (m .general) ≡ 8 → generalOk m ≡ true → GeneralOk (m .general)
   unfolding generalOk running
-  general-use l e = record { sized = l; runs = leb-true _ _ (every-use _ e 0); rest = λ i. go i (decLt i 6) }
-    where
-      go : (i : ℕ) → Dec (i < 6) → nth (m .general) (suc (suc i)) ≡ 0
-      go i (yes h) = let s : suc (suc i) ≡ 2 + i = omega arith in ap (nth (m .general)) s ∙ eqb-true _ _ (all-use 6 _ (every-use _ e 1) i h)
-      go i (no h) = nth-out (m .general) (suc (suc i)) (omega arith)
+  general-use l e = record {
+    sized = l;
+    runs = leb-true _ _ (every-use _ e 0);
+    rest = λ i.
+        let s : suc (suc i) ≡ 2 + i = omega arith in
+        rw s (each-word (λ x. x ≡ 0) (m .general) (2 + i) refl (λ h. eqb-true _ _ (all-use 6 _ (every-use _ e 1) i (omega arith))));
+  }
 
   general-make : GeneralOk (m .general) → generalOk m ≡ true
   unfolding generalOk running
   general-make o = every-cons _ _ (le-leb _ _ (o .runs)) (every-cons _ _ (all-make 6 _ (λ i h. let s : 2 + i ≡ suc (suc i) = omega arith in eq-eqb _ _ (ap (nth (m .general)) s ∙ o .rest i))) every-nil)
 
-  marks-use : Sizes m → all (granules m) (markOk m) ≡ true → MarksOk (m .width) (m .k) (Start m) (m .marks)
-  unfolding granules markOk marked isStart
-  marks-use z e = record { exact = z .marks-size; sized = z .marks-room; on-starts = λ g k. let h = z .marks-in g k in (h, imp-use _ _ (all-use _ _ e g h) k) }
-
   idle-use : length (m .players) ≡ 32 → idleOk m ≡ true → nth (m .general) 0 ≡ 0 → Idle (m .marks) (m .packets) (m .tracers) (m .players)
   unfolding idleOk running scanned
-  idle-use l e r = record { no-marks = zeroes-use _ (every-use _ i 0); no-packets = zeroes-use _ (every-use _ i 1); no-tracers = zeroes-use _ (every-use _ i 2); no-scanned = λ p. go p (decLt p 16) }
-    where
-      i : every (zeroes (m .marks) ∷ zeroes (m .packets) ∷ zeroes (m .tracers) ∷ all 16 (λ p. eqb (nth (m .players) (2 * p + 1)) 0) ∷ []) ≡ true
-      i = imp-use _ _ e (eq-eqb (nth (m .general) 0) 0 r)
-
-      go : (p : ℕ) → Dec (p < 16) → nth (m .players) (2 * p + 1) ≡ 0
-      go p (yes h) = eqb-true _ _ (all-use 16 _ (every-use _ i 3) p h)
-      go p (no h) = nth-out (m .players) (2 * p + 1) (omega arith)
+  idle-use l e r =
+      let i = imp-use _ _ e (eq-eqb (nth (m .general) 0) 0 r) in
+      record {
+        no-marks = zeroes-use _ (every-use _ i 0);
+        no-packets = zeroes-use _ (every-use _ i 1);
+        no-tracers = zeroes-use _ (every-use _ i 2);
+        no-scanned = λ p. each-word (λ x. x ≡ 0) (m .players) (2 * p + 1) refl (λ h. eqb-true _ _ (all-use 16 _ (every-use _ i 3) p (omega arith)));
+      }
 
   idle-make : (nth (m .general) 0 ≡ 0 → Idle (m .marks) (m .packets) (m .tracers) (m .players)) → idleOk m ≡ true
   unfolding idleOk running scanned
@@ -110,16 +100,17 @@ module _ (m : Image) where
   -- ---- all lines
 
   pub sound-use : Sizes m → sound m ≡ true → Sound m
-  unfolding sound regOk cardOk state
+  unfolding sound regOk cardOk state granules markOk marked isStart
   sound-use z e =
+      let start : (g : ℕ) → Marked m g → Start m g = λ g k. (z .marks-in g k, imp-use _ _ (all-use _ _ (every-use _ e 7) g (z .marks-in g k)) k) in
       record {
         lines = record {
           heap-ok = heap-use z (every-use _ e 0) (every-use _ e 1) (every-use _ e 2);
-          regs-ok = record { sized = z .regs-size; values = each-word (NilOr (Start m)) (m .regs) 256 (z .regs-size) (inl refl) (λ i h. nil-use _ (all-use 256 _ (every-use _ e 3) i h)) };
-          cards-ok = record { sized = z .cards-size; states = each-word (λ x. x ≤ 3) (m .cards) (m .k) (z .cards-size) (omega arith) (λ c h. leb-true _ _ (all-use (m .k) _ (every-use _ e 4) c h)) };
+          regs-ok = record { sized = z .regs-size; values = λ i. each-word (NilOr (Start m)) (m .regs) i (inl refl) (λ h. nil-use _ (all-use _ _ (every-use _ e 3) i (omega arith))) };
+          cards-ok = record { sized = z .cards-size; states = λ c. each-word (λ x. x ≤ 3) (m .cards) c (omega arith) (λ h. leb-true _ _ (all-use _ _ (every-use _ e 4) c (omega arith))) };
           players-ok = players-use (z .players-size) (every-use _ e 5);
           general-ok = general-use (z .general-size) (every-use _ e 6);
-          marks-ok = marks-use z (every-use _ e 7);
+          marks-ok = record { exact = z .marks-size; sized = z .marks-room; on-starts = start };
           packets-ok = packets-use m (z .packets-size) (every-use _ e 8) (every-use _ e 9);
           tracers-ok = tracers-use m (z .tracers-size) (every-use _ e 10) (every-use _ e 11);
         };

@@ -14,19 +14,19 @@ use Rattle.theory.proofs.lines.Sections.{tracers-mono}
 module _ {m : Image} (o : Lines m) where
   pub put-regs : (l : List ℕ) → RegsOk (Start m) l → Lines (withRegs m l)
   unfolding withRegs
-  put-regs l k = record { heap-ok = o .heap-ok; regs-ok = k; cards-ok = o .cards-ok; marks-ok = o .marks-ok; packets-ok = o .packets-ok; tracers-ok = o .tracers-ok; players-ok = o .players-ok; general-ok = o .general-ok }
+  put-regs l k = search
 
   pub put-packets : (l : List ℕ) → PacketsOk (Marked m) l → Lines (withPackets m l)
   unfolding withPackets
-  put-packets l k = record { heap-ok = o .heap-ok; regs-ok = o .regs-ok; cards-ok = o .cards-ok; marks-ok = o .marks-ok; packets-ok = k; tracers-ok = o .tracers-ok; players-ok = o .players-ok; general-ok = o .general-ok }
+  put-packets l k = search
 
   pub put-tracers : (l : List ℕ) → TracersOk (InHand m) (CardInHand m) l → Lines (withTracers m l)
   unfolding withTracers
-  put-tracers l k = record { heap-ok = o .heap-ok; regs-ok = o .regs-ok; cards-ok = o .cards-ok; marks-ok = o .marks-ok; packets-ok = o .packets-ok; tracers-ok = k; players-ok = o .players-ok; general-ok = o .general-ok }
+  put-tracers l k = search
 
   pub put-players : (l : List ℕ) → PlayersOk (m .k) l → Lines (withPlayers m l)
   unfolding withPlayers
-  put-players l k = record { heap-ok = o .heap-ok; regs-ok = o .regs-ok; cards-ok = o .cards-ok; marks-ok = o .marks-ok; packets-ok = o .packets-ok; tracers-ok = o .tracers-ok; players-ok = k; general-ok = o .general-ok }
+  put-players l k = search
 
   -- marks may only grow
   pub put-marks : (l : List ℕ) → MarksOk (m .width) (m .k) (Start m) l → ((g : ℕ) → Marked m g → bit (m .width) l g ≡ true) → Lines (withMarks m l)

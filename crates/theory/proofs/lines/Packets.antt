@@ -16,11 +16,7 @@ Wrote C x v o = (C × (x ≡ v)) ⊎ ((C → ⊥) × (x ≡ o))
 
 -- a word after a write: the written one, or the old one
 pub nth-put : (l : List ℕ) (i j v : ℕ) → i < length l → Wrote (j ≡ i) (nth (put l i v) j) v (nth l j)
-nth-put l i j v h = go (ℕ-discrete j i)
-  where
-    go : Dec (j ≡ i) → Wrote (j ≡ i) (nth (put l i v) j) v (nth l j)
-    go (yes e) = inl (e, rw e (nth-put-same l i v h))
-    go (no ne) = inr (ne, nth-put-other l i j v ne)
+nth-put l i j v h = elim (ℕ-discrete j i) [ yes e ↦ inl (e, rw e (nth-put-same l i v h)) | no ne ↦ inr (ne, nth-put-other l i j v ne) ]
 
 pub packets-mono : {Mk Mk′ : ℕ → Type 0} {ps : List ℕ} → ((g : ℕ) → Mk g → Mk′ g) → PacketsOk Mk ps → PacketsOk Mk′ ps
 packets-mono f k = record { sized = k .sized; few = k .few; gap = k .gap; past = k .past; full = λ p e g i. f g (k .full p e g i); once = k .once }
@@ -30,23 +26,64 @@ packets-mono f k = record { sized = k .sized; few = k .few; gap = k .gap; past =
 abbrev pub edited : List ℕ → ℕ → ℕ → ℕ → ℕ → List ℕ
 edited ps p e v c = put (put ps (32 * p + 2 + e) v) (32 * p) c
 
-module _ (ps : List ℕ) (p x v c : ℕ) (sized : length ps ≡ 1024) (hp : p < 32) (hx : x < 30) where
-  cnt-edited : (q : ℕ) → Wrote (q ≡ p) (countIn (edited ps p x v c) q) c (countIn ps q)
-  cnt-edited q = go (nth-put (put ps (32 * p + 2 + x) v) (32 * p) (32 * q) c (simp length-put (omega arith)))
-    where
-      go : Wrote (32 * q ≡ 32 * p) (countIn (edited ps p x v c) q) c (nth (put ps (32 * p + 2 + x) v) (32 * q)) → Wrote (q ≡ p) (countIn (edited ps p x v c) q) c (countIn ps q)
-      go (inl (e, w)) = inl (omega arith, w)
-      go (inr (n, w)) = inr (omega arith, w ∙ nth-put-other ps (32 * p + 2 + x) (32 * q) v (omega arith))
+abbrev Near : ℕ → ℕ → Type 0
+Near x n = (x ≤ n) × (n ≤ suc x)
 
-  ent-edited : (q e : ℕ) → e < 30 → Wrote (32 * q + e ≡ 32 * p + x) (entryIn (edited ps p x v c) q e) v (entryIn ps q e)
-  ent-edited q e h = rw (nth-put-other (put ps (32 * p + 2 + x) v) (32 * p) (32 * q + 2 + e) c (omega arith)) (go (nth-put ps (32 * p + 2 + x) (32 * q + 2 + e) v (omega arith)))
-    where
-      go : Wrote (32 * q + 2 + e ≡ 32 * p + 2 + x) (nth (put ps (32 * p + 2 + x) v) (32 * q + 2 + e)) v (entryIn ps q e) → Wrote (32 * q + e ≡ 32 * p + x) (nth (put ps (32 * p + 2 + x) v) (32 * q + 2 + e)) v (entryIn ps q e)
-      go (inl (n, w)) = inl (omega arith, w)
-      go (inr (n, w)) = inr (omega arith, w)
+-- packet p has x entries or one more, and so it has after: entry x is written
+module _ {Mk : ℕ → Type 0} {ps : List ℕ} (k : PacketsOk Mk ps) (p x v c : ℕ) (at : (p < 32) × (x < 30) × Near x (countIn ps p) × Near x c) where
+  count-edited : (q : ℕ) → Wrote (q ≡ p) (countIn (edited ps p x v c) q) c (countIn ps q)
+  count-edited q = elim (nth-put (put ps (32 * p + 2 + x) v) (32 * p) (32 * q) c (simp length-put (omega (arith, k .sized)))) [
+    | inl (e, w) ↦ inl (omega arith, w)
+    | inr (n, w) ↦ inr (omega arith, w ∙ nth-put-other ps (32 * p + 2 + x) (32 * q) v (omega arith))
+  ]
 
-  gap-edited : (q : ℕ) → nth (edited ps p x v c) (32 * q + 1) ≡ nth ps (32 * q + 1)
-  gap-edited q = nth-put-other (put ps (32 * p + 2 + x) v) (32 * p) (32 * q + 1) c (omega arith) ∙ nth-put-other ps (32 * p + 2 + x) (32 * q + 1) v (omega arith)
+  entry-edited : (q e : ℕ) → e < 30 → Wrote (32 * q + e ≡ 32 * p + x) (entryIn (edited ps p x v c) q e) v (entryIn ps q e)
+  entry-edited q e h =
+      rw (nth-put-other (put ps (32 * p + 2 + x) v) (32 * p) (32 * q + 2 + e) c (omega arith))
+      (elim (nth-put ps (32 * p + 2 + x) (32 * q + 2 + e) v (omega (arith, k .sized))) [ inl (n, w) ↦ inl (omega arith, w) | inr (n, w) ↦ inr (omega arith, w) ])
+
+  few-edited : (q : ℕ) → q < 32 → countIn (edited ps p x v c) q ≤ 30
+  few-edited q h = elim (count-edited q) [ inl (s, w) ↦ omega arith | inr (s, w) ↦ omega (arith, k .few q h) ]
+
+  -- what was entered stays so, but for entry x
+  edited-on : (q e g : ℕ) → Enters ps q e g → ((q ≡ p) × (e ≡ x)) ⊎ Enters (edited ps p x v c) q e g
+  edited-on q e g i =
+      let he : e < 30 = omega (arith, k .few q (i .is-packet)) in
+      let b : (32 * q + e ≡ 32 * p + x → ⊥) → e < countIn (edited ps p x v c) q =
+      λ n. elim (count-edited q) [ inl (t, u) ↦ omega (arith, rw t at (i .below)) | inr (t, u) ↦ omega arith ] in
+      elim (entry-edited q e he) [
+        | inl (s, w) ↦ inl (omega arith, omega arith)
+        | inr (s, w) ↦ inr (record { is-packet = i .is-packet; below = b s; is-entry = w ∙ i .is-entry })
+      ]
+
+  -- what is entered was so, or is entry x, which is new
+  edited-back : (q e g : ℕ) → Enters (edited ps p x v c) q e g → ((q ≡ p) × (e ≡ x) × (g ≡ v) × (c ≡ suc x)) ⊎ Enters ps q e g
+  edited-back q e g i =
+      let he : e < 30 = omega (arith, few-edited q (i .is-packet)) in
+      let b : (32 * q + e ≡ 32 * p + x → ⊥) → e < countIn ps q = λ n. elim (count-edited q) [ inl (t, u) ↦ rw t (omega arith) | inr (t, u) ↦ omega arith ] in
+      elim (entry-edited q e he) [
+        | inl (s, w) ↦ elim (count-edited q) [ inl (t, u) ↦ inl (t, omega arith, sym (i .is-entry) ∙ w, omega arith) | inr (t, u) ↦ absurd (t (omega arith)) ]
+        | inr (s, w) ↦ inr (record { is-packet = i .is-packet; below = b s; is-entry = sym w ∙ i .is-entry })
+      ]
+
+  edited-ok : (c ≡ x → v ≡ 0) → (c ≡ suc x → Mk v × ((q e : ℕ) → Enters ps q e v → ⊥)) → PacketsOk Mk (edited ps p x v c)
+  edited-ok z f = record {
+    sized = simp length-put (k .sized);
+    few = few-edited;
+    gap = λ q h. rw (
+      nth-put-other (put ps (32 * p + 2 + x) v) (32 * p) (32 * q + 1) c (omega arith),
+      nth-put-other ps (32 * p + 2 + x) (32 * q + 1) v (omega arith),
+    ) (k .gap q h);
+    past = λ q e h he l. elim (entry-edited q e he) [
+      | inl (s, w) ↦ elim (count-edited q) [ inl (t, u) ↦ w ∙ z (omega arith) | inr (t, u) ↦ absurd (t (omega arith)) ]
+      | inr (s, w) ↦ w ∙ k .past q e h he (elim (count-edited q) [ inl (t, u) ↦ rw t (omega arith) | inr (t, u) ↦ omega arith ])
+    ];
+    full = λ q e g i. elim (edited-back q e g i) [ inl (_, _, s, y) ↦ rw s (f y .0) | inr j ↦ k .full q e g j ];
+    once = λ q e r d g i j. elim (edited-back q e g i) [
+      | inl (s, t, w, y) ↦ elim (edited-back r d g j) [ inl (s′, t′, w′, y′) ↦ (omega arith, omega arith) | inr l ↦ absurd (f y .1 r d (rw w at l)) ]
+      | inr i′ ↦ elim (edited-back r d g j) [ inl (s, t, w, y) ↦ absurd (f y .1 q e (rw w at i′)) | inr j′ ↦ k .once q e r d g i′ j′ ]
+    ];
+  }
 
 -- ---- append
 
@@ -54,84 +91,21 @@ abbrev pub appended : List ℕ → ℕ → ℕ → List ℕ
 appended ps p a = edited ps p (countIn ps p) a (countIn ps p + 1)
 
 module _ {Mk : ℕ → Type 0} {ps : List ℕ} (k : PacketsOk Mk ps) (p a : ℕ) (hp : p < 32) (hc : countIn ps p < 30) where
-  cnt-appended : (q : ℕ) → Wrote (q ≡ p) (countIn (appended ps p a) q) (countIn ps p + 1) (countIn ps q)
-  cnt-appended q = cnt-edited ps p (countIn ps p) a (countIn ps p + 1) (k .sized) hp hc q
-
-  ent-appended : (q e : ℕ) → e < 30 → Wrote (32 * q + e ≡ 32 * p + countIn ps p) (entryIn (appended ps p a) q e) a (entryIn ps q e)
-  ent-appended q e h = ent-edited ps p (countIn ps p) a (countIn ps p + 1) (k .sized) hp hc q e h
-
   pub append-new : Enters (appended ps p a) p (countIn ps p) a
-  append-new = record { is-packet = hp; below = lt (cnt-appended p); is-entry = eq (ent-appended p (countIn ps p) hc) }
-    where
-      lt : Wrote (p ≡ p) (countIn (appended ps p a) p) (countIn ps p + 1) (countIn ps p) → countIn ps p < countIn (appended ps p a) p
-      lt (inl (_, w)) = omega arith
-      lt (inr (n, w)) = absurd (n refl)
-
-      eq : Wrote (32 * p + countIn ps p ≡ 32 * p + countIn ps p) (entryIn (appended ps p a) p (countIn ps p)) a (entryIn ps p (countIn ps p)) → entryIn (appended ps p a) p (countIn ps p) ≡ a
-      eq (inl (_, w)) = w
-      eq (inr (n, w)) = absurd (n refl)
+  append-new = record {
+    is-packet = hp;
+    below = elim (count-edited k p (countIn ps p) a (countIn ps p + 1) (omega arith) p) [ inl (_, w) ↦ omega arith | inr (n, w) ↦ absurd (n refl) ];
+    is-entry = elim (entry-edited k p (countIn ps p) a (countIn ps p + 1) (omega arith) p (countIn ps p) hc) [ inl (_, w) ↦ w | inr (n, w) ↦ absurd (n refl) ];
+  }
 
   -- what was entered stays so
   pub append-on : (q e g : ℕ) → Enters ps q e g → Enters (appended ps p a) q e g
-  append-on q e g i = record { is-packet = i .is-packet; below = lt (cnt-appended q); is-entry = eq (ent-appended q e (omega (arith, i .below, k .few q (i .is-packet)))) }
-    where
-      lt : Wrote (q ≡ p) (countIn (appended ps p a) q) (countIn ps p + 1) (countIn ps q) → e < countIn (appended ps p a) q
-      lt (inl (s, w)) = omega (arith, rw s at (i .below))
-      lt (inr (n, w)) = omega (arith, i .below)
-
-      eq : Wrote (32 * q + e ≡ 32 * p + countIn ps p) (entryIn (appended ps p a) q e) a (entryIn ps q e) → entryIn (appended ps p a) q e ≡ g
-      eq (inl (s, w)) = absurd (no (omega (arith, i .below, k .few q (i .is-packet))))
-        where
-          no : q ≡ p → ⊥
-          no z = omega (arith, rw z at (i .below))
-      eq (inr (n, w)) = w ∙ i .is-entry
-
-  -- what is entered was so, or is the new one
-  pub append-back : (q e g : ℕ) → Enters (appended ps p a) q e g → ((q ≡ p) × (e ≡ countIn ps p) × (g ≡ a)) ⊎ Enters ps q e g
-  append-back q e g i = go (cnt-appended q)
-    where
-      b : e < countIn (appended ps p a) q
-      b = i .below
-
-      more : e < 30 → ((32 * q + e ≡ 32 * p + countIn ps p → ⊥) → e < countIn ps q) → Wrote (32 * q + e ≡ 32 * p + countIn ps p) (entryIn (appended ps p a) q e) a (entryIn ps q e) → ((q ≡ p) × (e ≡ countIn ps p) × (g ≡ a)) ⊎ Enters ps q e g
-      more h f (inl (x, v)) = inl (omega arith, omega arith, sym (i .is-entry) ∙ v)
-      more h f (inr (x, v)) = inr (record { is-packet = i .is-packet; below = f x; is-entry = sym v ∙ i .is-entry })
-
-      go : Wrote (q ≡ p) (countIn (appended ps p a) q) (countIn ps p + 1) (countIn ps q) → ((q ≡ p) × (e ≡ countIn ps p) × (g ≡ a)) ⊎ Enters ps q e g
-      go (inl (s, v)) = let h : e < 30 = omega arith in more h (λ n. rw s (omega arith)) (ent-appended q e h)
-      go (inr (s, v)) = let h : e < 30 = omega (arith, k .few q (i .is-packet)) in more h (λ n. omega arith) (ent-appended q e h)
+  append-on q e g i =
+      elim (edited-on k p (countIn ps p) a (countIn ps p + 1) (omega arith) q e g i) [ inl (s, t) ↦ absurd (omega (arith, rw s at (i .below))) | inr j ↦ j ]
 
   -- a marked object that is not yet entered is appended
   pub append-ok : Mk a → ((q e : ℕ) → Enters ps q e a → ⊥) → PacketsOk Mk (appended ps p a)
-  append-ok ma un = record {
-    sized = simp length-put (k .sized);
-    few = λ q h. few q h (cnt-appended q);
-    gap = λ q h. gap-edited ps p (countIn ps p) a (countIn ps p + 1) (k .sized) hp hc q ∙ k .gap q h;
-    past = λ q e h he c. past q e h he c (cnt-appended q) (ent-appended q e he);
-    full = λ q e g i. full q e g (append-back q e g i);
-    once = λ q e r f g i j. once q e r f g (append-back q e g i) (append-back r f g j);
-  }
-    where
-      few : (q : ℕ) → q < 32 → Wrote (q ≡ p) (countIn (appended ps p a) q) (countIn ps p + 1) (countIn ps q) → countIn (appended ps p a) q ≤ 30
-      few q h (inl (s, v)) = omega arith
-      few q h (inr (s, v)) = omega (arith, k .few q h)
-
-      past : (q e : ℕ) → q < 32 → e < 30 → countIn (appended ps p a) q ≤ e → Wrote (q ≡ p) (countIn (appended ps p a) q) (countIn ps p + 1) (countIn ps q)
-          → Wrote (32 * q + e ≡ 32 * p + countIn ps p) (entryIn (appended ps p a) q e) a (entryIn ps q e) → entryIn (appended ps p a) q e ≡ 0
-      past q e h he c (inl (s, v)) (inl (x, w)) = absurd (omega arith)
-      past q e h he c (inr (s, v)) (inl (x, w)) = absurd (omega arith)
-      past q e h he c (inl (s, v)) (inr (x, w)) = w ∙ k .past q e h he (rw s (omega arith))
-      past q e h he c (inr (s, v)) (inr (x, w)) = w ∙ k .past q e h he (omega arith)
-
-      full : (q e g : ℕ) → ((q ≡ p) × (e ≡ countIn ps p) × (g ≡ a)) ⊎ Enters ps q e g → Mk g
-      full q e g (inl (_, _, s)) = rw s ma
-      full q e g (inr i) = k .full q e g i
-
-      once : (q e r f g : ℕ) → ((q ≡ p) × (e ≡ countIn ps p) × (g ≡ a)) ⊎ Enters ps q e g → ((r ≡ p) × (f ≡ countIn ps p) × (g ≡ a)) ⊎ Enters ps r f g → (q ≡ r) × (e ≡ f)
-      once q e r f g (inl (x, y, s)) (inl (x′, y′, s′)) = (omega arith, omega arith)
-      once q e r f g (inl (x, y, s)) (inr j) = absurd (un r f (rw s at j))
-      once q e r f g (inr i) (inl (x, y, s)) = absurd (un q e (rw s at i))
-      once q e r f g (inr i) (inr j) = k .once q e r f g i j
+  append-ok ma un = edited-ok k p (countIn ps p) a (countIn ps p + 1) (omega arith) (λ z. absurd (omega arith)) (λ _. (ma, un))
 
 -- ---- pop
 
@@ -142,63 +116,9 @@ module _ {Mk : ℕ → Type 0} {ps : List ℕ} (k : PacketsOk Mk ps) (p c : ℕ)
   popped-is : popped ps p ≡ edited ps p c 0 c
   popped-is = let a : 32 * p + 1 + countIn ps p ≡ 32 * p + 2 + c = omega arith in let b : countIn ps p - 1 ≡ c = omega arith in rw (a, b)
 
-  small : c < 30
-  small = omega (arith, k .few p hp)
-
-  cnt-popped : (q : ℕ) → Wrote (q ≡ p) (countIn (edited ps p c 0 c) q) c (countIn ps q)
-  cnt-popped q = cnt-edited ps p c 0 c (k .sized) hp small q
-
-  ent-popped : (q e : ℕ) → e < 30 → Wrote (32 * q + e ≡ 32 * p + c) (entryIn (edited ps p c 0 c) q e) 0 (entryIn ps q e)
-  ent-popped q e h = ent-edited ps p c 0 c (k .sized) hp small q e h
-
-  pop-back : (q e g : ℕ) → Enters (edited ps p c 0 c) q e g → Enters ps q e g
-  pop-back q e g i = go (cnt-popped q)
-    where
-      b : e < countIn (edited ps p c 0 c) q
-      b = i .below
-
-      more : e < 30 → e < countIn ps q → (32 * q + e ≡ 32 * p + c → ⊥) → Wrote (32 * q + e ≡ 32 * p + c) (entryIn (edited ps p c 0 c) q e) 0 (entryIn ps q e) → Enters ps q e g
-      more h l f (inl (x, v)) = absurd (f x)
-      more h l f (inr (x, v)) = record { is-packet = i .is-packet; below = l; is-entry = sym v ∙ i .is-entry }
-
-      go : Wrote (q ≡ p) (countIn (edited ps p c 0 c) q) c (countIn ps q) → Enters ps q e g
-      go (inl (s, v)) = let h : e < 30 = omega (arith, small) in more h (rw s (omega arith)) (omega arith) (ent-popped q e h)
-      go (inr (s, v)) = let h : e < 30 = omega (arith, k .few q (i .is-packet)) in more h (omega arith) (omega (arith, small)) (ent-popped q e h)
-
   -- what was entered stays so, but for the last of the packet
-  pop-keeps : (q e g : ℕ) → Enters ps q e g → ((q ≡ p) × (e ≡ c)) ⊎ Enters (edited ps p c 0 c) q e g
-  pop-keeps q e g i = go (cnt-popped q) (ent-popped q e he)
-    where
-      b : e < countIn ps q
-      b = i .below
-
-      he : e < 30
-      he = omega (arith, k .few q (i .is-packet))
-
-      go : Wrote (q ≡ p) (countIn (edited ps p c 0 c) q) c (countIn ps q) → Wrote (32 * q + e ≡ 32 * p + c) (entryIn (edited ps p c 0 c) q e) 0 (entryIn ps q e) → ((q ≡ p) × (e ≡ c)) ⊎ Enters (edited ps p c 0 c) q e g
-      go w (inl (x, v)) = inl (omega (arith, small, he), omega (arith, small, he))
-      go (inl (s, w)) (inr (x, v)) = inr (record { is-packet = i .is-packet; below = omega (arith, rw s at b); is-entry = v ∙ i .is-entry })
-      go (inr (s, w)) (inr (x, v)) = inr (record { is-packet = i .is-packet; below = omega arith; is-entry = v ∙ i .is-entry })
-
   pub pop-on : (q e g : ℕ) → Enters ps q e g → ((q ≡ p) × (e ≡ c)) ⊎ Enters (popped ps p) q e g
-  pop-on q e g i = rw popped-is (pop-keeps q e g i)
+  pop-on q e g i = rw popped-is (edited-on k p c 0 c (omega (arith, k .few p hp)) q e g i)
 
   pub pop-ok : PacketsOk Mk (popped ps p)
-  pop-ok = rw popped-is (record {
-    sized = simp length-put (k .sized);
-    few = λ q h. few q h (cnt-popped q);
-    gap = λ q h. gap-edited ps p c 0 c (k .sized) hp small q ∙ k .gap q h;
-    past = λ q e h he l. past q e h he l (cnt-popped q) (ent-popped q e he);
-    full = λ q e g i. k .full q e g (pop-back q e g i);
-    once = λ q e r f g i j. k .once q e r f g (pop-back q e g i) (pop-back r f g j);
-  })
-    where
-      few : (q : ℕ) → q < 32 → Wrote (q ≡ p) (countIn (edited ps p c 0 c) q) c (countIn ps q) → countIn (edited ps p c 0 c) q ≤ 30
-      few q h (inl (s, v)) = omega (arith, small)
-      few q h (inr (s, v)) = omega (arith, k .few q h)
-
-      past : (q e : ℕ) → q < 32 → e < 30 → countIn (edited ps p c 0 c) q ≤ e → Wrote (q ≡ p) (countIn (edited ps p c 0 c) q) c (countIn ps q)
-          → Wrote (32 * q + e ≡ 32 * p + c) (entryIn (edited ps p c 0 c) q e) 0 (entryIn ps q e) → entryIn (edited ps p c 0 c) q e ≡ 0
-      past q e h he l w (inl (x, v)) = v
-      past q e h he l (inl (s, w)) (inr (x, v)) = v ∙ k .past q e h he (rw s (omega arith))
-      past q e h he l (inr (s, w)) (inr (x, v)) = v ∙ k .past q e h he (omega arith)
+  pop-ok = rw popped-is (edited-ok k p c 0 c (omega (arith, k .few p hp)) (λ _. refl) (λ z. absurd (omega arith)))

@@ -1,7 +1,7 @@
 -- Judging words returns 0 where their image passes, and the words of an image that passes are judged 0.
 use mathlib.Core.Path.{_≡_, refl, ap, subst, _∙_}
-use mathlib.Core.Bool.{Bool, true, not}
-use mathlib.Core.List.{List, [], _∷_}
+use mathlib.Core.Bool.{true}
+use mathlib.Core.List.{List}
 use Prim.Native.Nat.{ℕ}
 use lib.ListN.{length}
 use borrow.Author.Tests.{not-false}
@@ -16,10 +16,6 @@ use Rattle.theory.proofs.lines.Sizes.{fits-sizes, lines-fits}
 
 pub parts-sizes : (w : ℕ) (ws : List ℕ) → fits w (length ws) ≡ true → Sizes (parts w ws)
 parts-sizes w ws f = fits-sizes (parts w ws) (parts-fit w ws f)
-
-both-pass : (a b : Bool) → a ≡ true → b ≡ true → first 1 (not a ∷ not b ∷ []) ≡ 0
-unfolding first
-both-pass a b p q = rw (p, q) refl
 
 pub parts-pass : (w : ℕ) (ws : List ℕ) → fits w (length ws) ≡ true → undamaged (parts w ws) ≡ true → Passes w (parts w ws)
 unfolding parts imageOf image
@@ -36,8 +32,7 @@ pub words-round : (w : ℕ) (m : Image) → Passes w m → parts w (words m) ≡
 words-round w m p = subst (λ x. parts x (words m) ≡ m) (p .same-width) (parts-words m (passes-fit w m p))
 
 pub judge-make : (w : ℕ) (m : Image) → Passes w m → judgeAt w (words m) ≡ 0
-unfolding judgeAt
+unfolding judgeAt first
 judge-make w m p =
-    both-pass _ _
-    (subst (λ x. fits x (length (words m)) ≡ true) (p .same-width) (words-fit m (passes-fit w m p)))
-    (ap undamaged (words-round w m p) ∙ undamaged-make m (p .is-undamaged))
+    let e : fits w (length (words m)) ≡ true = subst (λ x. fits x (length (words m)) ≡ true) (p .same-width) (words-fit m (passes-fit w m p)) in
+    rw (e, ap undamaged (words-round w m p) ∙ undamaged-make m (p .is-undamaged))

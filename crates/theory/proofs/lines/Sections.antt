@@ -1,14 +1,13 @@
 -- The lines that read tracers, cards, players, registers or marks, where one of their words is written.
 use mathlib.Core.Path.{_≡_, sym, _∙_}
 use mathlib.Core.Logic.{inl, inr}
-use mathlib.Core.Bool.{true}
 use mathlib.Core.List.{List}
 use Prim.Native.Nat.{ℕ, zero, suc, _+_, _*_, _≤_, _<_}
 use native.Mathlib.Decide.{ℕ-discrete}
 use native.Mathlib.Omega.{arith}
 use lib.ListN.{length}
 use lib.Seq.{set-comm}
-use Rattle.model.specs.Base.{nth, put, bit, setBit}
+use Rattle.model.specs.Base.{nth, put, setBit}
 use Rattle.model.specs.Image.{dirtyState}
 use Rattle.model.proofs.Bits.{setBit-other}
 use Rattle.model.proofs.Laws.{nth-put-same, nth-put-other, length-put}
@@ -30,56 +29,54 @@ tracers-mono f f′ k = record {
   spare = k .spare;
 }
 
+-- two words of a tracer written
+abbrev pub two : List ℕ → ℕ → ℕ → ℕ → ℕ → List ℕ
+two ts t a x y = put (put ts (8 * t + a) x) (8 * t + suc a) y
+
+pub two-off : (ts : List ℕ) (t a x y u b : ℕ) → (8 * u + b ≡ 8 * t + a → ⊥) × (8 * u + b ≡ 8 * t + suc a → ⊥) → nth (two ts t a x y) (8 * u + b) ≡ nth ts (8 * u + b)
+two-off ts t a x y u b n = nth-put-other (put ts (8 * t + a) x) (8 * t + suc a) (8 * u + b) y (n .1) ∙ nth-put-other ts (8 * t + a) (8 * u + b) x (n .0)
+
+pub two-is : (ts : List ℕ) (t a x y : ℕ) → length ts ≡ 64 → t < 8 → a < 7 → (nth (two ts t a x y) (8 * t + a) ≡ x) × (nth (two ts t a x y) (8 * t + suc a) ≡ y)
+two-is ts t a x y l ht ha = (
+  nth-put-other (put ts (8 * t + a) x) (8 * t + suc a) (8 * t + a) y (omega arith) ∙ nth-put-same ts (8 * t + a) x (omega arith),
+  nth-put-same (put ts (8 * t + a) x) (8 * t + suc a) y (simp length-put (omega arith)),
+)
+
 -- a pair is kept where another word of a tracer is written
 pairs-other : {P : ℕ → ℕ → Type 0} {a : ℕ} {ts : List ℕ} → Pairs P a ts → (t b v : ℕ) → (b < 8) × (a < 7) × (b ≡ a → ⊥) × (b ≡ suc a → ⊥) → Pairs P a (put ts (8 * t + b) v)
 pairs-other {a = a} {ts = ts} k t b v n = record { pair = λ u hu. rw (nth-put-other ts (8 * t + b) (8 * u + a) v (omega arith), nth-put-other ts (8 * t + b) (8 * u + suc a) v (omega arith)) (k .pair u hu) }
 
 -- and where it is itself written as a pair that is right
 pairs-set : {P : ℕ → ℕ → Type 0} {a : ℕ} {ts : List ℕ} → Pairs P a ts → length ts ≡ 64 → (t x y : ℕ) → t < 8 → a < 7 → Pair P x y → Pairs P a (put (put ts (8 * t + a) x) (8 * t + suc a) y)
-pairs-set {P} {a} {ts} k l t x y ht ha ok = record { pair = λ u hu. go u hu (ℕ-discrete u t) }
-  where
-    go : (u : ℕ) → u < 8 → Dec (u ≡ t) → Pair P (nth (put (put ts (8 * t + a) x) (8 * t + suc a) y) (8 * u + a)) (nth (put (put ts (8 * t + a) x) (8 * t + suc a) y) (8 * u + suc a))
-    go u hu (yes e) = rw (e, nth-put-other (put ts (8 * t + a) x) (8 * t + suc a) (8 * t + a) y (omega arith), nth-put-same ts (8 * t + a) x (omega arith), nth-put-same (put ts (8 * t + a) x) (8 * t + suc a) y (simp length-put (omega arith))) ok
-    go u hu (no ne) = rw (
-      nth-put-other (put ts (8 * t + a) x) (8 * t + suc a) (8 * u + a) y (omega arith),
-      nth-put-other ts (8 * t + a) (8 * u + a) x (omega arith),
-      nth-put-other (put ts (8 * t + a) x) (8 * t + suc a) (8 * u + suc a) y (omega arith),
-      nth-put-other ts (8 * t + a) (8 * u + suc a) x (omega arith),
-    ) (k .pair u hu)
-
-held-other : {ts : List ℕ} → HeldOk ts → (t b v : ℕ) → b < 8 → 2 ≤ b → HeldOk (put ts (8 * t + b) v)
-held-other {ts} k t b v hb h = record {
-  held = λ u i hu hi. rw (same u i hi) (k .held u i hu hi);
-  once = λ u i w j p hu hw hi hj e f. k .once u i w j p hu hw hi hj (sym (same u i hi) ∙ e) (sym (same w j hj) ∙ f);
+pairs-set {P} {a} {ts} k l t x y ht ha ok = record {
+  pair = λ u hu. elim (ℕ-discrete u t) [
+    | yes e ↦ rw (e, two-is ts t a x y l ht ha .0, two-is ts t a x y l ht ha .1) ok
+    | no ne ↦ rw (two-off ts t a x y u a (omega arith), two-off ts t a x y u (suc a) (omega arith)) (k .pair u hu)
+  ];
 }
-  where
-    same : (u i : ℕ) → i < 2 → nth (put ts (8 * t + b) v) (8 * u + i) ≡ nth ts (8 * u + i)
-    same u i hi = nth-put-other ts (8 * t + b) (8 * u + i) v (omega arith)
+
+held-other : {ts : List ℕ} → HeldOk ts → (t a x y : ℕ) → (2 ≤ a) × (a < 7) → HeldOk (two ts t a x y)
+held-other {ts} k t a x y h = record {
+  held = λ u i hu hi. rw (two-off ts t a x y u i (omega arith)) (k .held u i hu hi);
+  once = λ u i w j p hu hw hi hj e f. k .once u i w j p hu hw hi hj (sym (two-off ts t a x y u i (omega arith)) ∙ e) (sym (two-off ts t a x y w j (omega arith)) ∙ f);
+}
 
 -- taking a packet that is held nowhere else keeps held-once
 held-set : {ts : List ℕ} → HeldOk ts → length ts ≡ 64 → (t i v : ℕ) → t < 8 → i < 2 → v ≤ 32
     → ((u j p : ℕ) → u < 8 → j < 2 → v ≡ suc p → nth ts (8 * u + j) ≡ suc p → (u ≡ t) × (j ≡ i)) → HeldOk (put ts (8 * t + i) v)
 held-set {ts} k l t i v ht hi hv free = record {
-  held = λ u j hu hj. few u j hu hj (word u j);
-  once = λ u j w x p hu hw hj hx e f. once u j w x p hu hw hj hx e f (word u j) (word w x);
+  held = λ u j hu hj. elim (word u j) [ inl (e, w) ↦ omega arith | inr (n, w) ↦ omega (arith, k .held u j hu hj) ];
+  once = λ u j w x p hu hw hj hx e f. elim (word u j) [
+    | inl (a, b) ↦ elim (word w x) [ inl (c, d) ↦ (omega arith, omega arith) | inr (c, d) ↦ absurd (omega (arith, free w x p hw hx (sym b ∙ e) (sym d ∙ f))) ]
+    | inr (a, b) ↦ elim (word w x) [
+      | inl (c, d) ↦ absurd (omega (arith, free u j p hu hj (sym d ∙ f) (sym b ∙ e)))
+      | inr (c, d) ↦ k .once u j w x p hu hw hj hx (sym b ∙ e) (sym d ∙ f)
+    ]
+  ];
 }
   where
-    ts′ : List ℕ
-    ts′ = put ts (8 * t + i) v
-
     word : (u j : ℕ) → Wrote (8 * u + j ≡ 8 * t + i) (nth (put ts (8 * t + i) v) (8 * u + j)) v (nth ts (8 * u + j))
     word u j = nth-put ts (8 * t + i) (8 * u + j) v (omega arith)
-
-    few : (u j : ℕ) → u < 8 → j < 2 → Wrote (8 * u + j ≡ 8 * t + i) (nth (put ts (8 * t + i) v) (8 * u + j)) v (nth ts (8 * u + j)) → nth (put ts (8 * t + i) v) (8 * u + j) ≤ 32
-    few u j hu hj (inl (e, w)) = omega arith
-    few u j hu hj (inr (n, w)) = omega (arith, k .held u j hu hj)
-
-    once : (u j w x p : ℕ) → u < 8 → w < 8 → j < 2 → x < 2 → nth (put ts (8 * t + i) v) (8 * u + j) ≡ suc p → nth (put ts (8 * t + i) v) (8 * w + x) ≡ suc p
-        → Wrote (8 * u + j ≡ 8 * t + i) (nth (put ts (8 * t + i) v) (8 * u + j)) v (nth ts (8 * u + j)) → Wrote (8 * w + x ≡ 8 * t + i) (nth (put ts (8 * t + i) v) (8 * w + x)) v (nth ts (8 * w + x)) → (u ≡ w) × (j ≡ x)
-    once u j w x p hu hw hj hx e f (inl (a, b)) (inl (c, d)) = (omega arith, omega arith)
-    once u j w x p hu hw hj hx e f (inl (a, b)) (inr (c, d)) = let r : (w ≡ t) × (x ≡ i) = free w x p hw hx (sym b ∙ e) (sym d ∙ f) in absurd (omega arith)
-    once u j w x p hu hw hj hx e f (inr (a, b)) (inl (c, d)) = let r : (u ≡ t) × (j ≡ i) = free u j p hu hj (sym d ∙ f) (sym b ∙ e) in absurd (omega arith)
-    once u j w x p hu hw hj hx e f (inr (a, b)) (inr (c, d)) = k .once u j w x p hu hw hj hx (sym b ∙ e) (sym d ∙ f)
 
 module _ {Hd Cd : ℕ → ℕ → Type 0} {ts : List ℕ} (k : TracersOk Hd Cd ts) (t : ℕ) (ht : t < 8) where
   -- an input or output is written
@@ -96,7 +93,7 @@ module _ {Hd Cd : ℕ → ℕ → Type 0} {ts : List ℕ} (k : TracersOk Hd Cd t
   pub hand-ok : (g i : ℕ) → Pair Hd g i → TracersOk Hd Cd (put (put ts (8 * t + 2) g) (8 * t + 3) i)
   hand-ok g i ok = record {
     sized = simp length-put (k .sized);
-    places = held-other (held-other (k .places) t 2 g (omega arith) (omega arith)) t 3 i (omega arith) (omega arith);
+    places = held-other (k .places) t 2 g i (omega arith);
     hands = pairs-set (k .hands) (k .sized) t g i ht (omega arith) ok;
     handCards = pairs-other (pairs-other (k .handCards) t 2 g (omega arith)) t 3 i (omega arith);
     spare = pairs-other (pairs-other (k .spare) t 2 g (omega arith)) t 3 i (omega arith);
@@ -106,101 +103,78 @@ module _ {Hd Cd : ℕ → ℕ → Type 0} {ts : List ℕ} (k : TracersOk Hd Cd t
   pub card-ok : (c n : ℕ) → Pair Cd c n → TracersOk Hd Cd (put (put ts (8 * t + 4) c) (8 * t + 5) n)
   card-ok c n ok = record {
     sized = simp length-put (k .sized);
-    places = held-other (held-other (k .places) t 4 c (omega arith) (omega arith)) t 5 n (omega arith) (omega arith);
+    places = held-other (k .places) t 4 c n (omega arith);
     hands = pairs-other (pairs-other (k .hands) t 4 c (omega arith)) t 5 n (omega arith);
     handCards = pairs-set (k .handCards) (k .sized) t c n ht (omega arith) ok;
     spare = pairs-other (pairs-other (k .spare) t 4 c (omega arith)) t 5 n (omega arith);
   }
 
-  -- the output becomes input
-  pub swap-ok : (v : ℕ) → v ≡ nth ts (8 * t + 1) → TracersOk Hd Cd (put (put ts (8 * t + 0) v) (8 * t + 1) 0)
-  unfolding put
-  swap-ok v e = rw (set-comm ts (8 * t + 0) (8 * t + 1) v 0 (omega arith)) (record {
-    sized = simp length-put (k .sized);
-    places = held-set (held-set (k .places) (k .sized) t 1 0 ht (omega arith) (omega arith) (λ u j p hu hj x y. absurd (omega arith))) (simp length-put (k .sized)) t 0 v ht (omega arith) (rw e (k .places .held t 1 ht (omega arith)))
-        (λ u j p hu hj x y. free u j p hu hj x y (nth-put ts (8 * t + 1) (8 * u + j) 0 (omega (arith, k .sized))));
-    hands = pairs-other (pairs-other (k .hands) t 1 0 (omega arith)) t 0 v (omega arith);
-    handCards = pairs-other (pairs-other (k .handCards) t 1 0 (omega arith)) t 0 v (omega arith);
-    spare = pairs-other (pairs-other (k .spare) t 1 0 (omega arith)) t 0 v (omega arith);
-  })
-    where
-      free : (u j p : ℕ) → u < 8 → j < 2 → v ≡ suc p → nth (put ts (8 * t + 1) 0) (8 * u + j) ≡ suc p → Wrote (8 * u + j ≡ 8 * t + 1) (nth (put ts (8 * t + 1) 0) (8 * u + j)) 0 (nth ts (8 * u + j)) → (u ≡ t) × (j ≡ 0)
-      free u j p hu hj x y (inl (a, b)) = absurd (omega arith)
-      free u j p hu hj x y (inr (a, b)) = let r : (u ≡ t) × (j ≡ 1) = k .places .once u j t 1 p hu ht hj (omega arith) (sym b ∙ y) (sym e ∙ x) in absurd (omega arith)
+-- the output becomes input
+pub swap-ok : {Hd Cd : ℕ → ℕ → Type 0} {ts : List ℕ} (k : TracersOk Hd Cd ts) (t : ℕ) → t < 8 → (v : ℕ) → v ≡ nth ts (8 * t + 1)
+    → TracersOk Hd Cd (put (put ts (8 * t + 0) v) (8 * t + 1) 0)
+unfolding put
+swap-ok {ts = ts} k t ht v e =
+    let emptied = hold-ok k t ht 1 0 (omega arith) (omega arith) (λ u j p hu hj x y. absurd (omega arith)) in
+    rw (set-comm ts (8 * t + 0) (8 * t + 1) v 0 (omega arith))
+    (hold-ok emptied t ht 0 v (omega arith) (rw e (k .places .held t 1 ht (omega arith)))
+    (λ u j p hu hj x y. elim (nth-put ts (8 * t + 1) (8 * u + j) 0 (omega (arith, k .sized))) [
+      | inl (a, b) ↦ absurd (omega arith)
+      | inr (a, b) ↦ absurd (omega (arith, k .places .once u j t 1 p hu ht hj (omega arith) (sym b ∙ y) (sym e ∙ x)))
+    ]))
 
 -- ---- cards
 
-dirtyState-le : (x : ℕ) → dirtyState x ≤ 3
+dirtyState-is : (x : ℕ) → (dirtyState x ≤ 3) × (2 ≤ x → 2 ≤ dirtyState x)
 unfolding dirtyState
-dirtyState-le zero = omega arith
-dirtyState-le (suc zero) = omega arith
-dirtyState-le (suc (suc x)) = omega arith
-
-dirtyState-two : (x : ℕ) → 2 ≤ x → 2 ≤ dirtyState x
-unfolding dirtyState
-dirtyState-two zero h = absurd (omega arith)
-dirtyState-two (suc zero) h = absurd (omega arith)
-dirtyState-two (suc (suc x)) h = omega arith
+dirtyState-is zero = (omega arith, λ h. omega arith)
+dirtyState-is (suc zero) = (omega arith, λ h. omega arith)
+dirtyState-is (suc (suc x)) = (omega arith, λ h. omega arith)
 
 -- a card is written
 pub state-ok : {k : ℕ} {cs : List ℕ} → CardsOk k cs → (c v : ℕ) → c < k → v ≤ 3 → CardsOk k (put cs c v)
-state-ok {k} {cs} o c v h hv = record { sized = simp length-put (o .sized); states = λ d. go d (nth-put cs c d v (omega (arith, o .sized))) }
-  where
-    go : (d : ℕ) → Wrote (d ≡ c) (nth (put cs c v) d) v (nth cs d) → nth (put cs c v) d ≤ 3
-    go d (inl (e, w)) = omega arith
-    go d (inr (n, w)) = omega (arith, o .states d)
+state-ok {k} {cs} o c v h hv = record {
+  sized = simp length-put (o .sized);
+  states = λ d. elim (nth-put cs c d v (omega arith)) [ inl (e, w) ↦ omega arith | inr (n, w) ↦ omega (arith, o .states d) ];
+}
 
 pub dirtied-ok : {k : ℕ} {cs : List ℕ} → CardsOk k cs → (c : ℕ) → c < k → CardsOk k (put cs c (dirtyState (nth cs c)))
-dirtied-ok o c h = state-ok o c _ h (dirtyState-le _)
+dirtied-ok o c h = state-ok o c _ h (dirtyState-is _ .0)
 
 -- a taken card stays taken
 pub taken-on : {k : ℕ} {cs : List ℕ} → CardsOk k cs → (c v d : ℕ) → c < k → (2 ≤ nth cs c → 2 ≤ v) → 2 ≤ nth cs d → 2 ≤ nth (put cs c v) d
-taken-on {k} {cs} o c v d h f hd = go (nth-put cs c d v (omega (arith, o .sized)))
-  where
-    go : Wrote (d ≡ c) (nth (put cs c v) d) v (nth cs d) → 2 ≤ nth (put cs c v) d
-    go (inl (e, w)) = rw w (f (rw e at hd))
-    go (inr (n, w)) = omega arith
+taken-on {k} {cs} o c v d h f hd = elim (nth-put cs c d v (omega arith)) [ inl (e, w) ↦ rw w (f (rw e at hd)) | inr (n, w) ↦ omega arith ]
 
 pub dirtied-on : {k : ℕ} {cs : List ℕ} → CardsOk k cs → (c d : ℕ) → c < k → 2 ≤ nth cs d → 2 ≤ nth (put cs c (dirtyState (nth cs c))) d
-dirtied-on {k} {cs} o c d h hd = taken-on o c (dirtyState (nth cs c)) d h (dirtyState-two _) hd
+dirtied-on {k} {cs} o c d h hd = taken-on o c (dirtyState (nth cs c)) d h (dirtyState-is _ .1) hd
 
 -- ---- players, registers, marks
 
 pub owed-set : {k : ℕ} {ps : List ℕ} → PlayersOk k ps → (p v : ℕ) → p < 16 → v ≤ k → PlayersOk k (put ps (2 * p) v)
 owed-set {k} {ps} o p v hp hv = record {
   sized = simp length-put (o .sized);
-  owed-ok = λ q. go q (nth-put ps (2 * p) (2 * q) v (omega (arith, o .sized)));
+  owed-ok = λ q. elim (nth-put ps (2 * p) (2 * q) v (omega arith)) [ inl (e, w) ↦ omega arith | inr (n, w) ↦ omega (arith, o .owed-ok q) ];
   scanned-ok = λ q. rw (nth-put-other ps (2 * p) (2 * q + 1) v (omega arith)) (o .scanned-ok q);
 }
-  where
-    go : (q : ℕ) → Wrote (2 * q ≡ 2 * p) (nth (put ps (2 * p) v) (2 * q)) v (nth ps (2 * q)) → nth (put ps (2 * p) v) (2 * q) ≤ k
-    go q (inl (e, w)) = omega arith
-    go q (inr (n, w)) = omega (arith, o .owed-ok q)
 
 pub scanned-set : {k : ℕ} {ps : List ℕ} → PlayersOk k ps → (p : ℕ) → p < 16 → PlayersOk k (put ps (2 * p + 1) 1)
 scanned-set {k} {ps} o p hp = record {
   sized = simp length-put (o .sized);
   owed-ok = λ q. rw (nth-put-other ps (2 * p + 1) (2 * q) 1 (omega arith)) (o .owed-ok q);
-  scanned-ok = λ q. go q (nth-put ps (2 * p + 1) (2 * q + 1) 1 (omega (arith, o .sized)));
+  scanned-ok = λ q. elim (nth-put ps (2 * p + 1) (2 * q + 1) 1 (omega arith)) [ inl (e, w) ↦ omega arith | inr (n, w) ↦ omega (arith, o .scanned-ok q) ];
 }
-  where
-    go : (q : ℕ) → Wrote (2 * q + 1 ≡ 2 * p + 1) (nth (put ps (2 * p + 1) 1) (2 * q + 1)) 1 (nth ps (2 * q + 1)) → nth (put ps (2 * p + 1) 1) (2 * q + 1) ≤ 1
-    go q (inl (e, w)) = omega arith
-    go q (inr (n, w)) = omega (arith, o .scanned-ok q)
 
 -- a register is set to nil or a start
 pub reg-ok : {St : ℕ → Type 0} {rs : List ℕ} → RegsOk St rs → (i v : ℕ) → i < 256 → NilOr St v → RegsOk St (put rs i v)
-reg-ok {St} {rs} o i v h ok = record { sized = simp length-put (o .sized); values = λ j. go j (nth-put rs i j v (omega (arith, o .sized))) }
-  where
-    go : (j : ℕ) → Wrote (j ≡ i) (nth (put rs i v) j) v (nth rs j) → NilOr St (nth (put rs i v) j)
-    go j (inl (e, w)) = rw w ok
-    go j (inr (n, w)) = rw w (o .values j)
+reg-ok {St} {rs} o i v h ok = record {
+  sized = simp length-put (o .sized);
+  values = λ j. elim (nth-put rs i j v (omega arith)) [ inl (e, w) ↦ rw w ok | inr (n, w) ↦ rw w (o .values j) ];
+}
 
 -- a start is marked
 pub mark-ok : {w k : ℕ} {St : ℕ → Type 0} {ms : List ℕ} → MarksOk w k St ms → (a : ℕ) → St a → MarksOk w k St (setBit w ms a)
 unfolding setBit
-mark-ok {w} {k} {St} {ms} o a sa = record { exact = rw length-put (o .exact); sized = λ g h. rw length-put (o .sized g h); on-starts = λ g e. go g e (ℕ-discrete g a) }
-  where
-    go : (g : ℕ) → bit w (setBit w ms a) g ≡ true → Dec (g ≡ a) → St g
-    go g e (yes s) = rw s sa
-    go g e (no n) = o .on-starts g (sym (setBit-other w ms a g n) ∙ e)
+mark-ok {w} {k} {St} {ms} o a sa = record {
+  exact = rw length-put (o .exact);
+  sized = λ g h. rw length-put (o .sized g h);
+  on-starts = λ g e. elim (ℕ-discrete g a) [ yes s ↦ rw s sa | no n ↦ o .on-starts g (sym (setBit-other w ms a g n) ∙ e) ];
+}

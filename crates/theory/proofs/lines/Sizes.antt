@@ -1,8 +1,8 @@
 -- The sizes of the sections of an image that fits, and that an image with the lines fits.
-use mathlib.Core.Path.{_≡_, refl, ap, _∙_}
-use mathlib.Core.Logic.{_⊎_, inl, inr}
+use mathlib.Core.Path.{_≡_, ap, _∙_}
+use mathlib.Core.Logic.{inl, inr}
 use mathlib.Core.List.{map}
-use Prim.Native.Nat.{ℕ, _≤_, _*_, _<_, _/_}
+use Prim.Native.Nat.{ℕ, _≤_, _*_}
 use native.Mathlib.Omega.{arith}
 use lib.ListN.{length, getD}
 use Rattle.model.specs.Image.{heapAt, startsAt, marksAt, cardsAt, regsAt, packetsAt, tracersAt, playersAt, generalAt, lengths, mostCards, Image, sections}
@@ -10,11 +10,6 @@ use Rattle.model.proofs.Words.{Fits, width-cases}
 use Rattle.model.proofs.Bits.{bit-within}
 use Rattle.theory.specs.Lines.{Sizes, Lines}
 use Rattle.theory.proofs.heap.Facts.{some-card}
-
--- every granule has its bit
-bit-word : (w k g : ℕ) → (w ≡ 16) ⊎ (w ≡ 32) → g < 64 * k → g / w < 64 * k / w
-bit-word w k g (inl e) h = rw e (omega arith)
-bit-word w k g (inr e) h = rw e (omega arith)
 
 -- ---- sizes from lengths
 
@@ -26,7 +21,7 @@ fits-sizes m f = record {
   marks-size = here marksAt;
   starts-in = λ g e. bit-within (m .width) (64 * m .k) (m .starts) g (here startsAt) e;
   marks-in = λ g e. bit-within (m .width) (64 * m .k) (m .marks) g (here marksAt) e;
-  marks-room = λ g h. rw (here marksAt) (bit-word (m .width) (m .k) g w h);
+  marks-room = λ g h. rw (here marksAt) (elim (width-cases (m .width) (m .k) (f .some-card) (f .few-cards)) [ inl e ↦ rw e (omega arith) | inr e ↦ rw e (omega arith) ]);
   cards-size = here cardsAt;
   regs-size = here regsAt;
   packets-size = here packetsAt;
@@ -38,28 +33,11 @@ fits-sizes m f = record {
     here : (i : ℕ) → getD (map length (sections m)) i 0 ≡ getD (lengths (m .width) (m .k)) i 0
     here i = ap (λ l. getD l i 0) (f .section-lengths)
 
-    w : (m .width ≡ 16) ⊎ (m .width ≡ 32)
-    w = width-cases (m .width) (m .k) (f .some-card) (f .few-cards)
-
 -- the lines give the lengths
 pub lines-fits : {m : Image} → Lines m → m .k ≤ mostCards (m .width) → Fits m
 unfolding sections
 lines-fits {m} o h = record {
   some-card = some-card o;
   few-cards = h;
-  section-lengths =
-      let e : 4 * (64 * m .k) ≡ 256 * m .k = omega arith in
-      rw (
-        o .heap-ok .sized,
-        e,
-        o .heap-ok .starts-sized,
-        o .marks-ok .exact,
-        o .cards-ok .sized,
-        o .regs-ok .sized,
-        o .packets-ok .sized,
-        o .tracers-ok .sized,
-        o .players-ok .sized,
-        o .general-ok .sized,
-      )
-      refl;
+  section-lengths = let e : 4 * (64 * m .k) ≡ 256 * m .k = omega arith in cc;
 }

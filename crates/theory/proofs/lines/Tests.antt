@@ -1,19 +1,21 @@
 -- The tests on packets and tracers say what their lines say: the law each way.
-use mathlib.Core.Path.{_≡_, refl, sym, ap, subst, _∙_}
-use mathlib.Core.Bool.{Bool, true, false}
-use mathlib.Core.List.{List, [], _∷_}
-use Prim.Native.Nat.{ℕ, zero, suc, _+_, _*_, _/_, _%_, _≤_, _<_}
+use mathlib.Core.Path.{_≡_, refl, sym, ap, _∙_}
+use mathlib.Core.Bool.{Bool, true}
+use mathlib.Core.Logic.{inl, inr}
+use mathlib.Core.List.{List}
+use Prim.Native.Nat.{ℕ, zero, suc, _+_, _*_, _-_, _/_, _%_, _≤_, _<_}
 use native.Mathlib.Decide.{ℕ-discrete, decLt}
+use native.Mathlib.Nat.{add-zero}
 use native.Mathlib.Omega.{arith}
-use lib.Dec.{leb, ltb, eqb}
+use lib.Dec.{ltb, eqb}
 use lib.ListN.{length, take, drop}
 use borrow.Author.Tests.{ltb-true, ltb-false, leb-true, eqb-true, eqb-false, not-true, lt-ltb, le-ltb, le-leb, eq-eqb, ne-eqb}
-use Rattle.model.specs.Base.{nth, all, every, either, distinct, eachPiece}
+use Rattle.model.specs.Base.{nth, all, either, distinct, eachPiece}
 use Rattle.model.specs.Image.{Image, granules, word, marked, links, state, entries, hand, nextLink, handCard, nextGranule}
 use Rattle.model.specs.Undamaged.{entryOk, packetOk, heldAt, heldOnce, handOk, handCardOk, tracerOk}
-use Rattle.model.proofs.Laws.{false≢, either-yes, either-no, either-make, not-make, all-use, all-make, every-use, every-nil, every-cons}
+use Rattle.model.proofs.Laws.{bool-cases, either-yes, either-no, either-make, not-make, all-use, all-make, every-use, every-nil, every-cons}
 use Rattle.model.proofs.Entries.{nth-drop, nth-take, eachPiece-use, eachPiece-make}
-use Rattle.theory.specs.Lines.{countIn, entryIn, PacketsOk, Pair, Never, TracersOk, Marked, InHand, CardInHand, none, one}
+use Rattle.theory.specs.Lines.{countIn, entryIn, PacketsOk, Pair, TracersOk, Marked, InHand, CardInHand, none, one}
 use Rattle.theory.proofs.lines.Distinct.{once-use, once-make}
 
 -- ---- packets
@@ -28,78 +30,56 @@ piece-entry : (ps : List ℕ) (p e : ℕ) → e < 30 → nth (take 32 (drop (32 
 piece-entry ps p e h = let d : 32 * p + (2 + e) ≡ 32 * p + 2 + e = omega arith in piece-word ps p (2 + e) (omega arith) ∙ ap (nth ps) d
 
 module _ (m : Image) where
-  entry-in : (b : Bool) (g : ℕ) → entryOk m b g ≡ true → b ≡ true → Marked m g
-  unfolding entryOk marked
-  entry-in true g e h = every-use _ e 1
-  entry-in false g e h = false≢ h
-
-  entry-past : (b : Bool) (g : ℕ) → entryOk m b g ≡ true → b ≡ false → g ≡ 0
-  unfolding entryOk
-  entry-past true g e h = false≢ (sym h)
-  entry-past false g e h = eqb-true g 0 e
-
-  entry-make : (b : Bool) (g : ℕ) → (b ≡ true → (g < 64 * m .k) × Marked m g) → (b ≡ false → g ≡ 0) → entryOk m b g ≡ true
-  unfolding entryOk marked granules
-  entry-make true g f z = every-cons _ _ (lt-ltb _ _ (f refl .0)) (every-cons _ _ (f refl .1) every-nil)
-  entry-make false g f z = eq-eqb g 0 (z refl)
-
-  -- one packet, by its words
-  packet-use : (ws : List ℕ) → packetOk m ws ≡ true → (nth ws 0 ≤ 30) × (nth ws 1 ≡ 0) × ((e : ℕ) → e < 30 → entryOk m (ltb e (nth ws 0)) (nth ws (2 + e)) ≡ true)
-  unfolding packetOk
-  packet-use ws e = (leb-true _ _ (every-use _ e 0), eqb-true _ _ (every-use _ e 1), λ i h. all-use 30 _ (every-use _ e 2) i h)
-
-  packet-make : (ws : List ℕ) → nth ws 0 ≤ 30 → nth ws 1 ≡ 0 → ((e : ℕ) → e < 30 → entryOk m (ltb e (nth ws 0)) (nth ws (2 + e)) ≡ true) → packetOk m ws ≡ true
-  unfolding packetOk
-  packet-make ws a b c = every-cons _ _ (le-leb _ _ a) (every-cons _ _ (eq-eqb _ _ b) (every-cons _ _ (all-make 30 _ c) every-nil))
+  abbrev ps : List ℕ
+  ps = m .packets
 
   pub packets-use : length (m .packets) ≡ 1024 → eachPiece 32 32 (packetOk m) (m .packets) ≡ true → distinct (entries m) ≡ true → PacketsOk (Marked m) (m .packets)
-  unfolding entries
+  unfolding entries packetOk entryOk marked
   packets-use l a d =
       record {
         sized = l;
         few = few;
-        gap = λ p h. sym (piece-word ps p 1 (omega arith)) ∙ each p h .1;
-        past = λ p e h he c. entry-past (ltb e (countIn ps p)) (entryIn ps p e) (entry p e h he) (le-ltb e (countIn ps p) c);
-        full = λ p e g i. subst (Marked m) (i .is-entry) (entry-in (ltb e (countIn ps p)) (entryIn ps p e) (entry p e (i .is-packet) (omega (arith, i .below, few p (i .is-packet)))) (lt-ltb e (countIn ps p) (i .below)));
+        gap = λ p h. sym (piece-word ps p 1 (omega arith)) ∙ eqb-true _ _ (every-use _ (each p h) 1);
+        past = λ p e h he c. eqb-true _ _ (rw (le-ltb e (countIn ps p) c) at (entry p e h he));
+        full = λ p e g i. let h : e < 30 = omega (arith, few p (i .is-packet)) in rw (i .is-entry) at (every-use _ (rw (lt-ltb e _ (i .below)) at (entry p e (i .is-packet) h)) 1);
         once = λ p e q f g i j. once-use 32 ps (omega arith) few d p e q f (i .is-packet) (j .is-packet) (i .below) (j .below) (i .is-entry ∙ sym (j .is-entry));
       }
     where
-      ps : List ℕ
-      ps = m .packets
-
-      each : (p : ℕ) → p < 32 → let ws = take 32 (drop (32 * p) ps) in (nth ws 0 ≤ 30) × (nth ws 1 ≡ 0) × ((e : ℕ) → e < 30 → entryOk m (ltb e (nth ws 0)) (nth ws (2 + e)) ≡ true)
-      each p h = packet-use _ (eachPiece-use 32 32 (packetOk m) ps a p h)
+      each : (p : ℕ) → p < 32 → packetOk m (take 32 (drop (32 * p) ps)) ≡ true
+      each p h = eachPiece-use 32 32 (packetOk m) ps a p h
 
       few : (p : ℕ) → p < 32 → countIn ps p ≤ 30
-      few p h = omega (arith, each p h .0, piece-count ps p)
+      few p h = let b : nth (take 32 (drop (32 * p) ps)) 0 ≤ 30 = leb-true _ _ (every-use _ (each p h) 0) in omega (arith, piece-count ps p)
 
       entry : (p e : ℕ) → p < 32 → e < 30 → entryOk m (ltb e (countIn ps p)) (entryIn ps p e) ≡ true
-      entry p e h he = subst (λ x. entryOk m (ltb e (countIn ps p)) x ≡ true) (piece-entry ps p e he) (subst (λ x. entryOk m (ltb e x) (nth (take 32 (drop (32 * p) ps)) (2 + e)) ≡ true) (piece-count ps p) (each p h .2 e he))
+      entry p e h he = rw (piece-count ps p, piece-entry ps p e he) at (all-use 30 _ (every-use _ (each p h) 2) e he)
 
   pub packets-make : ((g : ℕ) → Marked m g → g < 64 * m .k) → PacketsOk (Marked m) (m .packets) → (eachPiece 32 32 (packetOk m) (m .packets) ≡ true) × (distinct (entries m) ≡ true)
-  unfolding entries
+  unfolding entries packetOk entryOk marked granules
   packets-make r k = (
     eachPiece-make 32 32 (packetOk m) ps
-        (λ p h. packet-make _ (omega (arith, k .few p h, piece-count ps p)) (piece-word ps p 1 (omega arith) ∙ k .gap p h)
-        (λ e he. subst (λ x. entryOk m (ltb e (nth (take 32 (drop (32 * p) ps)) 0)) x ≡ true) (sym (piece-entry ps p e he)) (subst (λ x. entryOk m (ltb e x) (entryIn ps p e) ≡ true) (sym (piece-count ps p)) (entry p e h he)))),
+        (λ p h. let b : nth (take 32 (drop (32 * p) ps)) 0 ≤ 30 = omega (arith, k .few p h, piece-count ps p) in
+        every-cons _ _ (le-leb _ _ b) (every-cons _ _ (eq-eqb _ _ (piece-word ps p 1 (omega arith) ∙ k .gap p h))
+        (every-cons _ _ (all-make 30 _ (λ e he. rw (piece-count ps p, piece-entry ps p e he) (entry p e h he))) every-nil))),
     once-make 32 ps (omega (arith, k .sized)) (k .few) (λ p e q f hp hq he hf s. k .once p e q f (entryIn ps p e) (record { is-packet = hp; below = he; is-entry = refl }) (record { is-packet = hq; below = hf; is-entry = sym s })),
   )
     where
-      ps : List ℕ
-      ps = m .packets
-
       entry : (p e : ℕ) → p < 32 → e < 30 → entryOk m (ltb e (countIn ps p)) (entryIn ps p e) ≡ true
-      entry p e h he = entry-make _ _ (λ b. let k′ = k .full p e (entryIn ps p e) (record { is-packet = h; below = ltb-true _ _ b; is-entry = refl }) in (r _ k′, k′)) (λ b. k .past p e h he (ltb-false _ _ b))
+      entry p e h he = elim (bool-cases (ltb e (countIn ps p))) [
+        | inl b ↦
+            let k′ = k .full p e (entryIn ps p e) (record { is-packet = h; below = ltb-true _ _ b; is-entry = refl }) in
+            rw b (every-cons _ _ (lt-ltb _ _ (r _ k′)) (every-cons _ _ k′ every-nil))
+        | inr b ↦ rw b (eq-eqb _ _ (k .past p e h he (ltb-false _ _ b)))
+      ]
 
 -- ---- tracers
 
 -- two words, the second 0 where the first is, and right where it is not
 pair-use : {P : ℕ → ℕ → Type 0} (x y : ℕ) (t : Bool) → either (eqb x 0) (eqb y 0) t ≡ true → (t ≡ true → P x y) → Pair P x y
-pair-use {P} x y t e f = go (ℕ-discrete x 0)
-  where
-    go : Dec (x ≡ 0) → Pair P x y
-    go (yes z) = none z (eqb-true _ _ (either-yes _ _ _ (eq-eqb x 0 z) e))
-    go (no n) = one n (f (either-no _ _ _ (ne-eqb x 0 n) e))
+pair-use {P} x y t e f = elim (ℕ-discrete x 0) [
+  | yes z ↦ none z (eqb-true _ _ (either-yes _ _ _ (eq-eqb x 0 z) e))
+  | no n ↦ one n (f (either-no _ _ _ (ne-eqb x 0 n) e))
+]
 
 pair-make : {P : ℕ → ℕ → Type 0} (x y : ℕ) (t : Bool) → Pair P x y → (P x y → t ≡ true) → either (eqb x 0) (eqb y 0) t ≡ true
 pair-make x y t (none a b) f = either-make (eqb x 0) _ _ (λ _. eq-eqb _ _ b) (λ n. absurd (eqb-false _ _ n a))
@@ -126,22 +106,23 @@ module _ (m : Image) where
   unfolding heldAt
   heldAt-is t i h = let a : 8 * ((2 * t + i) / 2) + (2 * t + i) % 2 ≡ 8 * t + i = omega arith in ap (nth (m .tracers)) a
 
-  heldAt-split : (x : ℕ) → heldAt m x ≡ nth (m .tracers) (8 * (x / 2) + x % 2)
-  unfolding heldAt
-  heldAt-split x = refl
-
   pub tracers-use : length (m .tracers) ≡ 64 → all 8 (tracerOk m) ≡ true → all 16 (heldOnce m) ≡ true → TracersOk (InHand m) (CardInHand m) (m .tracers)
   unfolding tracerOk heldOnce hand nextLink handCard nextGranule
   tracers-use l a o = record {
     sized = l;
-    places = record { held = held; once = λ t i u j p ht hu hi hj e f. by t i u j p ht hu hi hj e f (decLt (2 * t + i) (2 * u + j)) (decLt (2 * u + j) (2 * t + i)) };
+    places = record {
+      held = held;
+      once = λ t i u j p ht hu hi hj e f. elim (decLt (2 * t + i) (2 * u + j)) [
+        | yes h ↦ absurd (before t i u j p hu hi hj e f h)
+        | no x ↦ elim (decLt (2 * u + j) (2 * t + i)) [ yes h ↦ absurd (before u j t i p ht hj hi f e h) | no y ↦ (omega arith, omega arith) ]
+      ];
+    };
     hands = record { pair = λ t h. hand-use _ _ (every-use _ (line t h) 2) };
     handCards = record { pair = λ t h. card-use _ _ (every-use _ (line t h) 3) };
     spare = record { pair = λ t h. none (eqb-true _ _ (every-use _ (line t h) 4)) (eqb-true _ _ (every-use _ (line t h) 5)) };
   }
     where
-      line : (t : ℕ) → t < 8 → every (leb (nth (m .tracers) (8 * t)) 32 ∷ leb (nth (m .tracers) (8 * t + 1)) 32 ∷ handOk m (nth (m .tracers) (8 * t + 2)) (nth (m .tracers) (8 * t + 3)) ∷ handCardOk m (nth (m .tracers) (8 * t + 4)) (nth (m .tracers) (8 * t + 5))
-          ∷ eqb (nth (m .tracers) (8 * t + 6)) 0 ∷ eqb (nth (m .tracers) (8 * t + 7)) 0 ∷ []) ≡ true
+      line : (t : ℕ) → t < 8 → tracerOk m t ≡ true
       line t h = all-use 8 _ a t h
 
       held : (t i : ℕ) → t < 8 → i < 2 → nth (m .tracers) (8 * t + i) ≤ 32
@@ -156,30 +137,20 @@ module _ (m : Image) where
           let n = either-no (eqb (heldAt m (2 * u + j)) 0) true _ (ne-eqb (heldAt m (2 * u + j)) 0 (omega arith)) (all-use 16 _ o (2 * u + j) (omega arith)) in
           eqb-false (heldAt m (2 * t + i)) (heldAt m (2 * u + j)) (not-true _ (all-use (2 * u + j) _ n (2 * t + i) h)) (x ∙ sym y)
 
-      by : (t i u j p : ℕ) → t < 8 → u < 8 → i < 2 → j < 2 → nth (m .tracers) (8 * t + i) ≡ suc p → nth (m .tracers) (8 * u + j) ≡ suc p → Dec (2 * t + i < 2 * u + j) → Dec (2 * u + j < 2 * t + i) → (t ≡ u) × (i ≡ j)
-      by t i u j p ht hu hi hj e f (yes h) d = absurd (before t i u j p hu hi hj e f h)
-      by t i u j p ht hu hi hj e f (no x) (yes h) = absurd (before u j t i p ht hj hi f e h)
-      by t i u j p ht hu hi hj e f (no x) (no y) = (omega arith, omega arith)
-
   pub tracers-make : ((g : ℕ) → Marked m g → g < 64 * m .k) → TracersOk (InHand m) (CardInHand m) (m .tracers) → (all 8 (tracerOk m) ≡ true) × (all 16 (heldOnce m) ≡ true)
-  unfolding tracerOk heldOnce hand nextLink handCard nextGranule
+  unfolding tracerOk heldOnce heldAt hand nextLink handCard nextGranule
   tracers-make r k = (
-    all-make 8 _ (λ t h. every-cons _ _ (le-leb _ _ (first t h)) (every-cons _ _ (le-leb _ _ (k .places .held t 1 h (omega arith)))
+    all-make 8 _ (λ t h. every-cons _ _ (le-leb _ _ (rw add-zero at (k .places .held t 0 h (omega arith))))
+        (every-cons _ _ (le-leb _ _ (k .places .held t 1 h (omega arith)))
         (every-cons _ _ (hand-make r _ _ (k .hands .pair t h)) (every-cons _ _ (card-make _ _ (k .handCards .pair t h))
         (every-cons _ _ (eq-eqb _ _ (spare t h .0)) (every-cons _ _ (eq-eqb _ _ (spare t h .1)) every-nil)))))),
-    all-make 16 _ (λ x h. either-make (eqb (heldAt m x) 0) true _ (λ _. refl) (λ n. all-make x _ (λ y l. not-make _ (λ q. apart x y h l (eqb-false _ _ n) (eqb-true _ _ q) (heldAt m x) refl)))),
+    all-make 16 _ (λ x h. either-make (eqb (heldAt m x) 0) true _ (λ _. refl) (λ n. all-make x _ (λ y l. not-make _ (λ q. apart x y h l (eqb-false _ _ n) (eqb-true _ _ q))))),
   )
     where
-      first : (t : ℕ) → t < 8 → nth (m .tracers) (8 * t) ≤ 32
-      first t h = let e : 8 * t ≡ 8 * t + 0 = omega arith in rw e (k .places .held t 0 h (omega arith))
-
-      never : {x y : ℕ} → Pair Never x y → (x ≡ 0) × (y ≡ 0)
-      never (none a b) = (a, b)
-      never (one n p) = elim p [ ]
-
       spare : (t : ℕ) → t < 8 → (nth (m .tracers) (8 * t + 6) ≡ 0) × (nth (m .tracers) (8 * t + 7) ≡ 0)
-      spare t h = never (k .spare .pair t h)
+      spare t h = elim (k .spare .pair t h) [ none a b ↦ (a, b) | one n p ↦ elim p [ ] ]
 
-      apart : (x y : ℕ) → x < 16 → y < x → (heldAt m x ≡ 0 → ⊥) → heldAt m y ≡ heldAt m x → (v : ℕ) → heldAt m x ≡ v → ⊥
-      apart x y hx l n q zero e = n e
-      apart x y hx l n q (suc p) e = omega (arith, k .places .once (y / 2) (y % 2) (x / 2) (x % 2) p (omega arith) (omega arith) (omega arith) (omega arith) (sym (heldAt-split y) ∙ (q ∙ e)) (sym (heldAt-split x) ∙ e))
+      apart : (x y : ℕ) → x < 16 → y < x → (heldAt m x ≡ 0 → ⊥) → heldAt m y ≡ heldAt m x → ⊥
+      apart x y hx l n q =
+          let e : heldAt m x ≡ suc (heldAt m x - 1) = omega arith in
+          omega (arith, k .places .once (y / 2) (y % 2) (x / 2) (x % 2) _ (omega arith) (omega arith) (omega arith) (omega arith) (q ∙ e) e)

@@ -2,7 +2,7 @@
 use mathlib.Core.Path.{_≡_, refl, sym, ap, subst, _∙_}
 use mathlib.Core.Logic.{_⊎_, inl, inr}
 use mathlib.Core.Bool.{Bool, true, false}
-use Prim.Native.Nat.{ℕ, zero, _+_, _*_, _≤_, _<_}
+use Prim.Native.Nat.{ℕ, _+_, _*_, _≤_, _<_}
 use native.Mathlib.Decide.{ℕ-discrete}
 use native.Mathlib.Omega.{arith}
 use borrow.Author.Tests.{eq-eqb, ne-eqb}
@@ -15,28 +15,13 @@ use Rattle.theory.proofs.heap.Pieces.{loosen}
 
 -- ---- where the places lie
 
-pub place-past : (m : Image) {b x next last r before : ℕ} {f : Bool} → PlaceIn m b x next f last r before → x ≤ r
-place-past m (past-object o p) = omega (arith, place-past m p)
-place-past m (past-run o l p) = omega (arith, place-past m p)
-place-past m (place-here o l p) = omega arith
-
-place-order : (m : Image) {b x next last r before : ℕ} {f : Bool} → PlaceIn m b x next f last r before → (before ≡ last) ⊎ (x ≤ before)
-place-order m {x = x} {last = last} {before = before} (past-object o p) = cs (place-order m p)
-  where
-    cs : (before ≡ last) ⊎ (x + word m x 0 ≤ before) → (before ≡ last) ⊎ (x ≤ before)
-    cs (inl e) = inl e
-    cs (inr l) = inr (omega arith)
-place-order m {x = x} {last = last} {before = before} (past-run o k p) = cs (place-order m p)
-  where
-    cs : (before ≡ x) ⊎ (x + word m x 0 ≤ before) → (before ≡ last) ⊎ (x ≤ before)
-    cs (inl e) = inr (omega arith)
-    cs (inr l) = inr (omega arith)
-place-order m (place-here o l p) = inl refl
+place-order : (m : Image) {b x next last r before : ℕ} {f : Bool} → PlaceIn m b x next f last r before → (x ≤ r) × ((before ≡ last) ⊎ ((x ≤ before) × (before < r)))
+place-order m (past-object o p) = let k = place-order m p in (omega (arith, k .0), elim (k .1) [ inl e ↦ inl e | inr l ↦ inr (omega arith) ])
+place-order m (past-run o s p) = let k = place-order m p in (omega (arith, k .0), inr (elim (k .1) [ inl e ↦ omega (arith, k .0) | inr l ↦ omega arith ]))
+place-order m (place-here o l p) = (omega arith, inl refl)
 
 pub place-below : (m : Image) {b x next last r before : ℕ} {f : Bool} → PlaceIn m b x next f last r before → last < x → before < r
-place-below m (past-object o p) h = place-below m p (omega arith)
-place-below m (past-run o l p) h = place-below m p (omega (arith, o .long))
-place-below m (place-here o l p) h = h
+place-below m p h = let k = place-order m p in elim (k .1) [ inl e ↦ omega (arith, k .0) | inr l ↦ l .1 ]
 
 module _ (m n : Image) (b c r before next : ℕ) (w : Carved m n b c r before next) (hb : 1 ≤ b) (below : before < r) where
   -- pieces of n are those of m's granules
@@ -52,11 +37,11 @@ module _ (m n : Image) (b c r before next : ℕ) (w : Carved m n b c r before ne
   -- words of granules before the run, but the pointer of the run before it
   pub word-before : (h i : ℕ) → 4 * h + i < 4 * r → (4 * h + i ≡ 4 * before + 1 → ⊥) → word n h i ≡ word m h i
   unfolding word
-  word-before h i l nb = w .others (4 * h + i) (λ e. omega arith) (λ e. omega arith) (λ u. nb) (λ k. ((λ e. omega arith), (λ e. omega arith)))
+  word-before h i l nb = w .others (4 * h + i) (omega arith) (omega arith) (λ u. nb) (λ k. omega arith)
 
   pub word-after : (h i : ℕ) → r + word m r 0 ≤ h → b ≤ word m r 0 → word n h i ≡ word m h i
   unfolding word
-  word-after h i l lb = w .others (4 * h + i) (λ e. omega arith) (λ e. omega arith) (λ u e. omega arith) (λ k. ((λ e. omega arith), (λ e. omega arith)))
+  word-after h i l lb = w .others (4 * h + i) (omega arith) (omega arith) (λ u. omega arith) (λ k. omega arith)
 
   bare-same : (x s : ℕ) → ((h : ℕ) → x < h → h < x + s → h ≡ r → ⊥) → Bare (isStart m) x s → Bare (isStart n) x s
   bare-same x s off ba h p q = w .start-old h (off h p q) ∙ ba h p q
@@ -87,11 +72,11 @@ module _ (m n : Image) (b c r before next : ℕ) (w : Carved m n b c r before ne
   behind lb at-end l = at-end
   behind {x} {nx} lb (at-object o p) l =
       let e : word n x 0 ≡ word m x 0 = word-after x 0 l lb in
-      at-object (object-same x (λ q. omega arith) e (word-after x 1 l lb) (λ h u v q. omega arith) o)
+      at-object (object-same x (omega arith) e (word-after x 1 l lb) (λ h u v. omega arith) o)
       (subst (λ y. Now (x + y) nx false) (sym e) (behind lb p (omega arith)))
   behind {x} lb (at-run o p) l =
       let e : word n x 0 ≡ word m x 0 = word-after x 0 l lb in
-      at-run (run-same x (λ q. omega arith) e (λ i k. word-after x (2 + i) l lb) (λ h u v q. omega arith) o)
+      at-run (run-same x (omega arith) e (λ i k. word-after x (2 + i) l lb) (λ h u v. omega arith) o)
       (rw (e, word-after x 1 l lb) (behind lb p (omega arith)))
 
   -- ---- the run itself
@@ -103,40 +88,33 @@ module _ (m n : Image) (b c r before next : ℕ) (w : Carved m n b c r before ne
       long = rw (w .size-new) hb;
       few = rw (w .size-new) few;
       links-fit = rw (w .size-new, w .links-new) fits;
-      ends = rw (w .size-new) (omega (arith, o .ends));
-      alone = rw (w .size-new) (bare-same r b (λ h p q e. omega arith) (λ h p q. o .alone h p (omega arith)));
+      ends = rw (w .size-new) (omega arith);
+      alone = rw (w .size-new) (bare-same r b (λ h p q. omega arith) (λ h p q. o .alone h p (omega arith)));
     }
 
     left-here : b < word m r 0 → Run (r + b)
+    unfolding word
     left-here l = record {
-      no-start = w .start-old (r + b) (λ e. omega arith) ∙ o .alone (r + b) (omega arith) (omega arith);
+      no-start = w .start-old (r + b) (omega arith) ∙ o .alone (r + b) (omega arith) (omega arith);
       long = omega (arith, w .left-size l);
-      ends = omega (arith, w .left-size l, o .ends);
-      alone = λ h p q. w .start-old h (λ e. omega arith) ∙ o .alone h (omega arith) (omega (arith, w .left-size l));
-      zero-words = λ i k. zero i (omega (arith, w .left-size l));
+      ends = omega (arith, w .left-size l);
+      alone = λ h p q. w .start-old h (omega arith) ∙ o .alone h (omega arith) (omega (arith, w .left-size l));
+      zero-words = λ i k.
+          let j : 4 * (r + b) + (2 + i) ≡ 4 * r + (2 + (4 * b + i)) = omega arith in
+          w .others (4 * (r + b) + (2 + i)) (omega arith) (omega arith) (λ u. omega arith) (λ k. omega arith)
+          ∙ (ap (nth (m .heap)) j ∙ o .zero-words (4 * b + i) (omega (arith, w .left-size l)));
     }
-      where
-        zero : (i : ℕ) → 4 * b + (2 + i) < 4 * word m r 0 → word n (r + b) (2 + i) ≡ 0
-        zero i k = same i ∙ (shift i ∙ o .zero-words (4 * b + i) (omega arith))
-          where
-            same : (i : ℕ) → word n (r + b) (2 + i) ≡ word m (r + b) (2 + i)
-            same i = unfold word in w .others (4 * (r + b) + (2 + i)) (λ e. omega arith) (λ e. omega arith) (λ u e. omega arith) (λ k. ((λ e. omega arith), (λ e. omega arith)))
-
-            shift : (i : ℕ) → word m (r + b) (2 + i) ≡ word m r (2 + (4 * b + i))
-            shift i = unfold word in ap (nth (m .heap)) (omega arith)
 
     here : PiecesIn m (r + word m r 0) (word m r 1) true → Now r next false
-    here p = at-object {next = next} object-here (rw (w .size-new) (cs (ℕ-discrete (word m r 0) b)))
-      where
-        rest : Now (r + word m r 0) (word m r 1) true
-        rest = behind lb p (omega arith)
-
-        cs : Dec (word m r 0 ≡ b) → Now (r + b) next false
-        cs (yes e) = rw (w .none-left e) (rw e at (loosen (isStart n) (word n) (granules m) rest))
-        cs (no e) =
-            let l : b < word m r 0 = omega arith in
-            let j : r + word m r 0 ≡ r + b + word n (r + b) 0 = omega (arith, w .left-size l) in
-            rw (w .left-next l) (at-run (left-here l) (rw (w .left-pointer l, ← j) rest))
+    here p =
+        let rest : Now (r + word m r 0) (word m r 1) true = behind lb p (omega arith) in
+        at-object {next = next} object-here (rw (w .size-new) (elim (ℕ-discrete (word m r 0) b) [
+          | yes e ↦ rw (w .none-left e) (rw e at (loosen (isStart n) (word n) (granules m) rest))
+          | no e ↦
+              let l : b < word m r 0 = omega arith in
+              let j : r + word m r 0 ≡ r + b + word n (r + b) 0 = omega (arith, w .left-size l) in
+              rw (w .left-next l) (at-run (left-here l) (rw (w .left-pointer l, ← j) rest))
+        ]))
 
   -- ---- all pieces, from granule x on, behind the run `last`
 
@@ -146,45 +124,25 @@ module _ (m n : Image) (b c r before next : ℕ) (w : Carved m n b c r before ne
   same-last : (last now : ℕ) → last ≡ before → following before next last now ≡ next
   same-last last now e = rw (eq-eqb last before e)
 
-  object-before : (x last : ℕ) → ObjectIn m x → x + word m x 0 ≤ r → last < x → (before ≡ last) ⊎ (x + word m x 0 ≤ before) → Obj x × (word n x 0 ≡ word m x 0)
-  object-before x last o past h d =
-      let e : word n x 0 ≡ word m x 0 = word-before x 0 (omega (arith, o .long)) (λ q. omega arith) in
-      (object-same x (λ q. omega (arith, o .long)) e (word-before x 1 (omega (arith, o .long)) (λ q. off d (omega arith))) (λ i u v q. omega arith) o, e)
-    where
-      off : (before ≡ last) ⊎ (x + word m x 0 ≤ before) → x ≡ before → ⊥
-      off (inl y) q = omega arith
-      off (inr y) q = omega (arith, o .long)
-
-  record RunBefore (x : ℕ) : Type 0 where
-    pub stays : Run x
-    pub same-size : word n x 0 ≡ word m x 0
-    pub points : word n x 1 ≡ following before next x (word m x 1)
-    pub at-or-past : x ≤ before
-
-  run-before : (x : ℕ) → 1 ≤ x → RunIn m x → x + word m x 0 ≤ r → (before ≡ x) ⊎ (x + word m x 0 ≤ before) → RunBefore x
-  run-before x hx o past d = record { stays = run-same x (λ q. omega (arith, o .long)) e (λ i k. word-before x (2 + i) (omega arith) (off i k d)) (λ i u v q. omega arith) o; same-size = e; points = points d; at-or-past = up d }
-    where
-      e : word n x 0 ≡ word m x 0
-      e = word-before x 0 (omega (arith, o .long)) (λ q. omega arith)
-
-      off : (i : ℕ) → 2 + i < 4 * word m x 0 → (before ≡ x) ⊎ (x + word m x 0 ≤ before) → 4 * x + (2 + i) ≡ 4 * before + 1 → ⊥
-      off i k (inl y) q = omega arith
-      off i k (inr y) q = omega arith
-
-      points : (before ≡ x) ⊎ (x + word m x 0 ≤ before) → word n x 1 ≡ following before next x (word m x 1)
-      points (inl y) = ap (λ y. word n y 1) (sym y) ∙ (w .pointer (λ q. omega arith) ∙ sym (same-last x (word m x 1) (sym y)))
-      points (inr y) = word-before x 1 (omega (arith, o .long)) (λ q. omega (arith, o .long)) ∙ sym (other-last x (word m x 1) (λ q. omega (arith, o .long)))
-
-      up : (before ≡ x) ⊎ (x + word m x 0 ≤ before) → x ≤ before
-      up (inl y) = omega arith
-      up (inr y) = omega arith
-
   pub carve : {x nx last : ℕ} {f : Bool} → b ≤ 1024 → c + 2 ≤ 4 * b → PlaceIn m b x nx f last r before → last < x → Now x (following before next last nx) f
   carve {x} {nx} {last} few fits (past-object o p) h =
-      let k = object-before x last o (place-past m p) h (place-order m p) in
-      at-object {next = following before next last nx} (k .0) (rw (k .1) (carve few fits p (omega arith)))
+      let past : x + word m x 0 ≤ r = place-order m p .0 in
+      let e : word n x 0 ≡ word m x 0 = word-before x 0 (omega arith) (omega arith) in
+      let off : x ≡ before → ⊥ = elim (place-order m p .1) [ inl y ↦ omega arith | inr y ↦ omega arith ] in
+      at-object {next = following before next last nx}
+      (object-same x (omega arith) e (word-before x 1 (omega arith) (λ q. off (omega arith))) (λ i u v. omega arith) o)
+      (rw e (carve few fits p (omega arith)))
   carve {x} {last = last} few fits (past-run o l p) h =
-      let k : RunBefore x = run-before x (omega arith) o (place-past m p) (place-order m p) in
-      subst (λ y. Now x y false) (sym (other-last last x (λ q. omega (arith, k .at-or-past))))
-      (at-run (k .stays) (rw (k .same-size, k .points) (carve few fits p (omega (arith, o .long)))))
+      let past : x + word m x 0 ≤ r = place-order m p .0 in
+      let d = place-order m p .1 in
+      let up : x ≤ before = elim d [ inl y ↦ omega arith | inr y ↦ omega arith ] in
+      let e : word n x 0 ≡ word m x 0 = word-before x 0 (omega arith) (omega arith) in
+      let off : (i : ℕ) → 2 + i < 4 * word m x 0 → 4 * x + (2 + i) ≡ 4 * before + 1 → ⊥ = λ i k. elim d [ inl y ↦ omega arith | inr y ↦ omega arith ] in
+      let points : word n x 1 ≡ following before next x (word m x 1) = elim d [
+        | inl y ↦ ap (λ y. word n y 1) (sym y) ∙ (w .pointer (omega arith) ∙ sym (same-last x (word m x 1) (sym y)))
+        | inr y ↦ word-before x 1 (omega arith) (omega arith) ∙ sym (other-last x (word m x 1) (omega arith))
+      ] in
+      subst (λ y. Now x y false) (sym (other-last last x (omega arith)))
+      (at-run (run-same x (omega arith) e (λ i k. word-before x (2 + i) (omega arith) (off i k)) (λ i u v. omega arith) o)
+      (rw (e, points) (carve few fits p (omega arith))))
   carve {x} {last = last} few fits (place-here o l p) h = subst (λ y. Now x y false) (sym (same-last last x refl)) (here o l few fits p)

@@ -1,28 +1,23 @@
 -- The words that new writes for an object of b granules in a run of at least as many.
 use mathlib.Core.Path.{_≡_, refl, sym, ap, subst, _∙_}
-use Prim.Native.Nat.{ℕ, zero, suc, _+_, _*_, _-_, _≤_, _<_}
+use Prim.Native.Nat.{ℕ, suc, _+_, _*_, _-_, _≤_, _<_}
 use native.Mathlib.Omega.{arith}
 use lib.ListN.{length}
-use Rattle.model.specs.Base.{nth, put, bit, setBit}
+use Rattle.model.specs.Base.{nth, bit, setBit}
 use Rattle.model.specs.Image.{Image, granules, word, isStart, firstRun, withHeap, withStarts, setWord, setStart}
 use Rattle.model.specs.Mutate.{takeRun}
-use Rattle.model.proofs.Laws.{nth-put-same, nth-put-other, length-put}
+use Rattle.model.proofs.Laws.{length-put}
 use Rattle.model.proofs.Bits.{setBit-same, setBit-other}
 use Rattle.theory.specs.Heap.{HeapSized}
 use Rattle.theory.specs.Pieces.{RunIn}
-use Rattle.theory.specs.New.{placed, reheaped, OnlyFirst, nextOf, Carved, following}
-use Rattle.theory.proofs.new.TakeRun.{take-nth, take-length, take-pointer, take-left, take-first, take-only}
+use Rattle.theory.specs.New.{placed, reheaped, nextOf, Carved, following}
+use Rattle.theory.proofs.new.TakeRun.{headed-nth, headed-length, headed-words, take-nth, take-length, take-pointer, take-left, take-first, take-only}
 
 -- ---- the words that are written, for a run of at least b granules at g
 
 -- the object's two words and start bit, on any image
 on : Image → ℕ → ℕ → ℕ → Image
 on m g b c = setStart (setWord (setWord m g 0 b) g 1 c) g
-
-on-sections : (m t : Image) (g b c : ℕ) → OnlyFirst m t → on t g b c ≡ reheaped m ((on t g b c) .heap) (setBit (m .width) (m .starts) g) (t .general)
-unfolding on setStart setWord withHeap withStarts
-on-sections m t g b c k =
-    subst (λ x. on x g b c ≡ reheaped m ((on x g b c) .heap) (setBit (m .width) (m .starts) g) (x .general)) (sym (k .sections)) refl
 
 module _ (m : Image) (g before b c : ℕ) where
   abbrev pub run-left : ℕ
@@ -33,24 +28,21 @@ module _ (m : Image) (g before b c : ℕ) where
 
   pub placed-sections : placed m g before b c ≡ reheaped m ((placed m g before b c) .heap) (setBit (m .width) (m .starts) g) ((placed m g before b c) .general)
   unfolding placed on setStart setWord withHeap withStarts
-  placed-sections = on-sections m taken g b c (take-only m g before b run-left)
+  placed-sections =
+      subst (λ x. on x g b c ≡ reheaped m ((on x g b c) .heap) (setBit (m .width) (m .starts) g) (x .general)) (sym (take-only m g before b run-left .sections)) refl
 
   pub placed-granules : granules (placed m g before b c) ≡ granules m
   placed-granules = ap granules placed-sections ∙ (unfold granules in refl)
 
   pub placed-first : 2 ≤ length (m .general) → firstRun (placed m g before b c) ≡ following before (nextOf m g b run-left) 0 (firstRun m)
-  placed-first l = same ∙ take-first m g before b run-left l
-    where
-      same : firstRun (placed m g before b c) ≡ firstRun taken
-      same = unfold placed firstRun setStart setWord withHeap withStarts in refl
+  placed-first l =
+      let same : firstRun (placed m g before b c) ≡ firstRun taken = unfold placed firstRun setStart setWord withHeap withStarts in refl in
+      same ∙ take-first m g before b run-left l
 
-  pub placed-general-word : (i : ℕ) → (i ≡ 1 → ⊥) → nth ((placed m g before b c) .general) i ≡ nth (m .general) i
+  pub placed-general : ((i : ℕ) → (i ≡ 1 → ⊥) → nth ((placed m g before b c) .general) i ≡ nth (m .general) i)
+      × (length ((placed m g before b c) .general) ≡ length (m .general))
   unfolding placed setStart setWord withHeap withStarts
-  placed-general-word = (take-only m g before b run-left) .general-word
-
-  pub placed-general-length : length ((placed m g before b c) .general) ≡ length (m .general)
-  unfolding placed setStart setWord withHeap withStarts
-  placed-general-length = (take-only m g before b run-left) .general-length
+  placed-general = let k = take-only m g before b run-left in (k .general-word, k .general-length)
 
   pub placed-starts-length : length ((placed m g before b c) .starts) ≡ length (m .starts)
   placed-starts-length = ap (λ x. length (x .starts)) placed-sections ∙ (unfold setBit in length-put (m .starts) _ _)
@@ -58,68 +50,44 @@ module _ (m : Image) (g before b c : ℕ) where
   pub placed-sized : HeapSized m → HeapSized (placed m g before b c)
   placed-sized z = record {
     some-granules = rw placed-granules (z .some-granules);
-    start-words = λ h l. rw (placed-width, placed-starts-length) (z .start-words h (rw placed-granules at l));
-    general-words = rw placed-general-length (z .general-words);
+    start-words = λ h l. rw (ap (λ x. x .width) placed-sections, placed-starts-length) (z .start-words h (rw placed-granules at l));
+    general-words = rw (placed-general .1) (z .general-words);
   }
-    where
-      placed-width : (placed m g before b c) .width ≡ m .width
-      placed-width = ap (λ x. x .width) placed-sections
 
   placed-start : (h : ℕ) → isStart (placed m g before b c) h ≡ bit (m .width) (setBit (m .width) (m .starts) g) h
   placed-start h = ap (λ x. isStart x h) placed-sections ∙ (unfold isStart in refl)
 
   placed-nth : (x : ℕ) → (x ≡ 4 * g → ⊥) → (x ≡ 4 * g + 1 → ⊥) → nth ((placed m g before b c) .heap) x ≡ nth (taken .heap) x
   unfolding placed setStart setWord withHeap withStarts
-  placed-nth x n₀ n₁ = nth-put-other (put (taken .heap) (4 * g + 0) b) (4 * g + 1) x c n₁ ∙ nth-put-other (taken .heap) (4 * g + 0) x b (λ e. n₀ (omega arith))
+  placed-nth x n₀ n₁ = headed-nth taken g b c x n₀ n₁
 
   pub placed-length : length ((placed m g before b c) .heap) ≡ length (m .heap)
   unfolding placed setStart setWord withHeap withStarts
-  placed-length = length-put (put (taken .heap) (4 * g + 0) b) (4 * g + 1) c ∙ (length-put (taken .heap) (4 * g + 0) b ∙ take-length m g before b run-left)
+  placed-length = headed-length taken g b c ∙ take-length m g before b run-left
 
   module _ (o : RunIn m g) (lb : b ≤ word m g 0) (hb : 1 ≤ b) (below : before < g) (len : length (m .heap) ≡ 4 * granules m) (z : HeapSized m) where
-    taken-length : length (taken .heap) ≡ 4 * granules m
-    taken-length = take-length m g before b run-left ∙ len
-
-    placed-size : word (placed m g before b c) g 0 ≡ b
+    placed-words : (word (placed m g before b c) g 0 ≡ b) × (word (placed m g before b c) g 1 ≡ c)
     unfolding placed setStart setWord withHeap withStarts word
-    placed-size =
-        nth-put-other (put (taken .heap) (4 * g + 0) b) (4 * g + 1) (4 * g + 0) c (λ e. omega arith) ∙ nth-put-same (taken .heap) (4 * g + 0) b (omega (arith, taken-length, o .ends))
-
-    placed-links : word (placed m g before b c) g 1 ≡ c
-    unfolding placed setStart setWord withHeap withStarts word
-    placed-links = nth-put-same (put (taken .heap) (4 * g + 0) b) (4 * g + 1) c (omega (arith, length-put (taken .heap) (4 * g + 0) b, taken-length, o .ends))
+    placed-words = headed-words taken g b c (omega (arith, take-length m g before b run-left))
 
     some-left : b < word m g 0 → (word (placed m g before b c) (g + b) 0 ≡ run-left) × (word (placed m g before b c) (g + b) 1 ≡ word m g 1)
     unfolding word
     some-left l =
-        let k = take-left m g before b (word m g 0 - b) (omega arith) (omega arith) (omega (arith, len, o .ends)) in
-        (placed-nth (4 * (g + b) + 0) (λ e. omega arith) (λ e. omega arith) ∙ k .0, placed-nth (4 * (g + b) + 1) (λ e. omega arith) (λ e. omega arith) ∙ k .1)
+        let k = take-left m g before b (word m g 0 - b) (omega arith) (omega arith) (omega arith) in
+        (placed-nth (4 * (g + b) + 0) (omega arith) (omega arith) ∙ k .0, placed-nth (4 * (g + b) + 1) (omega arith) (omega arith) ∙ k .1)
 
     pub placed-carved : Carved m (placed m g before b c) b c g before (nextOf m g b run-left)
+    unfolding nextOf
     placed-carved = record {
       same-granules = placed-granules;
-      start-new = placed-start g ∙ setBit-same (m .width) (m .starts) g (z .start-words g (omega (arith, o .ends)));
+      start-new = placed-start g ∙ setBit-same (m .width) (m .starts) g (z .start-words g (omega arith));
       start-old = λ h ne. placed-start h ∙ (setBit-other (m .width) (m .starts) g h ne ∙ (unfold isStart in refl));
-      size-new = placed-size;
-      links-new = placed-links;
-      left-next = λ l. next-left run-left (omega (arith, is-left));
-      left-size = λ l. omega (arith, (some-left l) .0, is-left);
+      size-new = placed-words .0;
+      links-new = placed-words .1;
+      left-next = λ l. let e : run-left ≡ suc (run-left - 1) = omega arith in rw e;
+      left-size = λ l. omega (arith, (some-left l) .0);
       left-pointer = λ l. (some-left l) .1;
-      none-left = λ e. next-none run-left (omega (arith, is-left));
-      pointer = λ nz. points nz;
-      others = λ x n₀ n₁ nb nl. placed-nth x n₀ n₁ ∙ take-nth m g before b run-left x nb (λ l. nl (omega (arith, is-left)));
+      none-left = λ q. let e : run-left ≡ 0 = omega arith in rw e;
+      pointer = λ nz. unfold word in placed-nth (4 * before + 1) (omega arith) (omega arith) ∙ take-pointer m g before b run-left nz (omega arith);
+      others = λ x n₀ n₁ nb nl. placed-nth x n₀ n₁ ∙ take-nth m g before b run-left x nb (λ l. nl (omega arith));
     }
-      where
-        is-left : run-left + b ≡ word m g 0
-        is-left = omega arith
-
-        next-left : (l : ℕ) → 1 ≤ l → nextOf m g b l ≡ g + b
-        next-left zero h = absurd (omega arith)
-        next-left (suc l) h = unfold nextOf in refl
-
-        next-none : (l : ℕ) → l ≡ 0 → nextOf m g b l ≡ word m g 1
-        next-none zero h = unfold nextOf in refl
-        next-none (suc l) h = absurd (omega arith)
-
-        points : (before ≡ 0 → ⊥) → word (placed m g before b c) before 1 ≡ nextOf m g b run-left
-        points nz = unfold word in placed-nth (4 * before + 1) (λ e. omega arith) (λ e. omega arith) ∙ take-pointer m g before b run-left nz (omega (arith, len, o .ends))

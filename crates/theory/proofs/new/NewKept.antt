@@ -2,7 +2,7 @@
 use mathlib.Core.Path.{_≡_, refl, sym, ap, subst, _∙_}
 use mathlib.Core.Logic.{inl, inr}
 use mathlib.Core.Bool.{true}
-use Prim.Native.Nat.{ℕ, suc, _+_, _*_, _-_, _≤_, _<_, zero-le, zero}
+use Prim.Native.Nat.{ℕ, suc, _+_, _*_, _-_, _≤_, _<_, zero-le}
 use native.Mathlib.Decide.{ℕ-discrete}
 use native.Mathlib.Omega.{arith}
 use borrow.Author.Tests.{eqb-false, eqb-true, not-false}
@@ -20,7 +20,7 @@ use Rattle.theory.proofs.heap.Facts.{some-card, laid-of, link-value, st
 use Rattle.theory.proofs.steps.Steps.{line, not-above, good-size}
 use Rattle.theory.proofs.steps.Mutating.{reg-keeps, is-start}
 use Rattle.theory.proofs.new.NewMade.{new-made}
-use Rattle.theory.proofs.finish.Replaced.{nil-mono, reheaped-keeps}
+use Rattle.theory.proofs.finish.Replaced.{reheaped-keeps}
 use Rattle.theory.proofs.heap.Walk.{filled-make, no-start-zero}
 
 module _ {m n : Image} {p r b c g : ℕ} (u : Undamaged m) (k : NewMade m n p r b c g) (fit : c ≤ 4 * b - 2) where
@@ -39,33 +39,21 @@ module _ {m n : Image} {p r b c g : ℕ} (u : Undamaged m) (k : NewMade m n p r 
 
   still-start : (h : ℕ) → bit (m .width) (m .starts) h ≡ true → bit (m .width) (n .starts) h ≡ true
   unfolding isStart
-  still-start h s = go (ℕ-discrete h g)
-    where
-      go : Dec (h ≡ g) → bit (m .width) (n .starts) h ≡ true
-      go (yes e) = sym (new-start h) ∙ (ap (isStart n) e ∙ k .start-new)
-      go (no ne) = sym (new-start h) ∙ (k .start-old h ne ∙ s)
+  still-start h s = sym (new-start h) ∙ elim (ℕ-discrete h g) [ yes e ↦ ap (isStart n) e ∙ k .start-new | no ne ↦ k .start-old h ne ∙ s ]
 
   word-stays : (h i : ℕ) → Start m h → i ≤ links m h → word n h (1 + i) ≡ word m h (1 + i)
   word-stays h i s l = let a = is-start m h s in k .words-old h (1 + i) a (omega (arith, laid-of o .inside h a))
 
   link-ok : (h i : ℕ) → h < 64 * m .k → bit (m .width) (n .starts) h ≡ true → i < links n h → NilOr (λ a. (a < 64 * m .k) × (bit (m .width) (n .starts) a ≡ true)) (link n h i)
   unfolding links link
-  link-ok h i hh s l = go (ℕ-discrete h g)
-    where
-      still : (a : ℕ) → Start m a → (a < 64 * m .k) × (bit (m .width) (n .starts) a ≡ true)
-      still a q = (q .0, still-start a (q .1))
-
-      go : Dec (h ≡ g) → NilOr (λ a. (a < 64 * m .k) × (bit (m .width) (n .starts) a ≡ true)) (word n h (2 + i))
-      go (yes e) = inl (ap (λ x. word n x (2 + i)) e ∙ k .zero-new i (omega (arith, k .links-new, subst (λ x. i < word n x 1) e l)))
-      go (no ne) =
-          let a : Start m h = start-at o h (sym (k .start-old h ne) ∙ (new-start h ∙ s)) in
-          let d : i < word m h 1 = rw (word-stays h 0 a zero-le) at l in
-          let j : 2 + i ≡ 1 + suc i = omega arith in
-          rw (j, word-stays h (suc i) a d, ← j) (nil-mono still (word m h (2 + i)) (link-value o h i a d))
-
-  still-filled : filled made ≡ true
-  unfolding granules setReg withRegs
-  still-filled = filled-make made (omega (arith, some-card o)) made-filled
+  link-ok h i hh s l = elim (ℕ-discrete h g) [
+    | yes e ↦ inl (ap (λ x. word n x (2 + i)) e ∙ k .zero-new i (omega (arith, k .links-new, rw e at l)))
+    | no ne ↦
+        let a : Start m h = start-at o h (sym (k .start-old h ne) ∙ (new-start h ∙ s)) in
+        let d : i < word m h 1 = rw (word-stays h 0 a zero-le) at l in
+        let j : 2 + i ≡ 1 + suc i = omega arith in
+        rw (j, word-stays h (suc i) a d, ← j) (elim (link-value o h i a d) [ inl z ↦ inl z | inr q ↦ inr (q .0, still-start _ (q .1)) ])
+  ]
 
   heap-made : HeapOk (m .width) (m .k) (n .heap) (n .starts) (nth (n .general) 1)
   unfolding isStart granules firstRun links link word filled setReg withRegs
@@ -75,7 +63,7 @@ module _ {m n : Image} {p r b c g : ℕ} (u : Undamaged m) (k : NewMade m n p r 
     blank = λ i h. k .granule-zero i h ∙ o .heap-ok .blank i h;
     unused = no-start-zero made-filled;
     within = λ h s. made-filled .start-range h s .1;
-    filled = still-filled;
+    filled = filled-make made (omega (arith, some-card o)) made-filled;
     links-ok = link-ok;
   }
 
@@ -89,27 +77,22 @@ module _ {m n : Image} {p r b c g : ℕ} (u : Undamaged m) (k : NewMade m n p r 
   pub new-keeps : p < 16 → r < 16 → owed m p ≡ 0 → Undamaged n
   unfolding word links owed isStart setReg withRegs granules
   new-keeps hp hr ow =
+      let s : bit (m .width) (n .starts) g ≡ true = sym (new-start g) ∙ k .start-new in
       subst Undamaged (sym (k .sections))
       (reg-keeps (reheaped m (n .heap) (n .starts) (n .general)) (reheaped-keeps m u (n .heap) (n .starts) (n .general) heap-made general-made (k .general-word 0 (omega arith)) still-start word-stays) p r g hp hr ow
       (inr (made-filled .start-range g s .1, s)))
-    where
-      s : bit (m .width) (n .starts) g ≡ true
-      s = sym (new-start g) ∙ k .start-new
 
 -- ---- the step
 
-module _ (m : Image) (s : Step) (o : Lines m) (e : refusal m s new ≡ 0) where
-  size-ok : (1 ≤ s .b) × (s .b ≤ 1024) × (s .c + 2 ≤ 4 * s .b)
-  size-ok = good-size s (line m s new e 5)
-
-  -- what an accepted new leaves
-  pub new-does : NewMade m (newObject m (s .who) (s .a) (s .b) (s .c)) (s .who) (s .a) (s .b) (s .c) ((roomFor m (s .b)) .run)
-  unfolding noRoom
-  new-does = go ((roomFor m (s .b)) .run) refl (eqb-false _ _ (line m s new e 6))
-    where
-      go : (g : ℕ) → (roomFor m (s .b)) .run ≡ g → ((roomFor m (s .b)) .run ≡ 0 → ⊥) → NewMade m (newObject m (s .who) (s .a) (s .b) (s .c)) (s .who) (s .a) (s .b) (s .c) ((roomFor m (s .b)) .run)
-      go zero q nz = absurd (nz q)
-      go (suc g) q nz = rw q (new-made m (s .b) (s .c) g (heap-filled-of o) (heap-sized-of o) (size-ok .0) (size-ok .1) (omega (arith, size-ok .2)) q (s .who) (s .a))
+-- what an accepted new leaves
+pub new-does : (m : Image) (s : Step) → Lines m → refusal m s new ≡ 0
+    → NewMade m (newObject m (s .who) (s .a) (s .b) (s .c)) (s .who) (s .a) (s .b) (s .c) ((roomFor m (s .b)) .run)
+unfolding noRoom
+new-does m s o e =
+    let nz : (roomFor m (s .b)) .run ≡ 0 → ⊥ = eqb-false _ _ (line m s new e 6) in
+    let q : (roomFor m (s .b)) .run ≡ suc ((roomFor m (s .b)) .run - 1) = omega arith in
+    let k = good-size s (line m s new e 5) in
+    rw q (new-made m (s .b) (s .c) _ (heap-filled-of o) (heap-sized-of o) (k .0) (k .1) (omega (arith, k .2)) q (s .who) (s .a))
 
 pub new-step : (m : Image) (s : Step) → Undamaged m → refusal m s new ≡ 0 → Undamaged ((act m s new) .image)
 unfolding act accept offDesk owing owes

@@ -1,6 +1,6 @@
 -- What a new leaves: its object in the lowest stretch that is long enough, and every other object as it was.
 use mathlib.Core.Path.{_≡_, refl, sym, ap, subst, _∙_}
-use mathlib.Core.Logic.{_⊎_, inl, inr}
+use mathlib.Core.Logic.{inl, inr}
 use mathlib.Core.Bool.{true, false}
 use Prim.Native.Nat.{ℕ, suc, _+_, _*_, _-_, _≤_, _<_}
 use native.Mathlib.Decide.{ℕ-discrete}
@@ -16,7 +16,7 @@ use Rattle.theory.proofs.heap.Pieces.{pieces-image}
 use Rattle.theory.proofs.heap.Unused.{clear-one}
 use Rattle.theory.proofs.new.Room.{room-place, room-stretch, place-apart, before-apart}
 use Rattle.theory.proofs.new.Carve.{place-below, carve, word-before, word-after}
-use Rattle.theory.proofs.new.NewHeap.{placed-sections, placed-granules, placed-length, placed-first, placed-general-word, placed-general-length, placed-starts-length, placed-sized, placed-carved}
+use Rattle.theory.proofs.new.NewHeap.{placed-sections, placed-granules, placed-length, placed-first, placed-general, placed-starts-length, placed-sized, placed-carved}
 use borrow.Author.Tests.{not-true}
 
 module _ (m : Image) (b c g : ℕ) (o : HeapFilled m) (z : HeapSized m) (hb : 1 ≤ b) (few : b ≤ 1024) (fits : c ≤ 4 * b - 2) (e : (roomFor m b) .run ≡ suc g) where
@@ -50,39 +50,21 @@ module _ (m : Image) (b c g : ℕ) (o : HeapFilled m) (z : HeapSized m) (hb : 1 
 
   made-filled : HeapFilled made
   made-filled = pieces-image made (placed-sized m (suc g) before b c z) (placed-length m (suc g) before b c ∙ (o .heap-words ∙ ap (λ x. 4 * x) (sym (placed-granules m (suc g) before b c)))) pieces-made
-      (λ h s. rw (placed-granules m (suc g) before b c) (cs h s (ℕ-discrete h (suc g))))
-    where
-      cs : (h : ℕ) → isStart made h ≡ true → Dec (h ≡ suc g) → (1 ≤ h) × (h < granules m)
-      cs h s (yes x) = (omega arith, omega (arith, apart-here .0 .is-run .ends, apart-here .0 .is-run .long))
-      cs h s (no x) = o .start-range h (sym (is-carved .start-old h x) ∙ s)
-
-  made-zero : (i : ℕ) → 2 + i < 4 * b → word made (suc g) (2 + i) ≡ 0
-  made-zero i l = same ∙ apart-here .0 .is-run .zero-words i (omega (arith, apart-here .1))
-    where
-      same : word made (suc g) (2 + i) ≡ word m (suc g) (2 + i)
-      same = unfold word in is-carved .others (4 * suc g + (2 + i)) (λ x. omega arith) (λ x. omega arith) (λ u x. omega (arith, below)) (λ k. ((λ x. omega arith), (λ x. omega arith)))
+      (λ h s. rw (placed-granules m (suc g) before b c) (elim (ℕ-discrete h (suc g)) [
+        | yes x ↦ (omega arith, omega (arith, apart-here .0 .is-run .ends, apart-here .0 .is-run .long))
+        | no x ↦ o .start-range h (sym (is-carved .start-old h x) ∙ s)
+      ]))
 
   made-old : (h i : ℕ) → isStart m h ≡ true → i < 4 * size m h → word made h i ≡ word m h i
-  made-old h i s l = cs (apart-here .0 .apart h s)
-    where
-      off : (before ≡ 0) ⊎ RunApart m before → 4 * h + i ≡ 4 * before + 1 → ⊥
-      off (inl x) q = omega (arith, (o .start-range h s) .0)
-      off (inr a) q = apart (a .apart h s)
-        where
-          apart : (h + size m h ≤ before) ⊎ (before + word m before 0 ≤ h) → ⊥
-          apart (inl k) = omega arith
-          apart (inr k) = omega (arith, a .is-run .long)
-
-      cs : (h + size m h ≤ suc g) ⊎ (suc g + word m (suc g) 0 ≤ h) → word made h i ≡ word m h i
-      cs (inl k) = word-before m made b c (suc g) before next is-carved hb below h i (omega arith) (off (before-apart m b (omega arith) place (clear-one m o) (inl refl)))
-      cs (inr k) = word-after m made b c (suc g) before next is-carved hb below h i k (apart-here .1)
-
-  made-granule : (i : ℕ) → i < 4 → nth (made .heap) i ≡ nth (m .heap) i
-  made-granule i l = is-carved .others i (λ x. omega arith) (λ x. omega arith) (λ u x. omega arith) (λ k. ((λ x. omega arith), (λ x. omega arith)))
-
-  pub new-is : (p r : ℕ) → newObject m p r b c ≡ setReg made p r (suc g)
-  unfolding newObject placed
-  new-is p r = rw e
+  made-old h i s l =
+      let off : 4 * h + i ≡ 4 * before + 1 → ⊥ = λ q. elim (before-apart m b (omega arith) place (clear-one m o) (inl refl)) [
+        | inl x ↦ omega (arith, (o .start-range h s) .0)
+        | inr a ↦ elim (a .apart h s) [ inl k ↦ omega arith | inr k ↦ omega (arith, a .is-run .long) ]
+      ] in
+      elim (apart-here .0 .apart h s) [
+        | inl k ↦ word-before m made b c (suc g) before next is-carved hb below h i (omega arith) off
+        | inr k ↦ word-after m made b c (suc g) before next is-carved hb below h i k (apart-here .1)
+      ]
 
   made-sections : made ≡ reheaped m (made .heap) (made .starts) (made .general)
   made-sections =
@@ -100,17 +82,21 @@ module _ (m : Image) (b c g : ℕ) (o : HeapFilled m) (z : HeapSized m) (hb : 1 
     start-old = is-carved .start-old;
     size-new = is-carved .size-new;
     links-new = is-carved .links-new;
-    zero-new = made-zero;
+    zero-new = λ i l.
+        is-carved .others (4 * suc g + (2 + i)) (omega arith) (omega arith) (λ u x. omega (arith, below)) (λ k. omega arith)
+        ∙ apart-here .0 .is-run .zero-words i (omega (arith, apart-here .1));
     words-old = made-old;
-    granule-zero = made-granule;
-    general-word = placed-general-word m (suc g) before b c;
-    general-length = placed-general-length m (suc g) before b c;
+    granule-zero = λ i l. is-carved .others i (omega arith) (omega arith) (λ u. omega arith) (λ k. omega arith);
+    general-word = placed-general m (suc g) before b c .0;
+    general-length = placed-general m (suc g) before b c .1;
     starts-length = placed-starts-length m (suc g) before b c;
     sections = ap (λ x. setReg x p r (suc g)) made-sections;
   }
 
   pub new-made : (p r : ℕ) → NewMade m (newObject m p r b c) p r b c (suc g)
-  new-made p r = subst (λ n. NewMade m n p r b c (suc g)) (sym (new-is p r)) (with-reg p r)
+  new-made p r =
+      let is : newObject m p r b c ≡ setReg made p r (suc g) = unfold newObject placed in rw e in
+      subst (λ n. NewMade m n p r b c (suc g)) (sym is) (with-reg p r)
 
 -- ---- what that says of the object and of the other sections
 

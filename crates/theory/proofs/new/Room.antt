@@ -2,77 +2,64 @@
 use mathlib.Core.Path.{_≡_, refl, subst}
 use mathlib.Core.Logic.{_⊎_, inl, inr, _↔_}
 use mathlib.Core.Bool.{Bool, true, false}
+use Rattle.model.proofs.Laws.{bool-cases}
 use Prim.Native.Nat.{ℕ, zero, suc, _+_, _≤_, _<_}
 use native.Mathlib.Decide.{decLt}
 use native.Mathlib.Omega.{arith}
 use lib.Dec.{leb}
 use borrow.Author.Tests.{leb-true, leb-false}
 use Rattle.model.specs.Image.{Image, granules, word, isStart, size, firstRun}
-use Rattle.model.specs.Mutate.{Room, fit, roomFor}
+use Rattle.model.specs.Mutate.{fit, roomFor}
 use Rattle.theory.specs.Heap.{HeapFilled, HeapSized}
-use Rattle.theory.specs.Pieces.{at-end, at-object, at-run, past-object, past-run, place-here, ObjectIn, PiecesIn, PlaceIn, RunApart, Clear, Unused, Stretch, Blocked}
+use Rattle.theory.specs.Pieces.{at-end, at-object, at-run, past-object, past-run, place-here, ObjectIn, PiecesIn, PlaceIn, RunApart, Clear, Stretch, Blocked}
 use Rattle.theory.proofs.heap.Pieces.{behind-run, image-pieces}
 use Rattle.theory.proofs.heap.Unused.{clear-object, clear-run, run-apart, run-unused, clear-one}
 
 module _ (m : Image) (b : ℕ) where
   -- ---- what the walk of the run chain finds
 
-  chain-end : (n last g : ℕ) → (fit m b n last 0) .run ≡ suc g → ⊥
-  unfolding fit
-  chain-end zero last g e = omega arith
-  chain-end (suc n) last g e = omega arith
-
   pub fit-place : {x next : ℕ} {f : Bool} (n last g : ℕ) → PiecesIn m x next f → 1 ≤ x → (fit m b n last next) .run ≡ suc g → PlaceIn m b x next f last (suc g) ((fit m b n last next) .before)
   unfolding fit
-  fit-place n last g at-end h e = absurd (chain-end n last g e)
+  fit-place zero last g at-end h e = absurd (omega arith)
+  fit-place (suc n) last g at-end h e = absurd (omega arith)
   fit-place n last g (at-object o p) h e = past-object o (fit-place n last g p (omega arith) e)
   fit-place zero last g (at-run o p) h e = absurd (omega arith)
   fit-place {x = zero} (suc n) last g (at-run o p) h e = absurd (omega arith)
-  fit-place {x = suc x} (suc n) last g (at-run o p) h e = go (λ y. fit-place n (suc x) g p (omega arith) y) (leb b (word m (suc x) 0)) refl e
-    where
-      Goal : Room → Type 0
-      Goal r = PlaceIn m b (suc x) (suc x) false last (suc g) (r .before)
-
-      go : ((fit m b n (suc x) (word m (suc x) 1)) .run ≡ suc g → PlaceIn m b (suc x + word m (suc x) 0) (word m (suc x) 1) true (suc x) (suc g) ((fit m b n (suc x) (word m (suc x) 1)) .before))
-          → (t : Bool) → leb b (word m (suc x) 0) ≡ t
-          → let r : Room = elim t [ true ↦ record { run = suc x; before = last } | false ↦ fit m b n (suc x) (word m (suc x) 1) ] in r .run ≡ suc g → Goal r
-      go ih true q y = subst (λ z. PlaceIn m b (suc x) (suc x) false last z last) y (place-here o (leb-true _ _ q) p)
-      go ih false q y = past-run o (leb-false _ _ q) (ih y)
+  fit-place {x = suc x} (suc n) last g (at-run o p) h e = elim (bool-cases (leb b (word m (suc x) 0))) [
+    | inl q ↦ rw (q, fit) (subst (λ z. PlaceIn m b (suc x) (suc x) false last z last) (rw (q, fit) at e) (place-here o (leb-true _ _ q) p))
+    | inr q ↦ rw (q, fit) (past-run o (leb-false _ _ q) (fit-place n (suc x) g p (omega arith) (rw (q, fit) at e)))
+  ]
 
   -- ---- no stretch starts at a granule from x on, below r
 
   blocked-object : (x r : ℕ) → 1 ≤ b → ObjectIn m x → Blocked m b (x + word m x 0) r → Blocked m b x r
   unfolding size
-  blocked-object x r hb o rest u l q s = cs (decLt u (x + word m x 0))
-    where
-      cs : Dec (u < x + word m x 0) → ⊥
-      cs (yes y) = (s u (omega arith) (omega arith)) .in-no-object x (o .starts) l y
-      cs (no y) = rest u (omega arith) q s
+  blocked-object x r hb o rest u l q s = elim (decLt u (x + word m x 0)) [
+    | yes y ↦ (s u (omega arith) (omega arith)) .in-no-object x (o .starts) l y
+    | no y ↦ rest u (omega arith) q s
+  ]
 
   blocked-run : (x r : ℕ) → word m x 0 < b → (x + word m x 0 ≡ granules m) ⊎ ObjectIn m (x + word m x 0) → Blocked m b (x + word m x 0) r → Blocked m b x r
   unfolding size
-  blocked-run x r hb k rest u l q s = cs (decLt u (x + word m x 0))
-    where
-      behind : Unused m (x + word m x 0) → (x + word m x 0 ≡ granules m) ⊎ ObjectIn m (x + word m x 0) → ⊥
-      behind y (inl e) = omega (arith, y .in-range, e)
-      behind y (inr o) = y .in-no-object (x + word m x 0) (o .starts) (omega arith) (omega (arith, o .long))
-
-      cs : Dec (u < x + word m x 0) → ⊥
-      cs (yes y) = behind (s (x + word m x 0) (omega arith) (omega arith)) k
-      cs (no y) = rest u (omega arith) q s
+  blocked-run x r hb k rest u l q s = elim (decLt u (x + word m x 0)) [
+    | yes y ↦
+        let a = s (x + word m x 0) (omega arith) (omega arith) in
+        elim k [ inl e ↦ omega (arith, a .in-range) | inr o ↦ a .in-no-object (x + word m x 0) (o .starts) (omega arith) (omega arith) ]
+    | no y ↦ rest u (omega arith) q s
+  ]
 
   none-blocked : {x next : ℕ} {f : Bool} (n last : ℕ) → 1 ≤ b → PiecesIn m x next f → 1 ≤ x → granules m ≤ x + n → (fit m b n last next) .run ≡ 0 → Blocked m b x (granules m)
   unfolding fit
   none-blocked n last hb at-end h l e = λ u p q s. omega arith
   none-blocked {x} n last hb (at-object o p) h l e = blocked-object x (granules m) hb o (none-blocked n last hb p (omega arith) (omega arith) e)
-  none-blocked zero last hb (at-run o p) h l e = absurd (omega (arith, o .ends, o .long))
+  none-blocked zero last hb (at-run o p) h l e = absurd (omega arith)
   none-blocked {x = zero} (suc n) last hb (at-run o p) h l e = absurd (omega arith)
-  none-blocked {x = suc x} (suc n) last hb (at-run o p) h l e = go (λ y. none-blocked n (suc x) hb p (omega arith) (omega (arith, o .long)) y) (leb b (word m (suc x) 0)) refl e
-    where
-      go : ((fit m b n (suc x) (word m (suc x) 1)) .run ≡ 0 → Blocked m b (suc x + word m (suc x) 0) (granules m)) → (t : Bool) → leb b (word m (suc x) 0) ≡ t
-          → let r : Room = elim t [ true ↦ record { run = suc x; before = last } | false ↦ fit m b n (suc x) (word m (suc x) 1) ] in r .run ≡ 0 → Blocked m b (suc x) (granules m)
-      go ih true q y = absurd (omega arith)
-      go ih false q y = blocked-run (suc x) (granules m) (leb-false _ _ q) (behind-run (isStart m) (word m) (granules m) p) (ih y)
+  none-blocked {x = suc x} (suc n) last hb (at-run o p) h l e = elim (bool-cases (leb b (word m (suc x) 0))) [
+    | inl q ↦ absurd (omega (arith, rw (q, fit) at e))
+    | inr q ↦
+        blocked-run (suc x) (granules m) (leb-false _ _ q) (behind-run (isStart m) (word m) (granules m) p)
+        (none-blocked n (suc x) hb p (omega arith) (omega arith) (rw (q, fit) at e))
+  ]
 
   place-object : {x next last r before : ℕ} → PlaceIn m b x next true last r before → ObjectIn m x
   place-object (past-object o p) = o
@@ -107,20 +94,19 @@ module _ (m : Image) (b : ℕ) where
     room-stretch g e = let a = place-apart (omega arith) (room-place g e) (clear-one m o) in λ y p q. run-unused m (suc g) y (a .0) p (omega (arith, a .1))
 
     pub room-lowest : 1 ≤ b → (g : ℕ) → (roomFor m b) .run ≡ suc g → (u : ℕ) → Stretch m b u → suc g ≤ u
-    room-lowest hb g e u s = cs (decLt u (suc g))
-      where
-        cs : Dec (u < suc g) → suc g ≤ u
-        cs (yes l) = absurd (place-blocked hb (room-place g e) u ((s u (omega arith) (omega arith)) .in-range .0) l s)
-        cs (no l) = omega arith
+    room-lowest hb g e u s = elim (decLt u (suc g)) [
+      | yes l ↦ absurd (place-blocked hb (room-place g e) u ((s u (omega arith) (omega arith)) .in-range .0) l s)
+      | no l ↦ omega arith
+    ]
 
     -- no run is found exactly where there is no stretch
     pub no-room : 1 ≤ b → ((roomFor m b) .run ≡ 0) ↔ ((u : ℕ) → Stretch m b u → ⊥)
     unfolding roomFor
-    no-room hb = (none, λ f. some f ((roomFor m b) .run) refl)
+    no-room hb = (
+      λ e u s. let i = (s u (omega arith) (omega arith)) .in-range in none-blocked (granules m) 0 hb (image-pieces m o z) (omega arith) (omega arith) e u (i .0) (i .1) s,
+      λ f. some f ((roomFor m b) .run) refl,
+    )
       where
-        none : (roomFor m b) .run ≡ 0 → (u : ℕ) → Stretch m b u → ⊥
-        none e u s = let i = (s u (omega arith) (omega arith)) .in-range in none-blocked (granules m) 0 hb (image-pieces m o z) (omega arith) (omega arith) e u (i .0) (i .1) s
-
         some : ((u : ℕ) → Stretch m b u → ⊥) → (r : ℕ) → (roomFor m b) .run ≡ r → (roomFor m b) .run ≡ 0
         some f zero e = e
         some f (suc g) e = absurd (f (suc g) (room-stretch g e))

@@ -30,66 +30,70 @@ next-pointer m (suc p) v nz l = nth-put-same (m .heap) (4 * suc p + 1) v l
 next-first : (m : Image) (before v : ℕ) → 2 ≤ length (m .general) → firstRun (setNext m before v) ≡ following before v 0 (firstRun m)
 unfolding setNext setFirstRun setWord withGeneral withHeap firstRun
 next-first m zero v l = nth-put-same (m .general) 1 v (omega arith)
-next-first m (suc p) v l = rw (ne-eqb 0 (suc p) (λ e. omega arith))
+next-first m (suc p) v l = rw (ne-eqb 0 (suc p) (omega arith))
 
 next-only : (m : Image) (before v : ℕ) → OnlyFirst m (setNext m before v)
 unfolding setNext setFirstRun setWord withGeneral withHeap
 next-only m zero v = record { sections = refl; general-word = λ i ne. nth-put-other (m .general) 1 i v ne; general-length = length-put (m .general) 1 v }
 next-only m (suc p) v = record { sections = refl; general-word = λ i ne. refl; general-length = refl }
 
--- ---- what is left of the run
+-- ---- the first two words of granule h
 
-module _ (m : Image) (g before b : ℕ) where
-  -- a run of `left` granules at g + b
-  leftover : ℕ → Image
-  leftover left = setWord (setWord m (g + b) 0 left) (g + b) 1 (word m g 1)
+abbrev pub headed : Image → ℕ → ℕ → ℕ → Image
+headed m h x y = setWord (setWord m h 0 x) h 1 y
 
-  left-nth : (left x : ℕ) → (x ≡ 4 * (g + b) → ⊥) → (x ≡ 4 * (g + b) + 1 → ⊥) → nth ((leftover left) .heap) x ≡ nth (m .heap) x
-  unfolding leftover setWord withHeap
-  left-nth left x n₀ n₁ = nth-put-other (put (m .heap) (4 * (g + b) + 0) left) (4 * (g + b) + 1) x (word m g 1) n₁ ∙ nth-put-other (m .heap) (4 * (g + b) + 0) x left (λ e. n₀ (omega arith))
+module _ (m : Image) (h x y : ℕ) where
+  pub headed-nth : (i : ℕ) → (i ≡ 4 * h → ⊥) → (i ≡ 4 * h + 1 → ⊥) → nth ((headed m h x y) .heap) i ≡ nth (m .heap) i
+  unfolding setWord withHeap
+  headed-nth i n₀ n₁ = nth-put-other (put (m .heap) (4 * h + 0) x) (4 * h + 1) i y n₁ ∙ nth-put-other (m .heap) (4 * h + 0) i x (λ e. n₀ (omega arith))
 
-  left-length : (left : ℕ) → length ((leftover left) .heap) ≡ length (m .heap)
-  unfolding leftover setWord withHeap
-  left-length left = length-put (put (m .heap) (4 * (g + b) + 0) left) (4 * (g + b) + 1) (word m g 1) ∙ length-put (m .heap) (4 * (g + b) + 0) left
+  pub headed-length : length ((headed m h x y) .heap) ≡ length (m .heap)
+  unfolding setWord withHeap
+  headed-length = length-put (put (m .heap) (4 * h + 0) x) (4 * h + 1) y ∙ length-put (m .heap) (4 * h + 0) x
 
-  left-word : (left : ℕ) → 4 * (g + b) + 1 < length (m .heap) → (word (leftover left) (g + b) 0 ≡ left) × (word (leftover left) (g + b) 1 ≡ word m g 1)
-  unfolding leftover setWord withHeap word
-  left-word left l = (
-    nth-put-other (put (m .heap) (4 * (g + b) + 0) left) (4 * (g + b) + 1) (4 * (g + b) + 0) (nth (m .heap) (4 * g + 1)) (λ e. omega arith) ∙ nth-put-same (m .heap) (4 * (g + b) + 0) left (omega arith),
-    nth-put-same (put (m .heap) (4 * (g + b) + 0) left) (4 * (g + b) + 1) (nth (m .heap) (4 * g + 1)) (rw (length-put (m .heap) (4 * (g + b) + 0) left) l),
+  pub headed-words : 4 * h + 1 < length (m .heap) → (word (headed m h x y) h 0 ≡ x) × (word (headed m h x y) h 1 ≡ y)
+  unfolding setWord withHeap word
+  headed-words l = (
+    nth-put-other (put (m .heap) (4 * h + 0) x) (4 * h + 1) (4 * h + 0) y (omega arith) ∙ nth-put-same (m .heap) (4 * h + 0) x (omega arith),
+    nth-put-same (put (m .heap) (4 * h + 0) x) (4 * h + 1) y (rw (length-put (m .heap) (4 * h + 0) x) l),
   )
 
-  -- ---- the run taken
+-- ---- the run taken
+
+module _ (m : Image) (g before b : ℕ) where
+  -- what is left of it, a run of `left` granules at g + b
+  abbrev leftover : ℕ → Image
+  leftover left = headed m (g + b) left (word m g 1)
 
   pub take-nth : (left x : ℕ) → (1 ≤ before → x ≡ 4 * before + 1 → ⊥) → (1 ≤ left → (x ≡ 4 * (g + b) → ⊥) × (x ≡ 4 * (g + b) + 1 → ⊥)) → nth ((takeRun m g before b left) .heap) x ≡ nth (m .heap) x
-  unfolding takeRun leftover
+  unfolding takeRun
   take-nth zero x nb nl = next-nth m before (word m g 1) x nb
-  take-nth (suc l) x nb nl = let k = nl (omega arith) in next-nth (leftover (suc l)) before (g + b) x nb ∙ left-nth (suc l) x (k .0) (k .1)
+  take-nth (suc l) x nb nl = let k = nl (omega arith) in next-nth (leftover (suc l)) before (g + b) x nb ∙ headed-nth m (g + b) (suc l) (word m g 1) x (k .0) (k .1)
 
   pub take-length : (left : ℕ) → length ((takeRun m g before b left) .heap) ≡ length (m .heap)
-  unfolding takeRun leftover
+  unfolding takeRun
   take-length zero = next-length m before (word m g 1)
-  take-length (suc l) = next-length (leftover (suc l)) before (g + b) ∙ left-length (suc l)
+  take-length (suc l) = next-length (leftover (suc l)) before (g + b) ∙ headed-length m (g + b) (suc l) (word m g 1)
 
   pub take-pointer : (left : ℕ) → (before ≡ 0 → ⊥) → 4 * before + 1 < length (m .heap) → nth ((takeRun m g before b left) .heap) (4 * before + 1) ≡ nextOf m g b left
-  unfolding takeRun leftover nextOf
+  unfolding takeRun nextOf
   take-pointer zero nz l = next-pointer m before (word m g 1) nz l
-  take-pointer (suc x) nz l = next-pointer (leftover (suc x)) before (g + b) nz (rw (left-length (suc x)) l)
+  take-pointer (suc x) nz l = next-pointer (leftover (suc x)) before (g + b) nz (rw (headed-length m (g + b) (suc x) (word m g 1)) l)
 
   pub take-left : (left : ℕ) → 1 ≤ left → before < g + b → 4 * (g + b) + 1 < length (m .heap)
       → (word (takeRun m g before b left) (g + b) 0 ≡ left) × (word (takeRun m g before b left) (g + b) 1 ≡ word m g 1)
-  unfolding takeRun leftover word
+  unfolding takeRun word
   take-left zero h l q = absurd (omega arith)
   take-left (suc x) h l q =
-      let k = left-word (suc x) q in
-      (next-nth (leftover (suc x)) before (g + b) (4 * (g + b) + 0) (λ u e. omega arith) ∙ k .0, next-nth (leftover (suc x)) before (g + b) (4 * (g + b) + 1) (λ u e. omega arith) ∙ k .1)
+      let k = headed-words m (g + b) (suc x) (word m g 1) q in
+      (next-nth (leftover (suc x)) before (g + b) (4 * (g + b) + 0) (λ u. omega arith) ∙ k .0, next-nth (leftover (suc x)) before (g + b) (4 * (g + b) + 1) (λ u. omega arith) ∙ k .1)
 
   pub take-first : (left : ℕ) → 2 ≤ length (m .general) → firstRun (takeRun m g before b left) ≡ following before (nextOf m g b left) 0 (firstRun m)
-  unfolding takeRun leftover nextOf
+  unfolding takeRun nextOf
   take-first zero l = next-first m before (word m g 1) l
   take-first (suc x) l = next-first (leftover (suc x)) before (g + b) (unfold setWord withHeap in l) ∙ (unfold setWord withHeap firstRun in refl)
 
   pub take-only : (left : ℕ) → OnlyFirst m (takeRun m g before b left)
-  unfolding takeRun leftover
+  unfolding takeRun
   take-only zero = next-only m before (word m g 1)
   take-only (suc x) = let k = next-only (leftover (suc x)) before (g + b) in unfold setWord withHeap in record { sections = k .sections; general-word = k .general-word; general-length = k .general-length }
