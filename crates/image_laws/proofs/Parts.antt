@@ -12,10 +12,10 @@ use native.Mathlib.Omega.{arith}
 use lib.Dec.{eqb}
 use lib.ListN.{length, getD, take, drop, length-drop}
 use lib.Seq.{length-take-le}
-use borrow.Author.Tests.{eq-eqb, ne-eqb}
+use borrow.Author.Tests.{eq-eqb, eqb-true}
 use lib.Bits.{bitOr, and-le-l, and-le-r, or-add-and}
 use native.Mathlib.Numerals.{add-one}
-use native.Mathlib.Decide.{ℕ-discrete, decLt}
+use native.Mathlib.Decide.{decLt}
 use Rattle.model.proofs.Entries.{nth-drop, nth-take}
 use Rattle.model.proofs.Laws.{and-split, and-join, same-test, all-use, all-make}
 use Rattle.model.specs.Examples.{at}
@@ -49,13 +49,9 @@ g-none = record { within = omega arith; so-far = eq-eqb 0 0 refl }
 or-zero : (a b : ℕ) → eqb (bitOr a b) 0 ≡ (eqb a 0 && eqb b 0)
 or-zero a b =
     let o = or-add-and a b in
-    elim (ℕ-discrete a 0) [
-      | yes p ↦ elim (ℕ-discrete b 0) [
-        | yes q ↦ rw (eq-eqb (bitOr a b) 0 (omega arith), eq-eqb a 0 p, eq-eqb b 0 q)
-        | no q ↦ rw (ne-eqb (bitOr a b) 0 (λ e. q (omega (arith, and-le-l a b))), eq-eqb a 0 p, ne-eqb b 0 q)
-      ]
-      | no p ↦ rw (ne-eqb (bitOr a b) 0 (λ e. p (omega (arith, and-le-r a b))), ne-eqb a 0 p)
-    ]
+    same-test _ _
+    (λ e. let z = eqb-true (bitOr a b) 0 e in and-join (eqb a 0) (eqb b 0) (eq-eqb a 0 (omega (arith, and-le-r a b))) (eq-eqb b 0 (omega (arith, and-le-l a b))))
+    (λ e. let s = and-split (eqb a 0) (eqb b 0) e in eq-eqb (bitOr a b) 0 (omega (arith, eqb-true a 0 (s .0), eqb-true b 0 (s .1))))
 
 pub g-more : (n : ℕ) (p : ℕ → Bool) (bad i x : ℕ) → Gathered n p bad i → i < n → eqb x 0 ≡ p i → Gathered n p (bitOr bad x) (i + 1)
 unfolding all

@@ -27,13 +27,9 @@ module _ (w u r most n : ℕ) (per : (k : ℕ) → imageLength w k ≡ u * k + r
       let e : imageLength w 1 - imageLength w 0 ≡ u = omega (arith, per 1, per 0) in
       rw (e, z)
 
-  fits-by : fits w n ≡ every (leb 1 ((n - r) / u) ∷ leb ((n - r) / u) most ∷ eqb n (u * ((n - r) / u) + r) ∷ [])
-  unfolding fits
-  fits-by = rw (quotient, lim, per)
-
   size-by : (b : Bool) → every (leb 1 ((n - r) / u) ∷ leb ((n - r) / u) most ∷ eqb n (u * ((n - r) / u) + r) ∷ []) ≡ b → extentBy b ((n - r) / u) ≡ extentOf w n
-  unfolding extentOf
-  size-by b e = rw (fits-by, e, quotient)
+  unfolding extentOf fits
+  size-by b e = rw (quotient, lim, per, e)
 
   some-cards : u + r ≤ n → 1 ≤ (n - r) / u
   some-cards h = le-div-iff-mul-le pos .1 (omega arith)
@@ -72,13 +68,9 @@ unfolding extentBy
 size-misfit true k e = let z : _≡_ {A = ℕ} 0 1 = cc in absurd (omega arith)
 size-misfit false k e = refl
 
-pub fits-sized : (w : ℕ) (ws : List ℕ) → fits w (length ws) ≡ true → Sized w (cardsOf w (length ws)) ws
+fits-sized : (w : ℕ) (ws : List ℕ) → fits w (length ws) ≡ true → Sized w (cardsOf w (length ws)) ws
 unfolding fits
-fits-sized w ws e =
-    let n : ℕ = length ws in
-    let k : ℕ = cardsOf w n in
-    let l = leb 1 k ∷ leb k (mostCards w) ∷ eqb n (imageLength w k) ∷ [] in
-    record { low = leb-true 1 k (every-use l e 0); high = leb-true k (mostCards w) (every-use l e 1); long = eqb-true n (imageLength w k) (every-use l e 2) }
+fits-sized w ws e = record { low = leb-true _ _ (every-use _ e 0); high = leb-true _ _ (every-use _ e 1); long = eqb-true _ _ (every-use _ e 2) }
 
 pub sized-cards : (w k : ℕ) (ws : List ℕ) → Sized w k ws → cardsOf w (length ws) ≡ k
 sized-cards w k ws z = rw (z .long) (cards-length w k (width-cases w k (z .low) (z .high)))
