@@ -22,7 +22,8 @@ module _ (w k : ℕ) (ws : List ℕ) (s i n a e : ℕ) (h : i + n ≤ getD (leng
   mid-section v l =
       let x : List ℕ = getD (split (lengths w k) ws) s [] in
       let lx = split-length (lengths w k) ws s long in
-      rw (put-mid v ws a (e - a) (omega arith) (omega arith), put-mid v x i n l (omega arith), ← at-place) (ap (image w k) (split-sets (lengths w k) ws s i v (omega arith)))
+      rw (put-mid v ws a (e - a) (omega arith) (omega arith), put-mid v x i n l (omega arith), ← at-place)
+      (ap (image w k) (split-sets (lengths w k) ws s i v (omega arith)))
 
   zero-section : (v : List ℕ) → v ≡ replicate (length (midOf a (e - a) ws)) 0 → imageOf w k (putMid a (e - a) ws v) ≡ image w k (set (split (lengths w k) ws) s (zeroed i (i + n) (getD (split (lengths w k) ws) s [])))
   unfolding zeroed

@@ -42,4 +42,5 @@ word-leading w x l h n =
     let j : ℕ = t .0 in
     let q : 63 - leadingZeros 64 x ≡ j = omega (arith, t .1) in
     let b : j < w = elim (decLt j w) [ yes p ↦ p | no p ↦ absurd (omega (arith, t .2, below-pow {i = w} {j = j} (omega arith) h)) ] in
-    record { top = rw q (record { within = b; is-set = on-digit _ (bit-top j x (t .2) (t .3)); clear-above = λ i p. bit-past x i (below-pow {i = suc j} p (t .3)) }); few = omega (arith, t .1) }
+    let top : Highest w x j = record { within = b; is-set = on-digit _ (bit-top j x (t .2) (t .3)); clear-above = λ i p. bit-past x i (below-pow {i = suc j} p (t .3)) } in
+    record { top = rw q top; few = omega (arith, t .1) }

@@ -83,7 +83,7 @@ zeroes-both l n h e q =
           let z : h + (i - h) ≡ i = omega arith in
           rw z at (and-split (isZero l (i - h)) (isZero l (h + (i - h))) (all-use n (bothZero l h) t (i - h) (omega arith)) .1)
     ]))
-    (λ t. all-make n (bothZero l h) (λ i p. and-join (isZero l i) (isZero l (h + i)) (all-use (length l) (isZero l) t i (omega arith)) (all-use (length l) (isZero l) t (h + i) (omega arith))))
+    (λ t. all-make n (bothZero l h) (λ i p. let u = all-use (length l) (isZero l) t in and-join (isZero l i) (isZero l (h + i)) (u i (omega arith)) (u (h + i) (omega arith))))
     ∙ zeroes-all l
 
 -- ---- sections, and parts of them, by their stretch of the slice

@@ -52,7 +52,8 @@ withBit-other x i j ne =
     ]
 
 -- g's word becomes v, which differs from it in g's bit alone
-pub bit-put-other : (w : ℕ) (ws : List ℕ) (g h v : ℕ) → (h ≡ g → ⊥) → ((i : ℕ) → (i ≡ g % w → ⊥) → testBit v i ≡ testBit (nth ws (g / w)) i) → bit w (put ws (g / w) v) h ≡ bit w ws h
+pub bit-put-other : (w : ℕ) (ws : List ℕ) (g h v : ℕ) → (h ≡ g → ⊥) → ((i : ℕ) → (i ≡ g % w → ⊥) → testBit v i ≡ testBit (nth ws (g / w)) i)
+    → bit w (put ws (g / w) v) h ≡ bit w ws h
 unfolding bit
 bit-put-other w ws g h v ne f =
     elim (ℕ-discrete (h / w) (g / w)) [
@@ -75,7 +76,8 @@ pub setBit-keeps : (w : ℕ) (ws : List ℕ) (g h : ℕ) → g / w < length ws �
 setBit-keeps w ws g h l e = elim (ℕ-discrete h g) [ yes q ↦ rw q (setBit-same w ws g l) | no ne ↦ setBit-other w ws g h ne ∙ e ]
 
 -- what it keeps to set a bit below n, they keep
-pub addBits-keeps : (P : List ℕ → Type 0) (w : ℕ) (p : ℕ → Bool) (n : ℕ) → ((i : ℕ) (r : List ℕ) → i < n → P r → P (setBit w r i)) → (l : List ℕ) → P l → P (addBits w p n l)
+pub addBits-keeps : (P : List ℕ → Type 0) (w : ℕ) (p : ℕ → Bool) (n : ℕ) → ((i : ℕ) (r : List ℕ) → i < n → P r → P (setBit w r i))
+    → (l : List ℕ) → P l → P (addBits w p n l)
 unfolding addBits
 addBits-keeps P w p zero c l q = q
 addBits-keeps P w p (suc n) c l q =

@@ -134,7 +134,8 @@ dueFrom-use : (m : Image) (a n : ℕ) → Mem a (dueFrom m n) → (g : ℕ) × (
 unfolding dueFrom
 dueFrom-use m a zero h = elim h [ ]
 dueFrom-use m a (suc n) h =
-    let up : Mem a (dueFrom m n) → (g : ℕ) × (g < suc n) × (dueAt m g ≡ true) × Mem a (linksOf m g) = λ k. let r = dueFrom-use m a n k in (r .0, omega (arith, r .1), r .2, r .3) in
+    let up : Mem a (dueFrom m n) → (g : ℕ) × (g < suc n) × (dueAt m g ≡ true) × Mem a (linksOf m g) =
+    λ k. let r = dueFrom-use m a n k in (r .0, omega (arith, r .1), r .2, r .3) in
     elim (bool-cases (dueAt m n)) [
       | inl d ↦ ⊎-elim (λ k. (n, omega arith, d, k)) up (List·Memᴰ·append-cases (linksOf m n) (rw (d, dueFrom) at h))
       | inr d ↦ up (rw (d, dueFrom) at h)
