@@ -1,6 +1,6 @@
 -- Numbers 3 to 5 as four tests of fields, and what the three say together.
 use mathlib.Core.Path.{_≡_, refl, sym, ap, subst, _∙_}
-use mathlib.Core.Bool.{Bool, true, false, not, _&&_, _||_}
+use mathlib.Core.Bool.{Bool, true, false, not, _&&_, _||_, or-assoc, or-false}
 use mathlib.Core.List.{[], _∷_}
 use Prim.Native.Nat.{ℕ, _^_, _≤_, _<_}
 use native.Mathlib.Omega.{arith}
@@ -24,11 +24,7 @@ use Rattle.request_laws.proofs.Numbers.{number-3, number-4, number-5}
 
 some-four : (a b c d : Bool) → (((a || b) || c) || d) ≡ some (a ∷ b ∷ c ∷ d ∷ [])
 unfolding some
-some-four true b c d = refl
-some-four false true c d = refl
-some-four false false true d = refl
-some-four false false false true = refl
-some-four false false false false = refl
+some-four a b c d = simp (or-assoc, or-false)
 
 -- ---- the three tests, as code makes them: l is a field's limit, the others what was found of each
 
@@ -39,7 +35,7 @@ module _ (w k : ℕ) (r : Request) where
   abbrev s : Step
   s = requested r
 
-  in-range : InRange w r → (i : ℕ) → i < 4 → fieldAt s i < 2 ^ w
+  pub in-range : InRange w r → (i : ℕ) → i < 4 → fieldAt s i < 2 ^ w
   unfolding requested fieldAt
   in-range q = four (λ i. fieldAt s i < 2 ^ w) (q .who-small) (q .a-small) (q .b-small) (q .c-small)
 
@@ -68,17 +64,14 @@ module _ (w k : ℕ) (r : Request) where
   -- a field that must owe nothing is a player's number
   pub debtor-below : InRange w r → offDesk (requested r) k (kindOf (r .kind)) ≡ false → (i : ℕ) → i < 4 → asksDebt (kindOf (r .kind)) i ≡ true → fieldAt (requested r) i < 16
   unfolding asksDebt boundAt isPlayer bound
-  debtor-below q e i h d = go (roleAt n i) (is-player (roleAt n i) ((and-split ((rowOf n) .unowing) (isPlayer (roleAt n i)) d) .1)) (field-below w k s n e i h (in-range q i h))
+  debtor-below q e i h d = go (roleAt n i) ((and-split ((rowOf n) .unowing) (isPlayer (roleAt n i)) d) .1) (field-below w k s n e i h (in-range q i h))
     where
-      is-player : (x : Role) → isPlayer x ≡ true → x ≡ player
-      is-player unused e = false≢ e
-      is-player player e = refl
-      is-player tracer e = false≢ e
-      is-player register e = false≢ e
-      is-player number e = false≢ e
-
-      go : (x : Role) → x ≡ player → (0 < bound w k x → fieldAt s i < bound w k x) → fieldAt s i < 16
-      go x p f = subst (λ (y : Role). 0 < bound w k y → fieldAt s i < bound w k y) p f (omega arith)
+      go : (x : Role) → isPlayer x ≡ true → (0 < bound w k x → fieldAt s i < bound w k x) → fieldAt s i < 16
+      go player p f = f (omega arith)
+      go unused p f = false≢ p
+      go tracer p f = false≢ p
+      go register p f = false≢ p
+      go number p f = false≢ p
 
 -- a field that is asked for its debt, and one that is not
 module _ (d : Bool) {t : Bool} (e : t ≡ d) where
@@ -138,47 +131,32 @@ module _ (m : Image) (r : Request) where
 
 -- ---- and what each says of the step
 
-said-unknown : (a b c : Bool) → admissionBy a b c ≡ Unknown → a ≡ true
-unfolding admissionBy
-said-unknown true b c e = refl
-said-unknown false true c e = cc
-said-unknown false false true e = cc
-said-unknown false false false e = cc
+abbrev Says : Admission → Bool → Bool → Bool → Type 0
+Says Unknown a b c = a ≡ true
+Says OffDesk a b c = (a ≡ false) × (b ≡ true)
+Says Owing a b c = (a ≡ false) × (b ≡ false) × (c ≡ true)
+Says Admitted a b c = (a ≡ false) × (b ≡ false) × (c ≡ false)
 
-said-off : (a b c : Bool) → admissionBy a b c ≡ OffDesk → (a ≡ false) × (b ≡ true)
+says : (a b c : Bool) → Says (admissionBy a b c) a b c
 unfolding admissionBy
-said-off true b c e = (cc, cc)
-said-off false true c e = (refl, refl)
-said-off false false true e = (cc, cc)
-said-off false false false e = (cc, cc)
-
-said-owing : (a b c : Bool) → admissionBy a b c ≡ Owing → (a ≡ false) × (b ≡ false) × (c ≡ true)
-unfolding admissionBy
-said-owing true b c e = (cc, cc, cc)
-said-owing false true c e = (cc, cc, cc)
-said-owing false false true e = (refl, refl, refl)
-said-owing false false false e = (cc, cc, cc)
-
-said-admitted : (a b c : Bool) → admissionBy a b c ≡ Admitted → (a ≡ false) × (b ≡ false) × (c ≡ false)
-unfolding admissionBy
-said-admitted true b c e = (cc, cc, cc)
-said-admitted false true c e = (cc, cc, cc)
-said-admitted false false true e = (cc, cc, cc)
-said-admitted false false false e = (refl, refl, refl)
+says true b c = refl
+says false true c = (refl, refl)
+says false false true = (refl, refl, refl)
+says false false false = (refl, refl, refl)
 
 module _ (m : Image) (s : Step) {x : Admission} (f : x ≡ admissionOf m s) where
-  pub refused-unknown : x ≡ Unknown → done 3 0 m ≡ step m s
+  said : {y : Admission} → x ≡ y → Says y (unnamed s (kindOf (s .kind))) (offDesk s (m .k) (kindOf (s .kind))) (owing m s (kindOf (s .kind)))
   unfolding admissionOf
-  refused-unknown e = number-3 m s (kindOf (s .kind)) refl (said-unknown _ _ _ (sym f ∙ e))
+  said e = let n : Kind = kindOf (s .kind) in rw (sym f ∙ e) at (says (unnamed s n) (offDesk s (m .k) n) (owing m s n))
+
+  pub refused-unknown : x ≡ Unknown → done 3 0 m ≡ step m s
+  refused-unknown e = number-3 m s (kindOf (s .kind)) refl (said e)
 
   pub refused-off : x ≡ OffDesk → done 4 0 m ≡ step m s
-  unfolding admissionOf
-  refused-off e = let q = said-off _ _ _ (sym f ∙ e) in number-4 m s (kindOf (s .kind)) refl (q .0) (q .1)
+  refused-off e = let q = said e in number-4 m s (kindOf (s .kind)) refl (q .0) (q .1)
 
   pub refused-owing : x ≡ Owing → done 5 0 m ≡ step m s
-  unfolding admissionOf
-  refused-owing e = let q = said-owing _ _ _ (sym f ∙ e) in number-5 m s (kindOf (s .kind)) refl (q .0) (q .1) (q .2)
+  refused-owing e = let q = said e in number-5 m s (kindOf (s .kind)) refl (q .0) (q .1) (q .2)
 
   pub admitted-passes : x ≡ Admitted → Passed m s (kindOf (s .kind))
-  unfolding admissionOf
-  admitted-passes e = let q = said-admitted _ _ _ (sym f ∙ e) in record { is-kind = refl; named = q .0; on-desk = q .1; none-owed = q .2 }
+  admitted-passes e = let q = said e in record { is-kind = refl; named = q .0; on-desk = q .1; none-owed = q .2 }
