@@ -115,14 +115,10 @@ module _ (w k : ℕ) (im₀ bytes answers₀ : List ℕ) (n : ℕ) (im answers :
 
 -- ---- the end
 
-ran-all : (w : ℕ) (m : Image) (bytes : List ℕ) (n : ℕ) → n ≡ length bytes / recordBytes w → ran w m bytes n ≡ run m (records w bytes)
-unfolding ran records recordAt
-ran-all w m bytes n e = rw e
-
 module _ (w k : ℕ) (im₀ bytes answers₀ : List ℕ) (n : ℕ) (im answers : List ℕ) where
   pub ran-end : Ran w k im₀ bytes answers₀ n im answers n → n ≡ length bytes / recordBytes w → length answers₀ ≡ 2 * n
       → (imageOf w k im ≡ after (imageOf w k im₀) (run (imageOf w k im₀) (records w bytes))) × (answers ≡ answersOf (run (imageOf w k im₀) (records w bytes)))
   ran-end r h l =
       let m : Image = imageOf w k im₀ in
-      let e : ran w m bytes n ≡ run m (records w bytes) = ran-all w m bytes n h in
+      let e : ran w m bytes n ≡ run m (records w bytes) = unfold ran records recordAt in rw h in
       (r .image ∙ ap (after m) e, r .written ∙ (rw (drop-of-length-le answers₀ {i = 2 * n} (omega arith)) (append-nil _) ∙ ap answersOf e))
