@@ -1,7 +1,7 @@
 -- What the contract of `batch` says over a row of calls: demand 3, and an undamaged image is handed back undamaged.
 use mathlib.Core.Path.{_≡_, refl, sym, ap, subst, _∙_}
 use mathlib.Core.List.{List, _∷_, _++_, map, List·Memᴰ, List·Memᴰ·cases-cons}
-use mathlib.Core.Logic.{⊎-elim}
+use mathlib.Core.Logic.{inl, inr}
 use Prim.Native.Nat.{ℕ, zero, suc}
 use Rattle.model.specs.Steps.{answersOf}
 use Rattle.model.specs.Batch.{Batch, callNumber, batchWith, batchAt}
@@ -36,14 +36,11 @@ calls-answers {w} {ws} (more b r bs rs e c) =
     ∙ (ap (λ l. writtenBy q (q .result) ++ l) rest ∙ ap (λ (x : Batch). writtenBy x (x .result) ++ written rs) (sym e)))
 
 -- "A batch hands back an undamaged image undamaged"
-batch-undamaged : (w : ℕ) (ws bytes answers : List ℕ) (r : Batch) → r ≡ batchAt w ws bytes answers → judgeAt w ws ≡ 0 → judgeAt w (r .image) ≡ 0
-batch-undamaged w ws bytes answers r e j = subst (λ (x : Batch). judgeAt w (x .image) ≡ 0) (sym e) (batch-judged w ws bytes answers j)
-
 calls-undamaged : {w : ℕ} {ws : List ℕ} {bs : List Lent} {rs : List Batch} → judgeAt w ws ≡ 0 → Called w ws bs rs → (r : Batch) → List·Memᴰ r rs → judgeAt w (r .image) ≡ 0
 calls-undamaged j none r k = elim k [ ]
 calls-undamaged {w} {ws} j (more b q bs rs e c) r k =
-    let left : judgeAt w (q .image) ≡ 0 = batch-undamaged w ws (b .steps) (b .answers) q e j in
-    ⊎-elim (λ (x : r ≡ q). subst (λ (y : Batch). judgeAt w (y .image) ≡ 0) (sym x) left) (λ x. calls-undamaged left c r x) (List·Memᴰ·cases-cons k)
+    let left : judgeAt w (q .image) ≡ 0 = rw e (batch-judged w ws (b .steps) (b .answers) j) in
+    elim (List·Memᴰ·cases-cons k) [ inl x ↦ rw x left | inr x ↦ calls-undamaged left c r x ]
 
 pub calls-hold : (w : ℕ) (ws : List ℕ) (bs : List Lent) (rs : List Batch) → judgeAt w ws ≡ 0 → Called w ws bs rs → CallsHold w ws bs rs
 calls-hold w ws bs rs j c = record { claim = demand-three w ws bs j; same-results = calls-results c; same-answers = calls-answers c; undamaged = calls-undamaged j c }
