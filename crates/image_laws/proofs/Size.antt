@@ -21,16 +21,12 @@ use Rattle.image_laws.specs.Sized.{Sized}
 -- ---- the ways out of `cards`, where a card has u words, r words lie behind, and a store has at most `most` cards
 
 module _ (w u r most n : ℕ) (per : (k : ℕ) → imageLength w k ≡ u * k + r) (lim : mostCards w ≡ most) (pos : 1 ≤ u) where
-  quotient : cardsOf w n ≡ (n - r) / u
-  unfolding cardsOf
-  quotient =
-      let z : imageLength w 0 ≡ r = per 0 ∙ omega arith in
-      let e : imageLength w 1 - imageLength w 0 ≡ u = omega (arith, per 1, per 0) in
-      rw (e, z)
-
   size-by : (b : Bool) → every (leb 1 ((n - r) / u) ∷ leb ((n - r) / u) most ∷ eqb n (u * ((n - r) / u) + r) ∷ []) ≡ b → extentBy b ((n - r) / u) ≡ extentOf w n
-  unfolding extentOf fits
-  size-by b e = rw (quotient, lim, per, e)
+  unfolding extentOf fits cardsOf
+  size-by b e =
+      let z : imageLength w 0 ≡ r = per 0 ∙ omega arith in
+      let d : imageLength w 1 - imageLength w 0 ≡ u = omega (arith, per 1, per 0) in
+      rw (d, z, lim, per, e)
 
   some-cards : u + r ≤ n → 1 ≤ (n - r) / u
   some-cards h = le-div-iff-mul-le pos .1 (omega arith)

@@ -24,9 +24,6 @@ nth-take n l i h = getD-take n l i 0 h
 
 -- ---- each of the pieces of a list
 
-piece-first : (s : ℕ) (ws : List ℕ) → take s (drop (s * 0) ws) ≡ take s ws
-piece-first s ws = rw (mul-zero s) refl
-
 piece-next : (s i : ℕ) (ws : List ℕ) → take s (drop (s * suc i) ws) ≡ take s (drop (s * i) (drop s ws))
 piece-next s i ws = rw (mul-suc s i, add-comm (s * i) s, drop-drop (s * i) s ws) refl
 
@@ -34,14 +31,14 @@ pub eachPiece-make : (s n : ℕ) (p : List ℕ → Bool) (ws : List ℕ) → ((i
 unfolding eachPiece
 eachPiece-make s zero p ws f = refl
 eachPiece-make s (suc n) p ws f =
-    and-join (p (take s ws)) (eachPiece s n p (drop s ws)) (ap p (sym (piece-first s ws)) ∙ f zero (omega arith))
+    and-join (p (take s ws)) (eachPiece s n p (drop s ws)) (rw (mul-zero s) at (f zero (omega arith)))
     (eachPiece-make s n p (drop s ws) (λ i h. ap p (sym (piece-next s i ws)) ∙ f (suc i) (omega arith)))
 
 -- piece i of those that each pass
 pub eachPiece-use : (s n : ℕ) (p : List ℕ → Bool) (ws : List ℕ) → eachPiece s n p ws ≡ true → (i : ℕ) → i < n → p (take s (drop (s * i) ws)) ≡ true
 unfolding eachPiece
 eachPiece-use s zero p ws e i h = absurd (omega arith)
-eachPiece-use s (suc n) p ws e zero h = ap p (piece-first s ws) ∙ (and-split (p (take s ws)) _ e) .0
+eachPiece-use s (suc n) p ws e zero h = rw (mul-zero s) ((and-split (p (take s ws)) _ e) .0)
 eachPiece-use s (suc n) p ws e (suc i) h = ap p (piece-next s i ws) ∙ eachPiece-use s n p (drop s ws) ((and-split (p (take s ws)) _ e) .1) i (omega arith)
 
 -- ---- members of a list by place

@@ -45,8 +45,7 @@ or-right false b p = p
 
 pub imp-use : (a b : Bool) → implies a b ≡ true → a ≡ true → b ≡ true
 unfolding implies
-imp-use true b e p = e
-imp-use false b e p = false≢ p
+imp-use a b e p = rw p at e
 
 pub imp-make : (a b : Bool) → (a ≡ true → b ≡ true) → implies a b ≡ true
 unfolding implies
@@ -57,13 +56,11 @@ imp-make false b f = refl
 
 pub either-yes : (b x y : Bool) → b ≡ true → either b x y ≡ true → x ≡ true
 unfolding either
-either-yes true x y p e = e
-either-yes false x y p e = false≢ p
+either-yes b x y p e = rw p at e
 
 pub either-no : (b x y : Bool) → b ≡ false → either b x y ≡ true → y ≡ true
 unfolding either
-either-no true x y p e = false≢ (sym p)
-either-no false x y p e = e
+either-no b x y p e = rw p at e
 
 pub either-make : (b x y : Bool) → (b ≡ true → x ≡ true) → (b ≡ false → y ≡ true) → either b x y ≡ true
 unfolding either

@@ -1,5 +1,5 @@
 -- Numbers 3 to 5 as four tests of fields, and what the three say together.
-use mathlib.Core.Path.{_≡_, refl, sym, ap, subst, _∙_}
+use mathlib.Core.Path.{_≡_, refl, sym, ap, _∙_}
 use mathlib.Core.Bool.{Bool, true, false, not, _&&_, _||_, or-assoc, or-false}
 use mathlib.Core.List.{[], _∷_}
 use Prim.Native.Nat.{ℕ, _^_, _≤_, _<_}
@@ -40,14 +40,11 @@ module _ (w k : ℕ) (r : Request) where
   in-range q = four (λ i. fieldAt s i < 2 ^ w) (q .who-small) (q .a-small) (q .b-small) (q .c-small)
 
   -- the tests of four fields by their limits
-  tests : (f : ℕ → ℕ → Bool) → some (f (boundAt w k n 0) (r .who) ∷ f (boundAt w k n 1) (r .a) ∷ f (boundAt w k n 2) (r .b) ∷ f (boundAt w k n 3) (r .c) ∷ []) ≡ some (fields s (λ x y. f (bound w k x) y) (rowOf n))
-  unfolding requested fields boundAt roleAt
-  tests f = refl
-
   module _ (f : ℕ → ℕ → Bool) {l₀ l₁ l₂ l₃ : ℕ} {t u v x : Bool} where
     found : l₀ ≡ boundAt w k n 0 → l₁ ≡ boundAt w k n 1 → l₂ ≡ boundAt w k n 2 → l₃ ≡ boundAt w k n 3 → t ≡ f l₀ (r .who) → u ≡ f l₁ (r .a) → v ≡ f l₂ (r .b) → x ≡ f l₃ (r .c)
         → (((t || u) || v) || x) ≡ some (fields s (λ x y. f (bound w k x) y) (rowOf n))
-    found e₀ e₁ e₂ e₃ f₀ f₁ f₂ f₃ = some-four t u v x ∙ (rw (f₀, f₁, f₂, f₃, e₀, e₁, e₂, e₃) (tests f))
+    unfolding requested fields boundAt roleAt
+    found e₀ e₁ e₂ e₃ f₀ f₁ f₂ f₃ = some-four t u v x ∙ rw (f₀, f₁, f₂, f₃, e₀, e₁, e₂, e₃)
 
   module _ {l₀ l₁ l₂ l₃ : ℕ} {t u v x : Bool} (e₀ : l₀ ≡ boundAt w k n 0) (e₁ : l₁ ≡ boundAt w k n 1) (e₂ : l₂ ≡ boundAt w k n 2) (e₃ : l₃ ≡ boundAt w k n 3) where
     pub stray-found : 1 ≤ r .kind → r .kind < 15 → t ≡ (eqb l₀ 0 && not (eqb (r .who) 0)) → u ≡ (eqb l₁ 0 && not (eqb (r .a) 0)) → v ≡ (eqb l₂ 0 && not (eqb (r .b) 0)) → x ≡ (eqb l₃ 0 && not (eqb (r .c) 0))

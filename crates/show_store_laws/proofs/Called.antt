@@ -16,8 +16,7 @@ use Rattle.show_store_laws.proofs.Run.{answers-append}
 calls-results : {w : ℕ} {ws : List ℕ} {bs : List Lent} {rs : List Batch} → Called w ws bs rs → map (λ (r : Batch). r .result) rs ≡ results w ws bs
 unfolding results
 calls-results none = refl
-calls-results {w} {ws} (more b r bs rs e c) =
-    subst (λ (q : Batch). r .result ∷ map (λ (x : Batch). x .result) rs ≡ q .result ∷ results w (q .image) bs) e (ap (λ l. r .result ∷ l) (calls-results c))
+calls-results (more b r bs rs e c) = rw (← e) (ap (λ l. r .result ∷ l) (calls-results c))
 
 -- the claim's answers are the words that the calls have written
 one-written : (w : ℕ) (ws : List ℕ) (b : Lent) (n : ℕ) → let q : Batch = batchWith w ws (b .steps) (b .answers) n in answersOf (eventsOf w ws b (q .result)) ≡ writtenBy q (q .result)
