@@ -1,21 +1,23 @@
 -- Lists of words that are equal word by word, and bit words of w bits that are equal bit by bit.
 use mathlib.Core.Path.{_≡_, sym, ap, _∙_}
-use mathlib.Core.Logic.{_⊎_, inl, inr}
+use mathlib.Core.Logic.{_⊎_}
 use mathlib.Core.Bool.{Bool}
-use mathlib.Core.List.{List, [], _∷_}
-use Prim.Native.Nat.{ℕ, zero, suc, _+_, _*_, _/_, _%_, _^_, _<_, _≤_, suc-le-suc}
+use mathlib.Core.List.{List}
+use Prim.Native.Nat.{ℕ, zero, suc, _+_, _*_, _/_, _%_, _^_, _<_, _≤_}
 use native.Mathlib.Nat.{pow-suc, mod-lt}
 use native.Mathlib.Decide.{ℕ-discrete, decLt}
 use native.Mathlib.Omega.{arith}
 use lib.ListN.{length, replicate, length-replicate}
-use lib.Pow.{pow-pos}
+use lib.Bits.{or-lt}
+use lib.Pow.{pow-pos, pow-lt}
 use lib.Seq.{ext-getD}
-use Rattle.model.specs.Base.{nth, put, zeros, testBit, withBit, bit, setBit, addBits}
-use Rattle.model.proofs.Laws.{bool-cases, nth-replicate, nth-put-same, nth-put-other, put-out}
+use Rattle.model.specs.Base.{nth, put, zeros, withBit, bit, setBit, addBits}
+use Rattle.model.proofs.Laws.{nth-out, nth-replicate, nth-put-same, nth-put-other, put-out}
 use Rattle.model.proofs.Bits.{addBits-keeps, length-addBits, addBits-bit, bit-zeros}
 use Rattle.image_laws.specs.Digits.{digit, bitOf}
-use Rattle.image_laws.proofs.Digits.{digit-off, bit-half, bit-zero}
+use Rattle.image_laws.proofs.Digits.{bit-half, bit-zero}
 use Rattle.image_laws.proofs.Bits.{bit-at}
+use Rattle.image_laws.proofs.Masks.{or-pow}
 use Rattle.image_laws.proofs.Places.{place-in, some-bits, word-in, words-full}
 
 pub nth-ext : (l r : List ℕ) → length l ≡ length r → ((i : ℕ) → i < length l → nth l i ≡ nth r i) → l ≡ r
@@ -28,10 +30,7 @@ zero-words l r e f = nth-ext l (replicate (length r) 0) (rw length-replicate e) 
 
 -- a word that is not 0 lies in its list
 pub nth-in : (l : List ℕ) (c : ℕ) → 1 ≤ nth l c → c < length l
-unfolding nth
-nth-in [] c h = absurd (omega arith)
-nth-in (x ∷ l) zero h = omega arith
-nth-in (x ∷ l) (suc c) h = suc-le-suc (nth-in l c h)
+nth-in l c h = elim (decLt c (length l)) [ yes b ↦ b | no b ↦ absurd (omega (arith, nth-out l c (omega arith))) ]
 
 -- ---- a word of n bits
 
@@ -43,18 +42,8 @@ word-ext (suc n) x y hx hy f =
     let q : x / 2 ≡ y / 2 = word-ext n (x / 2) (y / 2) (omega arith) (omega arith) (λ j h. sym (bit-half x j) ∙ f (suc j) (omega arith) ∙ bit-half y j) in
     omega arith
 
-bit-room : (n x j : ℕ) → x < 2 ^ n → j < n → bitOf x j ≡ 0 → x + 2 ^ j < 2 ^ n
-bit-room zero x j hx hj e = absurd (omega arith)
-bit-room (suc n) x zero hx hj e = let p = pow-suc 2 n in let z = bit-zero x in omega (arith, e)
-bit-room (suc n) x (suc j) hx hj e =
-    let p = pow-suc 2 n in
-    let q = pow-suc 2 j in
-    let ih = bit-room n (x / 2) j (omega arith) (omega arith) (sym (bit-half x j) ∙ e) in
-    omega arith
-
 withBit-lt : (n x j : ℕ) → x < 2 ^ n → j < n → withBit x j < 2 ^ n
-unfolding withBit
-withBit-lt n x j hx hj = elim (bool-cases (testBit x j)) [ inl e ↦ rw e hx | inr e ↦ rw e (bit-room n x j hx hj (digit-off e)) ]
+withBit-lt n x j hx hj = rw (← (or-pow x j)) (or-lt n x (2 ^ j) hx (pow-lt hj))
 
 -- ---- words of w bits
 

@@ -30,28 +30,17 @@ chain-measure n g = cond (eqb g 0) 0 (n - g)
 on-first : (m : Image) (g : ℕ) → g ≡ firstRun m → Linked m (firstRun m) → OnChain m (granules m) g
 on-first m g e l = record { enough = inr (omega arith); linked = rw e l }
 
-module _ (m : Image) (left g : ℕ) (o : OnChain m left g) (h : g ≡ 0 → ⊥) where
-  on-in : g < granules m
-  on-in = linked-in m g (o .linked) h .0
-
-  on-left : granules m ≤ left + g
-  on-left = ⊎-elim (λ e. absurd (h e)) (λ l. l) (o .enough)
-
-  on-some : 0 < left
-  on-some = omega (arith, on-in, on-left)
-
-  on-next : OnChain m (left - 1) (word m g 1)
-  on-next =
-      let r = linked-in m g (o .linked) h in
-      record { enough = ⊎-elim (λ z. inl z) (λ (z : g < word m g 1). inr (omega (arith, on-in, on-left))) (r .1); linked = r .2 }
-
-  on-less : chain-measure (granules m) (word m g 1) < chain-measure (granules m) g
-  on-less =
-      let i : g < granules m = on-in in
-      rw (ne-eqb g 0 h) (elim (linked-in m g (o .linked) h .1) [
-        | inl z ↦ rw (eq-eqb (word m g 1) 0 z) (omega arith)
-        | inr z ↦ rw (ne-eqb (word m g 1) 0 (λ e. omega arith)) (omega arith)
-      ])
+-- a turn: run g lies in the heap, there was one left to ask, the next is on the chain, and the measure falls
+on-turn : (m : Image) (left g : ℕ) → OnChain m left g → (g ≡ 0 → ⊥)
+    → (g < granules m) × (0 < left) × OnChain m (left - 1) (word m g 1) × (chain-measure (granules m) (word m g 1) < chain-measure (granules m) g)
+on-turn m left g o h =
+    let r = linked-in m g (o .linked) h in
+    let i : g < granules m = r .0 in
+    let l : granules m ≤ left + g = ⊎-elim (λ e. absurd (h e)) (λ l. l) (o .enough) in
+    elim (r .1) [
+      | inl z ↦ (i, omega arith, record { enough = inl z; linked = r .2 }, rw (ne-eqb g 0 h, eq-eqb (word m g 1) 0 z) (omega arith))
+      | inr z ↦ (i, omega arith, record { enough = inr (omega arith); linked = r .2 }, rw (ne-eqb g 0 h, ne-eqb (word m g 1) 0 (λ e. omega arith)) (omega arith))
+    ]
 
 -- ---- the walk for the lowest run that suffices
 
@@ -87,22 +76,22 @@ module _ (m : Image) (b before g : ℕ) (w : Walk m b before g) where
 
   module _ (h : g ≡ 0 → ⊥) where
     pub walk-in : g < granules m
-    walk-in = on-in m (w .left) g (w .on) h
+    walk-in = on-turn m (w .left) g (w .on) h .0
 
     pub walk-here : b ≤ word m g 0 → _≡_ {A = Room} (record { run = g; before = before }) (roomFor m b)
-    walk-here l = sym (fit-here m b (w .left) before g (on-some m (w .left) g (w .on) h) (omega arith) l) ∙ w .same
+    walk-here l = sym (fit-here m b (w .left) before g (on-turn m (w .left) g (w .on) h .1) (omega arith) l) ∙ w .same
 
     pub walk-next : word m g 0 < b → Walk m b g (word m g 1)
     walk-next l =
-        let e : suc (w .left - 1) ≡ w .left = omega (arith, on-some m (w .left) g (w .on) h) in
+        let e : suc (w .left - 1) ≡ w .left = omega (arith, on-turn m (w .left) g (w .on) h .1) in
         record {
           left = w .left - 1;
-          on = on-next m (w .left) g (w .on) h;
+          on = on-turn m (w .left) g (w .on) h .2;
           same = sym (fit-next m b (w .left - 1) before g (omega arith) l) ∙ (rw e (w .same));
         }
 
     pub walk-less : chain-measure (granules m) (word m g 1) < chain-measure (granules m) g
-    walk-less = on-less m (w .left) g (w .on) h
+    walk-less = on-turn m (w .left) g (w .on) h .3
 
 -- ---- the walk that counts granules
 
@@ -130,18 +119,18 @@ module _ (m : Image) (total g : ℕ) (w : Counting m total g) where
 
   module _ (h : g ≡ 0 → ⊥) where
     pub count-in : g < granules m
-    count-in = on-in m (w .left) g (w .on) h
+    count-in = on-turn m (w .left) g (w .on) h .0
 
     pub count-next : (n : ℕ) → n ≡ word m g 0 → n ≤ 4294967295 → Counting m (total + n) (word m g 1)
     count-next n en l =
         let so-far : total ≤ 4294967295 * g = ⊎-elim (λ e. absurd (h e)) (λ l. l) (w .fewer) in
         record {
           left = w .left - 1;
-          on = on-next m (w .left) g (w .on) h;
-          same = omega (arith, w .same, en, free-next m (w .left) g (on-some m (w .left) g (w .on) h) (omega arith));
+          on = on-turn m (w .left) g (w .on) h .2;
+          same = omega (arith, w .same, en, free-next m (w .left) g (on-turn m (w .left) g (w .on) h .1) (omega arith));
           small = omega (arith, count-in);
           fewer = elim (linked-in m g (w .on .linked) h .1) [ inl z ↦ inl z | inr z ↦ inr (omega arith) ];
         }
 
     pub count-less : chain-measure (granules m) (word m g 1) < chain-measure (granules m) g
-    count-less = on-less m (w .left) g (w .on) h
+    count-less = on-turn m (w .left) g (w .on) h .3
