@@ -28,11 +28,8 @@ nonNil-use : (a : ℕ) (l : List ℕ) → Mem a (nonNil l) → Mem a l × (a ≡
 unfolding nonNil
 nonNil-use a [] h = elim h [ ]
 nonNil-use a (zero ∷ l) h = let r = nonNil-use a l h in (List·Memᴰ·tail (r .0), r .1)
-nonNil-use a (suc g ∷ l) h =
-    elim (List·Memᴰ·cases-cons h) [
-      | inl e ↦ (List·Memᴰ·head e, λ z. omega arith)
-      | inr k ↦ let r = nonNil-use a l k in (List·Memᴰ·tail (r .0), r .1)
-    ]
+nonNil-use a (suc g ∷ l) (List·Memᴰ·head e) = (List·Memᴰ·head e, λ z. omega arith)
+nonNil-use a (suc g ∷ l) (List·Memᴰ·tail k) = let r = nonNil-use a l k in (List·Memᴰ·tail (r .0), r .1)
 
 nonNil-make : (a : ℕ) (l : List ℕ) → Mem a l → (a ≡ 0 → ⊥) → Mem a (nonNil l)
 unfolding nonNil
@@ -44,11 +41,8 @@ nonNil-make a (suc g ∷ l) (List·Memᴰ·tail h) nz = List·Memᴰ·tail (nonN
 table-use : (a n : ℕ) (f : ℕ → ℕ) → Mem a (table n f) → (i : ℕ) × (i < n) × (f i ≡ a)
 unfolding table
 table-use a zero f h = elim h [ ]
-table-use a (suc n) f h =
-    elim (List·Memᴰ·cases-cons h) [
-      | inl e ↦ (0, omega arith, sym e)
-      | inr k ↦ let r = table-use a n (λ i. f (suc i)) k in (suc (r .0), suc-le-suc (r .1), r .2)
-    ]
+table-use a (suc n) f (List·Memᴰ·head e) = (0, omega arith, sym e)
+table-use a (suc n) f (List·Memᴰ·tail k) = let r = table-use a n (λ i. f (suc i)) k in (suc (r .0), suc-le-suc (r .1), r .2)
 
 table-make : (a n : ℕ) (f : ℕ → ℕ) (i : ℕ) → i < n → f i ≡ a → Mem a (table n f)
 unfolding table

@@ -1,5 +1,6 @@
 -- Numbers 3 to 5 as four tests of fields, and what the three say together.
 use mathlib.Core.Path.{_≡_, refl, sym, ap, _∙_}
+use mathlib.Core.Logic.{inl, inr}
 use mathlib.Core.Bool.{Bool, true, false, not, _&&_, _||_, or-assoc, or-false}
 use mathlib.Core.List.{[], _∷_}
 use Prim.Native.Nat.{ℕ, _^_, _≤_, _<_}
@@ -10,7 +11,7 @@ use Rattle.model.specs.Image.{Image, owed}
 use Rattle.model.specs.Records.{Step, Kind, unknown, kindOf}
 use Rattle.model.specs.Rows.{Role, unused, player, tracer, register, number, rowOf, isPlayer, fields}
 use Rattle.model.specs.Steps.{unnamed, offDesk, owes, owing, step}
-use Rattle.model.proofs.Laws.{false≢, and-split}
+use Rattle.model.proofs.Laws.{false≢, bool-cases, and-split}
 use Rattle.model.proofs.Rows.{kind-known, kind-unknown}
 use Rattle.theory.specs.Fields.{fieldAt, roleAt, bound, boundAt}
 use Rattle.theory.proofs.steps.Fields.{four, unnamed-by, off-by, field-below}
@@ -78,24 +79,15 @@ module _ (d : Bool) {t : Bool} (e : t ≡ d) where
   pub debt-none : t ≡ false → (y : ℕ) → false ≡ (d && not (eqb y 0))
   debt-none h y = rw (← e, h)
 
-debts : (b p₀ p₁ p₂ p₃ o₀ o₁ o₂ o₃ : Bool) → some (((b && p₀) && o₀) ∷ ((b && p₁) && o₁) ∷ ((b && p₂) && o₂) ∷ ((b && p₃) && o₃) ∷ []) ≡ (b && some ((p₀ && o₀) ∷ (p₁ && o₁) ∷ (p₂ && o₂) ∷ (p₃ && o₃) ∷ []))
-unfolding some
-debts true p₀ p₁ p₂ p₃ o₀ o₁ o₂ o₃ = refl
-debts false p₀ p₁ p₂ p₃ o₀ o₁ o₂ o₃ = refl
-
 module _ (m : Image) (r : Request) {t u v x : Bool} where
   pub owing-found : t ≡ (asksDebt (kindOf (r .kind)) 0 && not (eqb (owed m (r .who)) 0)) → u ≡ (asksDebt (kindOf (r .kind)) 1 && not (eqb (owed m (r .a)) 0)) → v ≡ (asksDebt (kindOf (r .kind)) 2 && not (eqb (owed m (r .b)) 0))
       → x ≡ (asksDebt (kindOf (r .kind)) 3 && not (eqb (owed m (r .c)) 0)) → (((t || u) || v) || x) ≡ owing m (requested r) (kindOf (r .kind))
-  unfolding owing owes fields requested asksDebt roleAt
-  owing-found f₀ f₁ f₂ f₃ = some-four t u v x ∙ (rw (f₀, f₁, f₂, f₃) (debts ((rowOf (kindOf (r .kind))) .unowing) _ _ _ _ _ _ _ _))
+  unfolding owing owes fields requested asksDebt roleAt some
+  owing-found f₀ f₁ f₂ f₃ = some-four t u v x ∙ rw (f₀, f₁, f₂, f₃) (elim (bool-cases ((rowOf (kindOf (r .kind))) .unowing)) [ inl e ↦ rw e | inr e ↦ rw e ])
 
 -- ---- what they say together
 
 module _ (m : Image) (r : Request) where
-  by-tests : (t u v : Bool) → t ≡ unnamed (requested r) (kindOf (r .kind)) → u ≡ offDesk (requested r) (m .k) (kindOf (r .kind)) → v ≡ owing m (requested r) (kindOf (r .kind)) → admissionBy t u v ≡ admissionOf m (requested r)
-  unfolding admissionOf requested
-  by-tests t u v f g o = λ j. admissionBy (f j) (g j) (o j)
-
   unknown-kinds : kindOf (r .kind) ≡ unknown → Unknown ≡ admissionOf m (requested r)
   unfolding admissionOf admissionBy requested unnamed
   unknown-kinds e = rw e
@@ -109,22 +101,22 @@ module _ (m : Image) (r : Request) where
 
   module _ {t : Bool} (f : t ≡ unnamed (requested r) (kindOf (r .kind))) where
     pub admit-stray : t ≡ true → Unknown ≡ admissionOf m (requested r)
-    unfolding admissionBy
-    admit-stray e = by-tests true _ _ (sym e ∙ f) refl refl
+    unfolding admissionOf admissionBy requested
+    admit-stray e = rw (← f, e)
 
     module _ {u : Bool} (e : t ≡ false) (g : u ≡ offDesk (requested r) (m .k) (kindOf (r .kind))) where
       pub admit-beyond : u ≡ true → OffDesk ≡ admissionOf m (requested r)
-      unfolding admissionBy
-      admit-beyond h = by-tests false true _ (sym e ∙ f) (sym h ∙ g) refl
+      unfolding admissionOf admissionBy requested
+      admit-beyond h = rw (← f, e, ← g, h)
 
       module _ {v : Bool} (h : u ≡ false) (o : v ≡ owing m (requested r) (kindOf (r .kind))) where
         pub admit-owing : v ≡ true → Owing ≡ admissionOf m (requested r)
-        unfolding admissionBy
-        admit-owing i = by-tests false false true (sym e ∙ f) (sym h ∙ g) (sym i ∙ o)
+        unfolding admissionOf admissionBy requested
+        admit-owing i = rw (← f, e, ← g, h, ← o, i)
 
         pub admit-passed : v ≡ false → Admitted ≡ admissionOf m (requested r)
-        unfolding admissionBy
-        admit-passed i = by-tests false false false (sym e ∙ f) (sym h ∙ g) (sym i ∙ o)
+        unfolding admissionOf admissionBy requested
+        admit-passed i = rw (← f, e, ← g, h, ← o, i)
 
 -- ---- and what each says of the step
 
