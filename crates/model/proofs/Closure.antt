@@ -48,26 +48,16 @@ addAll-only (g ∷ gs) s a e =
       | no n ↦ ⊎-elim (λ m. inl (List·Memᴰ·tail m)) (λ i. inr (sym (getD-set-other s g a true false n) ∙ i)) (addAll-only gs (set s g true) a e)
     ]
 
--- a set that holds another has no fewer members
-members-mono : (s r : List Bool) → length r ≡ length s → ((h : ℕ) → In s h → In r h) → members s ≤ members r
+-- a set that holds another has no fewer members, and is that one where it has no more
+members-mono : (s r : List Bool) → length r ≡ length s → ((h : ℕ) → In s h → In r h) → (members s ≤ members r) × (members r ≤ members s → r ≡ s)
 unfolding members
-members-mono [] r l sub = zero-le
+members-mono [] [] l sub = (zero-le, λ le. refl)
+members-mono [] (y ∷ r) l sub = absurd (omega arith)
 members-mono (x ∷ s) [] l sub = absurd (omega arith)
-members-mono (true ∷ s) (true ∷ r) l sub = suc-le-suc (members-mono s r (omega arith) (λ h. sub (suc h)))
-members-mono (false ∷ s) (true ∷ r) l sub = omega (arith, members-mono s r (omega arith) (λ h. sub (suc h)))
+members-mono (true ∷ s) (true ∷ r) l sub = let q = members-mono s r (omega arith) (λ h. sub (suc h)) in (suc-le-suc (q .0), λ le. ap (λ z. true ∷ z) (q .1 (omega arith)))
+members-mono (false ∷ s) (true ∷ r) l sub = let q = members-mono s r (omega arith) (λ h. sub (suc h)) in (omega (arith, q .0), λ le. absurd (omega (arith, q .0)))
 members-mono (true ∷ s) (false ∷ r) l sub = false≢ (sub zero refl)
-members-mono (false ∷ s) (false ∷ r) l sub = members-mono s r (omega arith) (λ h. sub (suc h))
-
--- and is that one where it has no more
-same-members : (s r : List Bool) → length r ≡ length s → ((h : ℕ) → In s h → In r h) → members r ≤ members s → r ≡ s
-unfolding members
-same-members [] [] l sub le = refl
-same-members [] (y ∷ r) l sub le = absurd (omega arith)
-same-members (x ∷ s) [] l sub le = absurd (omega arith)
-same-members (true ∷ s) (true ∷ r) l sub le = ap (λ q. true ∷ q) (same-members s r (omega arith) (λ h. sub (suc h)) (omega arith))
-same-members (false ∷ s) (true ∷ r) l sub le = absurd (omega (arith, members-mono s r (omega arith) (λ h. sub (suc h))))
-same-members (true ∷ s) (false ∷ r) l sub le = false≢ (sub zero refl)
-same-members (false ∷ s) (false ∷ r) l sub le = ap (λ q. false ∷ q) (same-members s r (omega arith) (λ h. sub (suc h)) le)
+members-mono (false ∷ s) (false ∷ r) l sub = let q = members-mono s r (omega arith) (λ h. sub (suc h)) in (q .0, λ le. ap (λ z. false ∷ z) (q .1 le))
 
 members-le-length : (s : List Bool) → members s ≤ length s
 unfolding members
@@ -149,5 +139,5 @@ reached-complete n f l b h (follow {g = g} q m) =
     let c : List Bool = closure f n n s in
     let ls : length s ≡ n = length-addAll l (replicate n false) ∙ length-replicate n false in
     let lc : length c ≡ n = closure-keeps f (λ r. length r ≡ n) (λ g r i e. length-addAll (f g) r ∙ e) n n s ls in
-    let whole : round f n c ≡ c = same-members c (round f n c) (length-round f n c) (round-mono f n c) (closure-stable f n n s (omega arith)) in
+    let whole : round f n c ≡ c = members-mono c (round f n c) (length-round f n c) (round-mono f n c) .1 (closure-stable f n n s (omega arith)) in
     rw whole at (round-has f n c g h (b g q) (reached-complete n f l b g q) m (omega (arith, b h (follow q m))))

@@ -1,6 +1,6 @@
 -- What the contract of `batch` says over a row of calls: demand 3, and an undamaged image is handed back undamaged.
-use mathlib.Core.Path.{_≡_, refl, sym, ap, subst, _∙_}
-use mathlib.Core.List.{List, _∷_, _++_, map, List·Memᴰ, List·Memᴰ·cases-cons}
+use mathlib.Core.Path.{_≡_, refl, ap, _∙_}
+use mathlib.Core.List.{List, _∷_, map, List·Memᴰ, List·Memᴰ·cases-cons}
 use mathlib.Core.Logic.{inl, inr}
 use Prim.Native.Nat.{ℕ, zero, suc}
 use Rattle.model.specs.Steps.{answersOf}
@@ -28,11 +28,10 @@ calls-answers : {w : ℕ} {ws : List ℕ} {bs : List Lent} {rs : List Batch} →
 unfolding history written batchAt answersOf
 calls-answers none = refl
 calls-answers {w} {ws} (more b r bs rs e c) =
-    let q : Batch = batchWith w ws (b .steps) (b .answers) (callNumber w ws (b .steps) (b .answers)) in
-    let rest : answersOf (history w (q .image) bs) ≡ written rs = subst (λ (x : Batch). answersOf (history w (x .image) bs) ≡ written rs) e (calls-answers c) in
-    answers-append (eventsOf w ws b (q .result)) (history w (q .image) bs)
-    ∙ (ap (λ l. l ++ answersOf (history w (q .image) bs)) (one-written w ws b (callNumber w ws (b .steps) (b .answers)))
-    ∙ (ap (λ l. writtenBy q (q .result) ++ l) rest ∙ ap (λ (x : Batch). writtenBy x (x .result) ++ written rs) (sym e)))
+    let n : ℕ = callNumber w ws (b .steps) (b .answers) in
+    let q : Batch = batchWith w ws (b .steps) (b .answers) n in
+    let rest : answersOf (history w (q .image) bs) ≡ written rs = rw e at (calls-answers c) in
+    answers-append (eventsOf w ws b (q .result)) (history w (q .image) bs) ∙ rw (one-written w ws b n, rest, e)
 
 -- "A batch hands back an undamaged image undamaged"
 calls-undamaged : {w : ℕ} {ws : List ℕ} {bs : List Lent} {rs : List Batch} → judgeAt w ws ≡ 0 → Called w ws bs rs → (r : Batch) → List·Memᴰ r rs → judgeAt w (r .image) ≡ 0
