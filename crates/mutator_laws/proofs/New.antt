@@ -1,5 +1,5 @@
 -- New: the run that it takes, the words that it writes, and its cases.
-use mathlib.Core.Path.{_≡_, refl, sym, _∙_}
+use mathlib.Core.Path.{_≡_, refl, _∙_}
 use mathlib.Core.Bool.{true, false}
 use mathlib.Core.List.{List}
 use Prim.Native.Nat.{ℕ, zero, suc, _+_, _*_, _-_, _≤_, _<_}
@@ -95,6 +95,4 @@ module _ (m : Image) (p a b c : ℕ) (h : (p < 16) × (a < 16)) (z : owed m p �
     pub new-done : (g ≡ 0 → ⊥) → (i j : Image) → i ≡ takeRun m g before b (word m g 0 - b)
         → j ≡ setReg (setStart (setWord (setWord i g 0 b) g 1 c) g) p a g → done 0 g j ≡ step m (asked 1 p a b c)
     unfolding asked numbers-open act accept newObject
-    new-done e i j ei ej =
-        let x : act m (asked 1 p a b c) new ≡ done 0 g j = rw (ej, ei, ← er) in
-        sym x ∙ number-0 (new-passed m p a z h b c) refl refl right-size (rw (← er) (ne-eqb _ 0 e)) refl refl
+    new-done e i j ei ej = rw (ej, ei) (rw (← er) at (number-0 (new-passed m p a z h b c) refl refl right-size (rw (← er) (ne-eqb _ 0 e)) refl refl))
