@@ -38,9 +38,8 @@ pub record Leading (w x : ℕ) : Type 0 where
 
 pub word-leading : (w x : ℕ) → w ≤ 64 → x < 2 ^ w → (x ≡ 0 → ⊥) → Leading w x
 word-leading w x l h n =
-    let t = leading-top 64 x (omega arith) (below-pow l h) in
-    let j : ℕ = t .0 in
-    let q : 63 - leadingZeros 64 x ≡ j = omega (arith, t .1) in
-    let b : j < w = elim (decLt j w) [ yes p ↦ p | no p ↦ absurd (omega (arith, t .2, below-pow {i = w} {j = j} (omega arith) h)) ] in
-    let top : Highest w x j = record { within = b; is-set = on-digit _ (bit-top j x (t .2) (t .3)); clear-above = λ i p. bit-past x i (below-pow {i = suc j} p (t .3)) } in
-    record { top = rw q top; few = omega (arith, t .1) }
+    let (j, e, a, b) = leading-top 64 x (omega arith) (below-pow l h) in
+    let q : 63 - leadingZeros 64 x ≡ j = omega (arith, e) in
+    let i : j < w = elim (decLt j w) [ yes p ↦ p | no p ↦ absurd (omega (arith, a, below-pow {i = w} {j = j} (omega arith) h)) ] in
+    let top : Highest w x j = record { within = i; is-set = on-digit _ (bit-top j x a b); clear-above = λ i p. bit-past x i (below-pow {i = suc j} p b) } in
+    record { top = rw q top; few = omega (arith, e) }

@@ -17,7 +17,7 @@ use lib.Bits.{bitOr, and-le-l, and-le-r, or-add-and}
 use native.Mathlib.Numerals.{add-one}
 use native.Mathlib.Decide.{decLt}
 use Rattle.model.proofs.Entries.{nth-drop, nth-take}
-use Rattle.model.proofs.Laws.{and-split, and-join, same-test, all-use, all-make}
+use Rattle.model.proofs.Laws.{and-split, same-test, all-use, all-make}
 use Rattle.model.specs.Examples.{at}
 
 -- ---- all of the numbers below n
@@ -50,7 +50,7 @@ or-zero : (a b : ℕ) → eqb (bitOr a b) 0 ≡ (eqb a 0 && eqb b 0)
 or-zero a b =
     let o = or-add-and a b in
     same-test _ _
-    (λ e. let z = eqb-true (bitOr a b) 0 e in and-join (eqb a 0) (eqb b 0) (eq-eqb a 0 (omega (arith, and-le-r a b))) (eq-eqb b 0 (omega (arith, and-le-l a b))))
+    (λ e. let z = eqb-true (bitOr a b) 0 e in rw (eq-eqb a 0 (omega (arith, and-le-r a b)), eq-eqb b 0 (omega (arith, and-le-l a b))))
     (λ e. let s = and-split (eqb a 0) (eqb b 0) e in eq-eqb (bitOr a b) 0 (omega (arith, eqb-true a 0 (s .0), eqb-true b 0 (s .1))))
 
 pub g-more : (n : ℕ) (p : ℕ → Bool) (bad i x : ℕ) → Gathered n p bad i → i < n → eqb x 0 ≡ p i → Gathered n p (bitOr bad x) (i + 1)
@@ -83,7 +83,7 @@ zeroes-both l n h e q =
           let z : h + (i - h) ≡ i = omega arith in
           rw z at (and-split (isZero l (i - h)) (isZero l (h + (i - h))) (all-use n (bothZero l h) t (i - h) (omega arith)) .1)
     ]))
-    (λ t. all-make n (bothZero l h) (λ i p. let u = all-use (length l) (isZero l) t in and-join (isZero l i) (isZero l (h + i)) (u i (omega arith)) (u (h + i) (omega arith))))
+    (λ t. let u = all-use (length l) (isZero l) t in all-make n (bothZero l h) (λ i p. rw (u i (omega arith), u (h + i) (omega arith))))
     ∙ zeroes-all l
 
 -- ---- sections, and parts of them, by their stretch of the slice

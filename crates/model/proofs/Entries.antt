@@ -63,18 +63,14 @@ unfolding elem
 elem-split g [] r e = inr e
 elem-split g (x ∷ l) r e =
     elim (or-split (eqb g x) (elem g (l ++ r)) e) [
-      | inl q ↦ inl (or-left (eqb g x) (elem g l) q)
+      | inl q ↦ inl (rw q)
       | inr q ↦ ⊎-elim (λ p. inl (or-right (eqb g x) (elem g l) p)) inr (elem-split g l r q)
     ]
 
 pub elem-left : (g : ℕ) (l r : List ℕ) → elem g l ≡ true → elem g (l ++ r) ≡ true
 unfolding elem
 elem-left g [] r e = false≢ e
-elem-left g (x ∷ l) r e =
-    elim (or-split (eqb g x) (elem g l) e) [
-      | inl q ↦ or-left (eqb g x) (elem g (l ++ r)) q
-      | inr q ↦ or-right (eqb g x) (elem g (l ++ r)) (elem-left g l r q)
-    ]
+elem-left g (x ∷ l) r e = elim (or-split (eqb g x) (elem g l) e) [ inl q ↦ rw q | inr q ↦ or-right (eqb g x) (elem g (l ++ r)) (elem-left g l r q) ]
 
 pub elem-right : (g : ℕ) (l r : List ℕ) → elem g r ≡ true → elem g (l ++ r) ≡ true
 unfolding elem

@@ -95,7 +95,7 @@ any-use (suc n) p e = elim (or-split (any n p) (p n) e) [ inl q ↦ let r = any-
 pub any-make : (n : ℕ) (p : ℕ → Bool) (i : ℕ) → i < n → p i ≡ true → any n p ≡ true
 unfolding any
 any-make zero p i h e = absurd (omega arith)
-any-make (suc n) p i h e = elim (ℕ-discrete i n) [ yes q ↦ or-right (any n p) (p n) (rw q at e) | no q ↦ or-left (any n p) (p n) (any-make n p i (omega arith) e) ]
+any-make (suc n) p i h e = elim (ℕ-discrete i n) [ yes q ↦ or-right (any n p) (p n) (rw q at e) | no q ↦ rw (any-make n p i (omega arith) e) ]
 
 pub every-use : (l : List Bool) → every l ≡ true → (i : ℕ) → getD l i true ≡ true
 unfolding every

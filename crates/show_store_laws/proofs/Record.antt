@@ -23,7 +23,8 @@ fields : (l : List ℕ)
 unfolding stepOf zeroes nth
 fields l =
     let none : drop 2 (take 2 (take 8 l)) ≡ [] = drop-of-length-le (take 2 (take 8 l)) {i = 2} (omega (arith, length-take 2 (take 8 l))) in
-    rw (none, getD-take 8 l 0 0 (omega arith), getD-take 8 l 1 0 (omega arith), part-take 2 2 8 l (omega arith), part-take 4 2 8 l (omega arith), part-take 6 2 8 l (omega arith))
+    let part : (i : ℕ) → i + 2 ≤ 8 → take 2 (drop i (take 8 l)) ≡ take 2 (drop i l) = λ i. part-take i 2 8 l in
+    rw (none, getD-take 8 l 0 0 (omega arith), getD-take 8 l 1 0 (omega arith), part 2 (omega arith), part 4 (omega arith), part 6 (omega arith))
 
 module _ (l : List ℕ) (at : ℕ) (h : at + 8 ≤ length l) (x y a b c : ℕ)
     (ex : x ≡ getD l at 0) (ey : y ≡ getD l (at + 1) 0) (ea : a ≡ little (take 2 (drop (at + 2) l))) (eb : b ≡ little (take 2 (drop (at + 4) l))) (ec : c ≡ little (take 2 (drop (at + 6) l)))
