@@ -19,14 +19,8 @@ below-bit x i d = rw (pow-add 2 (suc d) i, add-mul-div-right x (2 ^ suc d) (pow-
 
 above-bit : (x j d : ℕ) → x / 2 ^ j % 2 ≡ 0 → (x + 2 ^ j) / 2 ^ (j + (1 + d)) ≡ x / 2 ^ (j + (1 + d))
 above-bit x j d e =
-    rw (
-      ← (shr-shr (x + 2 ^ j) j (1 + d)),
-      ← (shr-shr x j (1 + d)),
-      add-div-right x (pow-pos j),
-      ← (shr-shr (x / 2 ^ j + 1) 1 d),
-      ← (shr-shr (x / 2 ^ j) 1 d),
-    )
-    (let half : (x / 2 ^ j + 1) / 2 ^ 1 ≡ x / 2 ^ j / 2 ^ 1 = omega arith in rw half)
+    let half : (x / 2 ^ j + 1) / 2 ^ 1 ≡ x / 2 ^ j / 2 ^ 1 = omega arith in
+    simp (← shr-shr, add-div-right x (pow-pos j), half)
 
 pub unset : (x j : ℕ) → testBit x j ≡ false → x / 2 ^ j % 2 ≡ 0
 unfolding testBit

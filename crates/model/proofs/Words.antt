@@ -120,7 +120,6 @@ fresh-words w k h =
     let with-run : List (List ℕ) = setSection zeros heapAt (put (getD zeros heapAt []) 4 (64 * k - 1)) in
     let zero-lengths : map length zeros ≡ lengths w k = split-lengths (lengths w k) (replicate (imageLength w k) 0) (length-replicate _ 0) in
     let run-lengths : map length with-run ≡ lengths w k = put-lengths zeros heapAt 4 (64 * k - 1) ∙ zero-lengths in
+    let heap-put = join-put zeros heapAt 4 (64 * k - 1) (subst (λ ns. 4 < getD ns heapAt 0) (sym zero-lengths) (omega arith)) in
     join-put with-run generalAt 1 1 (subst (λ ns. 1 < getD ns generalAt 0) (sym run-lengths) (omega arith))
-    ∙ (ap (λ ns. put (join with-run) (place ns generalAt + 1) 1) run-lengths
-    ∙ ap (λ ws. put ws (place (lengths w k) generalAt + 1) 1)
-    (join-put zeros heapAt 4 (64 * k - 1) (subst (λ ns. 4 < getD ns heapAt 0) (sym zero-lengths) (omega arith)) ∙ ap (λ ws. put ws 4 (64 * k - 1)) (join-split (lengths w k) (replicate (imageLength w k) 0) (length-replicate _ 0))))
+    ∙ cc (run-lengths, heap-put, join-split (lengths w k) (replicate (imageLength w k) 0) (length-replicate _ 0))
