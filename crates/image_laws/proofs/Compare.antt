@@ -1,18 +1,17 @@
 -- Words held to bounds, all of a list at once: the loop that does it, and the list's stretch of the slice.
 use Rattle.image_laws.specs.Compare.{between, noMore, nearAt}
-use Rattle.image_laws.proofs.Split.{split-part, split-length}
+use Rattle.image_laws.proofs.Split.{split-is, split-part}
 use Rattle.model.specs.Base.{nth, all, every, some}
 use Rattle.model.specs.Image.{place, lengths, split}
 use Prim.Native.Nat.{ℕ, _+_, _-_, _≤_, _<_}
-use mathlib.Core.Path.{_≡_, refl, _∙_}
-use mathlib.Core.Bool.{Bool, true, false, not, _&&_, _||_}
+use mathlib.Core.Path.{_≡_, refl}
+use mathlib.Core.Bool.{Bool, true, false, not, _&&_, _||_, Bool·not-not, and-assoc, and-true, or-false}
 use mathlib.Core.List.{List, []}
 use native.Mathlib.Omega.{arith}
 use native.Mathlib.Decide.{decLt}
 use native.Mathlib.Numerals.{add-one}
 use lib.Dec.{leb, ltb}
 use lib.ListN.{length, getD, take, drop}
-use lib.Seq.{take-all}
 use borrow.Author.Tests.{lt-ltb, le-ltb, le-leb, lt-leb}
 
 -- ---- `bad` is false as long as all below i passed
@@ -35,50 +34,35 @@ bad-end {n} {p} {bad} {i} s h = let e : i ≡ n = omega (arith, s .within) in rw
 -- ---- one word more
 
 not-less : (a b : ℕ) → not (ltb a b) ≡ leb b a
-not-less a b = go (decLt a b)
-  where
-    go : Dec (a < b) → not (ltb a b) ≡ leb b a
-    go (yes h) = rw (lt-ltb a b h, lt-leb b a h)
-    go (no h) = rw (le-ltb a b (omega arith), le-leb b a (omega arith))
+not-less a b =
+    elim (decLt a b) [
+      | yes h ↦ rw (lt-ltb a b h, lt-leb b a h)
+      | no h ↦ rw (le-ltb a b (omega arith), le-leb b a (omega arith))
+    ]
 
 not-most : (a b : ℕ) → not (leb a b) ≡ ltb b a
-not-most a b = go (decLt b a)
-  where
-    go : Dec (b < a) → not (leb a b) ≡ ltb b a
-    go (yes h) = rw (lt-ltb b a h, lt-leb a b h)
-    go (no h) = rw (le-ltb b a (omega arith), le-leb a b (omega arith))
+not-most a b = rw (← (not-less b a)) (Bool·not-not (ltb b a))
+
+not-or : (a b : Bool) → not (a || b) ≡ (not a && not b)
+not-or true b = refl
+not-or false b = refl
+
+not-and : (a b : Bool) → not (a && b) ≡ (not a || not b)
+not-and true b = refl
+not-and false b = refl
 
 module _ (s : List ℕ) (bad : Bool) (i : ℕ) (h : i < length s) where
   pub within-more : (low high : List ℕ) → NoneBad (length s) (between low high s) bad i → NoneBad (length s) (between low high s) ((bad || ltb (nth s i) (nth low i)) || ltb (nth high i) (nth s i)) (i + 1)
   unfolding between every
-  within-more low high v =
-      bad-more _ _ bad i _ v h (go bad (ltb (nth s i) (nth low i)) (ltb (nth high i) (nth s i)) ∙ rw (not-less (nth s i) (nth low i), not-less (nth high i) (nth s i)))
-    where
-      go : (a b c : Bool) → not ((a || b) || c) ≡ (not a && (not b && (not c && true)))
-      go true b c = refl
-      go false true c = refl
-      go false false true = refl
-      go false false false = refl
+  within-more low high v = bad-more _ _ bad i _ v h (simp (not-or, and-assoc, and-true, not-less))
 
   pub most-more : (top : ℕ) → NoneBad (length s) (noMore top s) bad i → NoneBad (length s) (noMore top s) (bad || ltb top (nth s i)) (i + 1)
   unfolding noMore
-  most-more top v = bad-more _ _ bad i _ v h (go bad (ltb top (nth s i)) ∙ rw (not-less top (nth s i)))
-    where
-      go : (a b : Bool) → not (a || b) ≡ (not a && not b)
-      go true b = refl
-      go false b = refl
+  most-more top v = bad-more _ _ bad i _ v h (simp (not-or, not-less))
 
   pub near-more : (from end : ℕ) → NoneBad (length s) (nearAt from end s) bad i → NoneBad (length s) (nearAt from end s) (bad || (ltb 2 (nth s i) && (ltb (nth s i) from || leb end (nth s i)))) (i + 1)
   unfolding nearAt some every
-  near-more from end v =
-      bad-more _ _ bad i _ v h (go bad (ltb 2 (nth s i)) (ltb (nth s i) from) (leb end (nth s i)) ∙ rw (not-less 2 (nth s i), not-less (nth s i) from, not-most end (nth s i)))
-    where
-      go : (a b c d : Bool) → not (a || (b && (c || d))) ≡ (not a && (not b || ((not c && (not d && true)) || false)))
-      go true b c d = refl
-      go false false c d = refl
-      go false true true d = refl
-      go false true false true = refl
-      go false true false false = refl
+  near-more from end v = bad-more _ _ bad i _ v h (simp (not-or, not-and, and-true, or-false, not-less, not-most))
 
 -- ---- words o to e - 1 of the slice are n words of section s from word i on
 
@@ -90,5 +74,5 @@ part-words w k ws s i n o e l p q =
 -- words o to e - 1 are section s
 pub section-words : (w k : ℕ) (ws : List ℕ) (s o e : ℕ) → place (lengths w k) s ≡ o → o + getD (lengths w k) s 0 ≡ e → e ≤ length ws → take (e - o) (drop o ws) ≡ getD (split (lengths w k) ws) s []
 section-words w k ws s o e p q l =
-    part-words w k ws s 0 (getD (lengths w k) s 0) o e (omega arith) (omega arith) q
-    ∙ take-all (getD (lengths w k) s 0) _ (rw (split-length (lengths w k) ws s (omega arith)) (omega arith))
+    let n : e - o ≡ getD (lengths w k) s 0 = omega arith in
+    rw (split-is (lengths w k) ws s, p, n)

@@ -5,8 +5,8 @@ use mathlib.Core.Bool.{Bool, true, false}
 use Prim.Native.Nat.{ℕ, zero, suc, _+_, _/_, _%_, _^_, _≤_, _<_, min}
 use native.Mathlib.Nat.{pow-suc, zero-div}
 use native.Mathlib.Omega.{arith}
+use Rattle.model.proofs.Laws.{bool-cases}
 use lib.Bits.{bitAnd, and-step}
-use lib.Dec.{eqb}
 use lib.Pow.{shr-shr}
 use borrow.Author.Tests.{eqb-true, eqb-false}
 use Rattle.model.specs.Base.{nth, testBit, bit}
@@ -57,11 +57,11 @@ bit-half x j = ap digit (test-half x j)
 
 pub bit-digit : (x j : ℕ) → bitOf x j ≡ x / 2 ^ j % 2
 unfolding testBit
-bit-digit x j = go (eqb (x / 2 ^ j % 2) 1) refl
-  where
-    go : (b : Bool) → eqb (x / 2 ^ j % 2) 1 ≡ b → digit b ≡ x / 2 ^ j % 2
-    go true e = digit-on refl ∙ sym (eqb-true _ _ e)
-    go false e = let z = digit-off {b = false} refl in omega (arith, z, eqb-false (x / 2 ^ j % 2) 1 e)
+bit-digit x j =
+    elim (bool-cases (testBit x j)) [
+      | inl e ↦ digit-on e ∙ sym (eqb-true _ _ e)
+      | inr e ↦ let z = digit-off e in omega (arith, eqb-false (x / 2 ^ j % 2) 1 e)
+    ]
 
 pub bit-zero : (x : ℕ) → bitOf x 0 ≡ x % 2
 bit-zero x = bit-digit x 0 ∙ omega arith

@@ -1,10 +1,12 @@
 -- The leading zeros of a word end at its highest set bit.
-use mathlib.Core.Path.{_≡_, refl, _∙_}
-use mathlib.Core.Bool.{Bool, true, false}
-use Prim.Native.Nat.{ℕ, zero, suc, _+_, _-_, _/_, _^_, _≤_, _<_}
+use mathlib.Core.Path.{_≡_, _∙_}
+use mathlib.Core.Bool.{true, false}
+use Prim.Native.Nat.{ℕ, zero, suc, _-_, _/_, _^_, _≤_, _<_}
 use native.Mathlib.Nat.{pow-suc}
 use native.Mathlib.Decide.{decLt}
 use native.Mathlib.Omega.{arith}
+use mathlib.Core.Logic.{inl, inr}
+use Rattle.model.proofs.Laws.{bool-cases}
 use lib.Count.{leadingZeros, leading-top}
 use lib.Pow.{pow-mono}
 use Rattle.model.specs.Base.{testBit}
@@ -20,11 +22,7 @@ pub record Highest (w x j : ℕ) : Type 0 where
 
 -- a number has no bit above its length
 pub bit-past : (x i : ℕ) → x < 2 ^ i → testBit x i ≡ false
-bit-past x i h = go (testBit x i) refl
-  where
-    go : (b : Bool) → testBit x i ≡ b → testBit x i ≡ false
-    go true e = absurd (omega (arith, set-within x i e))
-    go false e = e
+bit-past x i h = elim (bool-cases (testBit x i)) [ inl e ↦ absurd (omega (arith, set-within x i e)) | inr e ↦ e ]
 
 bit-top : (j x : ℕ) → 2 ^ j ≤ x → x < 2 ^ suc j → bitOf x j ≡ 1
 bit-top zero x l h = bit-zero x ∙ omega arith
@@ -39,13 +37,9 @@ pub record Leading (w x : ℕ) : Type 0 where
   pub few : leadingZeros 64 x ≤ 63
 
 pub word-leading : (w x : ℕ) → w ≤ 64 → x < 2 ^ w → (x ≡ 0 → ⊥) → Leading w x
-word-leading w x l h n = go (leading-top 64 x (omega arith) (below-pow l h))
-  where
-    go : (j : ℕ) × (leadingZeros 64 x + suc j ≡ 64) × (2 ^ j ≤ x) × (x < 2 ^ suc j) → Leading w x
-    go (j, e, a, b) =
-        let q : 63 - leadingZeros 64 x ≡ j = omega arith in
-        record { top = rw q (record { within = here (decLt j w); is-set = on-digit _ (bit-top j x a b); clear-above = λ i p. bit-past x i (below-pow {i = suc j} p b) }); few = omega arith }
-      where
-        here : Dec (j < w) → j < w
-        here (yes p) = p
-        here (no p) = absurd (omega (arith, below-pow {i = w} {j = j} (omega arith) h))
+word-leading w x l h n =
+    let (j, e, a, b) = leading-top 64 x (omega arith) (below-pow l h) in
+    let q : 63 - leadingZeros 64 x ≡ j = omega (arith, e) in
+    let i : j < w = elim (decLt j w) [ yes p ↦ p | no p ↦ absurd (omega (arith, a, below-pow {i = w} {j = j} (omega arith) h)) ] in
+    let top : Highest w x j = record { within = i; is-set = on-digit _ (bit-top j x a b); clear-above = λ i p. bit-past x i (below-pow {i = suc j} p b) } in
+    record { top = rw q top; few = omega (arith, e) }

@@ -1,6 +1,7 @@
 -- Parts of the slice read as a whole: words that are 0, gathered by a loop.
 use Rattle.image_laws.specs.Parts.{isZero, bothZero}
-use Rattle.image_laws.proofs.Split.{split-part}
+use Rattle.image_laws.proofs.Compare.{part-words}
+use Rattle.image_laws.proofs.Split.{split-is}
 use Rattle.model.specs.Base.{nth, all, zeroes}
 use Rattle.model.specs.Image.{place, lengths, split}
 use Prim.Native.Nat.{ℕ, zero, suc, _+_, _-_, _≤_, _<_}
@@ -10,13 +11,13 @@ use mathlib.Core.List.{List, [], _∷_}
 use native.Mathlib.Omega.{arith}
 use lib.Dec.{eqb}
 use lib.ListN.{length, getD, take, drop, length-drop}
-use lib.Seq.{drop-drop, length-take-le}
-use borrow.Author.Tests.{eq-eqb, ne-eqb}
+use lib.Seq.{length-take-le}
+use borrow.Author.Tests.{eq-eqb, eqb-true}
 use lib.Bits.{bitOr, and-le-l, and-le-r, or-add-and}
 use native.Mathlib.Numerals.{add-one}
-use native.Mathlib.Decide.{ℕ-discrete, decLt}
+use native.Mathlib.Decide.{decLt}
 use Rattle.model.proofs.Entries.{nth-drop, nth-take}
-use Rattle.model.proofs.Laws.{and-split, and-join, same-test, all-use, all-make}
+use Rattle.model.proofs.Laws.{and-split, same-test, all-use, all-make}
 use Rattle.model.specs.Examples.{at}
 
 -- ---- all of the numbers below n
@@ -46,18 +47,11 @@ unfolding all
 g-none = record { within = omega arith; so-far = eq-eqb 0 0 refl }
 
 or-zero : (a b : ℕ) → eqb (bitOr a b) 0 ≡ (eqb a 0 && eqb b 0)
-or-zero a b = go (ℕ-discrete a 0) (ℕ-discrete b 0)
-  where
-    go : Dec (a ≡ 0) → Dec (b ≡ 0) → eqb (bitOr a b) 0 ≡ (eqb a 0 && eqb b 0)
-    go (yes p) (yes q) =
-        let e : bitOr a b ≡ 0 = omega (arith, or-add-and a b) in
-        rw (eq-eqb (bitOr a b) 0 e, eq-eqb a 0 p, eq-eqb b 0 q)
-    go (no p) d =
-        let n : bitOr a b ≡ 0 → ⊥ = λ e. p (omega (arith, or-add-and a b, and-le-r a b)) in
-        rw (ne-eqb (bitOr a b) 0 n, ne-eqb a 0 p)
-    go (yes p) (no q) =
-        let n : bitOr a b ≡ 0 → ⊥ = λ e. q (omega (arith, or-add-and a b, and-le-l a b)) in
-        rw (ne-eqb (bitOr a b) 0 n, eq-eqb a 0 p, ne-eqb b 0 q)
+or-zero a b =
+    let o = or-add-and a b in
+    same-test _ _
+    (λ e. let z = eqb-true (bitOr a b) 0 e in rw (eq-eqb a 0 (omega (arith, and-le-r a b)), eq-eqb b 0 (omega (arith, and-le-l a b))))
+    (λ e. let s = and-split (eqb a 0) (eqb b 0) e in eq-eqb (bitOr a b) 0 (omega (arith, eqb-true a 0 (s .0), eqb-true b 0 (s .1))))
 
 pub g-more : (n : ℕ) (p : ℕ → Bool) (bad i x : ℕ) → Gathered n p bad i → i < n → eqb x 0 ≡ p i → Gathered n p (bitOr bad x) (i + 1)
 unfolding all
@@ -81,42 +75,28 @@ or-both l h i = or-zero (nth l i) (nth l (h + i))
 -- every word is one of the first n, or of the n behind the first h
 pub zeroes-both : (l : List ℕ) (n h : ℕ) → h + n ≡ length l → h ≤ n → all n (bothZero l h) ≡ zeroes l
 unfolding bothZero
-zeroes-both l n h e q = same-test _ _ there back ∙ zeroes-all l
-  where
-    there : all n (bothZero l h) ≡ true → all (length l) (isZero l) ≡ true
-    there t = all-make (length l) (isZero l) (λ i b. here i b (decLt i n))
-      where
-        here : (i : ℕ) → i < length l → Dec (i < n) → isZero l i ≡ true
-        here i b (yes p) = and-split (isZero l i) (isZero l (h + i)) (all-use n (bothZero l h) t i p) .0
-        here i b (no p) =
-            let z : h + (i - h) ≡ i = omega arith in
-            rw z at (and-split (isZero l (i - h)) (isZero l (h + (i - h))) (all-use n (bothZero l h) t (i - h) (omega arith)) .1)
-
-    back : all (length l) (isZero l) ≡ true → all n (bothZero l h) ≡ true
-    back t = all-make n (bothZero l h) (λ i p. and-join (isZero l i) (isZero l (h + i)) (all-use (length l) (isZero l) t i (omega arith)) (all-use (length l) (isZero l) t (h + i) (omega arith)))
+zeroes-both l n h e q =
+    same-test _ _
+    (λ t. all-make (length l) (isZero l) (λ i b. elim (decLt i n) [
+      | yes p ↦ and-split (isZero l i) (isZero l (h + i)) (all-use n (bothZero l h) t i p) .0
+      | no p ↦
+          let z : h + (i - h) ≡ i = omega arith in
+          rw z at (and-split (isZero l (i - h)) (isZero l (h + (i - h))) (all-use n (bothZero l h) t (i - h) (omega arith)) .1)
+    ]))
+    (λ t. let u = all-use (length l) (isZero l) t in all-make n (bothZero l h) (λ i p. rw (u i (omega arith), u (h + i) (omega arith))))
+    ∙ zeroes-all l
 
 -- ---- sections, and parts of them, by their stretch of the slice
-
-split-is : (ns ws : List ℕ) (s : ℕ) → s < length ns → getD (split ns ws) s [] ≡ take (getD ns s 0) (drop (place ns s) ws)
-unfolding split
-split-is [] ws s h = absurd (omega arith)
-split-is (n ∷ ns) ws zero h = refl
-split-is (n ∷ ns) ws (suc s) h = split-is ns (drop n ws) s (omega arith) ∙ rw (drop-drop (place ns s) n ws)
-
-sections-nine : (w k s : ℕ) → s < 9 → s < length (lengths w k)
-sections-nine w k s l = l
 
 -- words o to e - 1 are section s
 pub section-zero : (w k : ℕ) (ws : List ℕ) (r : Bool) (s o e : ℕ) → s < 9 → place (lengths w k) s ≡ o → o + getD (lengths w k) s 0 ≡ e → r ≡ zeroes (take (e - o) (drop o ws)) → r ≡ zeroes (getD (split (lengths w k) ws) s [])
 section-zero w k ws r s o e l p q h =
     let n : e - o ≡ getD (lengths w k) s 0 = omega arith in
-    rw (split-is (lengths w k) ws s (sections-nine w k s l), p) (rw n at h)
+    rw (split-is (lengths w k) ws s, p) (rw n at h)
 
 -- words o to e - 1 are n words of section s from word i on
 pub part-zero : (w k : ℕ) (ws : List ℕ) (r : Bool) (s i n o e : ℕ) → i + n ≤ getD (lengths w k) s 0 → place (lengths w k) s + i ≡ o → o + n ≡ e → r ≡ zeroes (take (e - o) (drop o ws)) → r ≡ zeroes (take n (drop i (getD (split (lengths w k) ws) s [])))
-part-zero w k ws r s i n o e l p q h =
-    let c : e - o ≡ n = omega arith in
-    rw (split-part (lengths w k) ws s i n l, p) (rw c at h)
+part-zero w k ws r s i n o e l p q h = h ∙ ap zeroes (part-words w k ws s i n o e l p q)
 
 -- n words of a list from word a on, one by one
 pub zero-stretch : (ws : List ℕ) (a n : ℕ) → a + n ≤ length ws → zeroes (take n (drop a ws)) ≡ all n (λ i. eqb (nth ws (a + i)) 0)

@@ -1,5 +1,6 @@
 -- The number of cards from the number of words, and what it says of a slice.
-use mathlib.Core.Path.{_≡_, refl, sym, ap, _∙_}
+use mathlib.Core.Path.{_≡_, sym, ap, _∙_}
+use mathlib.Core.Logic.{inl, inr}
 use mathlib.Core.Bool.{Bool, true, false}
 use mathlib.Core.List.{List, [], _∷_}
 use Prim.Native.Nat.{ℕ, _+_, _*_, _-_, _/_, _<_, _≤_}
@@ -9,7 +10,7 @@ use lib.Dec.{leb, eqb}
 use lib.ListN.{length}
 use Rattle.model.specs.Base.{every}
 use Rattle.model.specs.Image.{imageLength, mostCards, cardsOf, fits, imageOf, parts}
-use Rattle.model.proofs.Laws.{every-use}
+use Rattle.model.proofs.Laws.{bool-cases, every-use}
 use Rattle.model.proofs.Words.{width-cases, cards-length}
 use native.Mathlib.Nat.{div-eq-of-lt, le-div-iff-mul-le}
 use Rattle.image_laws.specs.declared.Extent.{Extent}
@@ -20,20 +21,12 @@ use Rattle.image_laws.specs.Sized.{Sized}
 -- ---- the ways out of `cards`, where a card has u words, r words lie behind, and a store has at most `most` cards
 
 module _ (w u r most n : ℕ) (per : (k : ℕ) → imageLength w k ≡ u * k + r) (lim : mostCards w ≡ most) (pos : 1 ≤ u) where
-  quotient : cardsOf w n ≡ (n - r) / u
-  unfolding cardsOf
-  quotient =
-      let z : imageLength w 0 ≡ r = per 0 ∙ omega arith in
-      let e : imageLength w 1 - imageLength w 0 ≡ u = omega (arith, per 1, per 0) in
-      rw (e, z)
-
-  fits-by : fits w n ≡ every (leb 1 ((n - r) / u) ∷ leb ((n - r) / u) most ∷ eqb n (u * ((n - r) / u) + r) ∷ [])
-  unfolding fits
-  fits-by = rw (quotient, lim, per)
-
   size-by : (b : Bool) → every (leb 1 ((n - r) / u) ∷ leb ((n - r) / u) most ∷ eqb n (u * ((n - r) / u) + r) ∷ []) ≡ b → extentBy b ((n - r) / u) ≡ extentOf w n
-  unfolding extentOf
-  size-by b e = rw (fits-by, e, quotient)
+  unfolding extentOf fits cardsOf
+  size-by b e =
+      let z : imageLength w 0 ≡ r = per 0 ∙ omega arith in
+      let d : imageLength w 1 - imageLength w 0 ≡ u = omega (arith, per 1, per 0) in
+      rw (d, z, lim, per, e)
 
   some-cards : u + r ≤ n → 1 ≤ (n - r) / u
   some-cards h = le-div-iff-mul-le pos .1 (omega arith)
@@ -62,40 +55,26 @@ module _ (w u r most n : ℕ) (per : (k : ℕ) → imageLength w k ≡ u * k + r
 
 -- ---- what the answer says
 
-size-cards : (b : Bool) (k j : ℕ) → extentBy b k ≡ Cards j → (b ≡ true) × (k ≡ j)
-unfolding extentBy
-size-cards true k j e = (refl, cc)
-size-cards false k j e = let z : _≡_ {A = ℕ} 0 1 = cc in absurd (omega arith)
-
-size-misfit : (b : Bool) (k : ℕ) → extentBy b k ≡ Misfit → b ≡ false
-unfolding extentBy
-size-misfit true k e = let z : _≡_ {A = ℕ} 0 1 = cc in absurd (omega arith)
-size-misfit false k e = refl
-
-pub fits-sized : (w : ℕ) (ws : List ℕ) → fits w (length ws) ≡ true → Sized w (cardsOf w (length ws)) ws
+fits-sized : (w : ℕ) (ws : List ℕ) → fits w (length ws) ≡ true → Sized w (cardsOf w (length ws)) ws
 unfolding fits
-fits-sized w ws e =
-    let n : ℕ = length ws in
-    let k : ℕ = cardsOf w n in
-    let l = leb 1 k ∷ leb k (mostCards w) ∷ eqb n (imageLength w k) ∷ [] in
-    record { low = leb-true 1 k (every-use l e 0); high = leb-true k (mostCards w) (every-use l e 1); long = eqb-true n (imageLength w k) (every-use l e 2) }
+fits-sized w ws e = record { low = leb-true _ _ (every-use _ e 0); high = leb-true _ _ (every-use _ e 1); long = eqb-true _ _ (every-use _ e 2) }
 
 pub sized-cards : (w k : ℕ) (ws : List ℕ) → Sized w k ws → cardsOf w (length ws) ≡ k
 sized-cards w k ws z = rw (z .long) (cards-length w k (width-cases w k (z .low) (z .high)))
 
 module _ (w : ℕ) (ws : List ℕ) (s : Extent) (e : s ≡ extentOf w (length ws)) where
   pub misfit-fits : s ≡ Misfit → fits w (length ws) ≡ false
-  unfolding extentOf
-  misfit-fits q = size-misfit _ _ (sym e ∙ q)
+  unfolding extentOf extentBy
+  misfit-fits q = elim (bool-cases (fits w (length ws))) [ inl h ↦ cc | inr h ↦ h ]
 
   module _ (k : ℕ) (q : s ≡ Cards k) where
     pub cards-fits : fits w (length ws) ≡ true
-    unfolding extentOf
-    cards-fits = size-cards _ _ k (sym e ∙ q) .0
+    unfolding extentOf extentBy
+    cards-fits = elim (bool-cases (fits w (length ws))) [ inl h ↦ h | inr h ↦ cc ]
 
     pub cards-sized : Sized w k ws
-    unfolding extentOf
-    cards-sized = let c = size-cards _ _ k (sym e ∙ q) in rw (c .1) at (fits-sized w ws (c .0))
+    unfolding extentOf extentBy
+    cards-sized = let h = cards-fits in let c : cardsOf w (length ws) ≡ k = cc in rw c at (fits-sized w ws h)
 
     pub cards-parts : parts w ws ≡ imageOf w k ws
     unfolding parts

@@ -1,21 +1,24 @@
 -- Lists of words that are equal word by word, and bit words of w bits that are equal bit by bit.
-use mathlib.Core.Path.{_≡_, refl, sym, ap, _∙_}
+use mathlib.Core.Path.{_≡_, sym, ap, _∙_}
 use mathlib.Core.Logic.{_⊎_}
-use mathlib.Core.Bool.{Bool, true, false, cond}
-use mathlib.Core.List.{List, [], _∷_}
-use Prim.Native.Nat.{ℕ, zero, suc, _+_, _*_, _/_, _%_, _^_, _<_, _≤_, suc-le-suc}
+use mathlib.Core.Bool.{Bool}
+use mathlib.Core.List.{List}
+use Prim.Native.Nat.{ℕ, zero, suc, _+_, _*_, _/_, _%_, _^_, _<_, _≤_}
 use native.Mathlib.Nat.{pow-suc, mod-lt}
 use native.Mathlib.Decide.{ℕ-discrete, decLt}
 use native.Mathlib.Omega.{arith}
 use lib.ListN.{length, replicate, length-replicate}
-use lib.Pow.{pow-pos}
+use lib.Bits.{or-lt}
+use lib.Pow.{pow-pos, pow-lt}
 use lib.Seq.{ext-getD}
-use Rattle.model.specs.Base.{nth, put, zeros, testBit, withBit, bit, setBit, addBits}
-use Rattle.model.proofs.Laws.{nth-replicate, nth-put-same, nth-put-other, put-out}
-use Rattle.model.proofs.Bits.{length-addBits, addBits-bit, bit-zeros}
+use Rattle.model.specs.Base.{nth, put, zeros, withBit, bit, setBit, addBits}
+use Rattle.model.proofs.Laws.{nth-out, nth-replicate, nth-put-same, nth-put-other, put-out}
+use Rattle.model.proofs.Bits.{addBits-keeps, length-addBits, addBits-bit, bit-zeros}
 use Rattle.image_laws.specs.Digits.{digit, bitOf}
-use Rattle.image_laws.proofs.Digits.{digit-off, bit-half, bit-zero}
-use Rattle.image_laws.proofs.Places.{place-word, place-bit, place-in, some-bits, word-in, words-full}
+use Rattle.image_laws.proofs.Digits.{bit-half, bit-zero}
+use Rattle.image_laws.proofs.Bits.{bit-at}
+use Rattle.image_laws.proofs.Masks.{or-pow}
+use Rattle.image_laws.proofs.Places.{place-in, some-bits, word-in, words-full}
 
 pub nth-ext : (l r : List ℕ) → length l ≡ length r → ((i : ℕ) → i < length l → nth l i ≡ nth r i) → l ≡ r
 unfolding nth
@@ -27,10 +30,7 @@ zero-words l r e f = nth-ext l (replicate (length r) 0) (rw length-replicate e) 
 
 -- a word that is not 0 lies in its list
 pub nth-in : (l : List ℕ) (c : ℕ) → 1 ≤ nth l c → c < length l
-unfolding nth
-nth-in [] c h = absurd (omega arith)
-nth-in (x ∷ l) zero h = omega arith
-nth-in (x ∷ l) (suc c) h = suc-le-suc (nth-in l c h)
+nth-in l c h = elim (decLt c (length l)) [ yes b ↦ b | no b ↦ absurd (omega (arith, nth-out l c (omega arith))) ]
 
 -- ---- a word of n bits
 
@@ -42,22 +42,8 @@ word-ext (suc n) x y hx hy f =
     let q : x / 2 ≡ y / 2 = word-ext n (x / 2) (y / 2) (omega arith) (omega arith) (λ j h. sym (bit-half x j) ∙ f (suc j) (omega arith) ∙ bit-half y j) in
     omega arith
 
-bit-room : (n x j : ℕ) → x < 2 ^ n → j < n → bitOf x j ≡ 0 → x + 2 ^ j < 2 ^ n
-bit-room zero x j hx hj e = absurd (omega arith)
-bit-room (suc n) x zero hx hj e = let p = pow-suc 2 n in let z = bit-zero x in omega (arith, e)
-bit-room (suc n) x (suc j) hx hj e =
-    let p = pow-suc 2 n in
-    let q = pow-suc 2 j in
-    let ih = bit-room n (x / 2) j (omega arith) (omega arith) (sym (bit-half x j) ∙ e) in
-    omega arith
-
 withBit-lt : (n x j : ℕ) → x < 2 ^ n → j < n → withBit x j < 2 ^ n
-unfolding withBit
-withBit-lt n x j hx hj = go (testBit x j) refl
-  where
-    go : (b : Bool) → testBit x j ≡ b → cond b x (x + 2 ^ j) < 2 ^ n
-    go true e = hx
-    go false e = bit-room n x j hx hj (digit-off e)
+withBit-lt n x j hx hj = rw (← (or-pow x j)) (or-lt n x (2 ^ j) hx (pow-lt hj))
 
 -- ---- words of w bits
 
@@ -65,45 +51,26 @@ abbrev pub Small : ℕ → List ℕ → Type 0
 Small w l = (i : ℕ) → nth l i < 2 ^ w
 
 put-small : (w : ℕ) (l : List ℕ) (i v : ℕ) → Small w l → v < 2 ^ w → Small w (put l i v)
-put-small w l i v s h j = go (ℕ-discrete j i) (decLt i (length l))
-  where
-    go : Dec (j ≡ i) → Dec (i < length l) → nth (put l i v) j < 2 ^ w
-    go (yes e) (yes b) = rw (e, nth-put-same l i v b) h
-    go (yes e) (no b) = rw (put-out l i v (omega arith)) (s j)
-    go (no e) b = rw (nth-put-other l i j v e) (s j)
+put-small w l i v s h j =
+    elim (ℕ-discrete j i) [
+      | yes e ↦ elim (decLt i (length l)) [ yes b ↦ rw (e, nth-put-same l i v b) h | no b ↦ rw (put-out l i v (omega arith)) (s j) ]
+      | no e ↦ rw (nth-put-other l i j v e) (s j)
+    ]
 
 addBits-small : (w : ℕ) → 0 < w → (p : ℕ → Bool) (n : ℕ) (l : List ℕ) → Small w l → Small w (addBits w p n l)
-unfolding addBits setBit
-addBits-small w o p zero l s = s
-addBits-small w o p (suc n) l s = go (addBits-small w o p n l s) (p n)
-  where
-    r : List ℕ
-    r = addBits w p n l
-
-    go : Small w r → (b : Bool) → Small w (cond b (put r (n / w) (withBit (nth r (n / w)) (n % w))) r)
-    go ih true = put-small w r (n / w) _ ih (withBit-lt w (nth r (n / w)) (n % w) (ih (n / w)) (mod-lt n o))
-    go ih false = ih
+unfolding setBit
+addBits-small w o p n = addBits-keeps (Small w) w p n (λ i r b s. put-small w r (i / w) _ s (withBit-lt w (nth r (i / w)) (i % w) (s (i / w)) (mod-lt i o)))
 
 -- bit words are those that their bits add
 module _ (w k : ℕ) (o : (w ≡ 16) ⊎ (w ≡ 32)) (p : ℕ → Bool) (l : List ℕ) (el : length l ≡ 64 * k / w) (s : Small w l) (f : (g : ℕ) → g < 64 * k → bit w l g ≡ p g) where
   pub bit-words : (z : List ℕ) → length z ≡ 64 * k / w → l ≡ addBits w p (64 * k) (zeros z)
   unfolding zeros
   bit-words z ez =
-      nth-ext l r (el ∙ sym ez ∙ sym len) (λ i h. word-ext w (nth l i) (nth r i) (s i) (addBits-small w (some-bits w k o) p (64 * k) _ none i) (λ j hj. same i j h hj))
-    where
-      r : List ℕ
-      r = addBits w p (64 * k) (replicate (length z) 0)
-
-      len : length r ≡ length z
-      len = length-addBits w p (64 * k) (replicate (length z) 0) ∙ length-replicate (length z) 0
-
-      none : Small w (replicate (length z) 0)
-      none i = rw (nth-replicate (length z) i) (pow-pos w)
-
-      bits : (g : ℕ) → g < 64 * k → bit w l g ≡ bit w r g
-      bits g h = f g h ∙ sym (addBits-bit w p (64 * k) (replicate (length z) 0) g h (λ i q. rw (length-replicate {A = ℕ} (length z) 0, ez) (word-in w k o i q)) (bit-zeros w (length z)))
-
-      same : (i j : ℕ) → i < length l → j < w → bitOf (nth l i) j ≡ bitOf (nth r i) j
-      same i j h hj =
-          let q : testBit (nth l ((w * i + j) / w)) ((w * i + j) % w) ≡ testBit (nth r ((w * i + j) / w)) ((w * i + j) % w) = unfold bit in bits (w * i + j) (omega (arith, place-in w i j hj (64 * k / w) (omega arith), words-full w k o)) in
-          ap digit (rw (place-word w i j hj, place-bit w i j hj) at q)
+      let zs : List ℕ = replicate (length z) 0 in
+      let r : List ℕ = addBits w p (64 * k) zs in
+      let len : length r ≡ length z = length-addBits w p (64 * k) zs ∙ length-replicate (length z) 0 in
+      let none : Small w zs = λ i. rw (nth-replicate (length z) i) (pow-pos w) in
+      let bits : (g : ℕ) → g < 64 * k → bit w l g ≡ bit w r g =
+      λ g h. f g h ∙ sym (addBits-bit w p (64 * k) zs g h (λ i q. rw (length-replicate {A = ℕ} (length z) 0, ez) (word-in w k o i q)) (bit-zeros w (length z))) in
+      nth-ext l r (el ∙ sym ez ∙ sym len) (λ i h. word-ext w (nth l i) (nth r i) (s i) (addBits-small w (some-bits w k o) p (64 * k) zs none i) (λ j hj.
+      ap digit (sym (bit-at w l i j hj) ∙ bits (w * i + j) (omega (arith, place-in w i j hj (64 * k / w) (omega arith), words-full w k o)) ∙ bit-at w r i j hj)))

@@ -1,17 +1,17 @@
 -- The computed closure is the least set: it holds what derivations give, and nothing else.
-use mathlib.Core.Path.{_≡_, refl, ap, _∙_}
-use mathlib.Core.Logic.{_⊎_, inl, inr}
-use mathlib.Core.Bool.{Bool, true, false, cond}
+use mathlib.Core.Path.{_≡_, refl, sym, ap, _∙_}
+use mathlib.Core.Logic.{_⊎_, inl, inr, ⊎-elim}
+use mathlib.Core.Bool.{Bool, true, false}
 use mathlib.Core.List.{List, [], _∷_, List·Memᴰ, List·Memᴰ·head, List·Memᴰ·tail}
 use Prim.Native.Nat.{ℕ, zero, suc, _+_, _≤_, _<_, zero-le, suc-le-suc}
-use native.Mathlib.Nat.{not-suc-le-zero, le-of-suc-le-suc}
 use native.Mathlib.Decide.{ℕ-discrete}
 use native.Mathlib.Omega.{arith}
 use lib.Dec.{leb}
 use lib.ListN.{length, getD, set, replicate, length-set, length-replicate}
+use lib.Seq.{getD-set-same, getD-set-other}
 use borrow.Author.Tests.{leb-true, leb-false}
 use Rattle.model.specs.Closure.{addAll, round, members, closure, reached}
-use Rattle.model.proofs.Laws.{false≢}
+use Rattle.model.proofs.Laws.{false≢, bool-cases}
 
 -- g is in the set
 abbrev pub In : List Bool → ℕ → Type 0
@@ -24,22 +24,6 @@ set-mono (x ∷ s) zero (suc h) e = e
 set-mono (x ∷ s) (suc g) zero e = e
 set-mono (x ∷ s) (suc g) (suc h) e = set-mono s g h e
 
-set-has : (s : List Bool) (g : ℕ) → g < length s → In (set s g true) g
-set-has [] g h = absurd (not-suc-le-zero h)
-set-has (x ∷ s) zero h = refl
-set-has (x ∷ s) (suc g) h = set-has s g (le-of-suc-le-suc h)
-
-set-only : (s : List Bool) (g h : ℕ) → In (set s g true) h → (h ≡ g) ⊎ In s h
-set-only [] g h e = inr e
-set-only (x ∷ s) zero zero e = inl refl
-set-only (x ∷ s) zero (suc h) e = inr e
-set-only (x ∷ s) (suc g) zero e = inr e
-set-only (x ∷ s) (suc g) (suc h) e = up (set-only s g h e)
-  where
-    up : (h ≡ g) ⊎ In s h → (suc h ≡ suc g) ⊎ In s h
-    up (inl p) = inl (ap suc p)
-    up (inr q) = inr q
-
 length-addAll : (gs : List ℕ) (s : List Bool) → length (addAll gs s) ≡ length s
 unfolding addAll
 length-addAll [] s = refl
@@ -50,47 +34,30 @@ unfolding addAll
 addAll-mono [] s h e = e
 addAll-mono (g ∷ gs) s h e = addAll-mono gs (set s g true) h (set-mono s g h e)
 
-pub addAll-has : (gs : List ℕ) (s : List Bool) (a : ℕ) → List·Memᴰ a gs → a < length s → In (addAll gs s) a
+addAll-has : (gs : List ℕ) (s : List Bool) (a : ℕ) → List·Memᴰ a gs → a < length s → In (addAll gs s) a
 unfolding addAll
-addAll-has (g ∷ gs) s a (List·Memᴰ·head e) h = addAll-mono gs (set s g true) a (rw e (set-has s g (omega arith)))
+addAll-has (g ∷ gs) s a (List·Memᴰ·head e) h = addAll-mono gs (set s g true) a (rw e (getD-set-same s g true false (omega arith)))
 addAll-has (g ∷ gs) s a (List·Memᴰ·tail m) h = addAll-has gs (set s g true) a m (omega (arith, length-set s g true))
 
-pub addAll-only : (gs : List ℕ) (s : List Bool) (a : ℕ) → In (addAll gs s) a → List·Memᴰ a gs ⊎ In s a
+addAll-only : (gs : List ℕ) (s : List Bool) (a : ℕ) → In (addAll gs s) a → List·Memᴰ a gs ⊎ In s a
 unfolding addAll
 addAll-only [] s a e = inr e
-addAll-only (g ∷ gs) s a e = first (addAll-only gs (set s g true) a e)
-  where
-    second : (a ≡ g) ⊎ In s a → List·Memᴰ a (g ∷ gs) ⊎ In s a
-    second (inl p) = inl (List·Memᴰ·head p)
-    second (inr q) = inr q
+addAll-only (g ∷ gs) s a e =
+    elim (ℕ-discrete a g) [
+      | yes p ↦ inl (List·Memᴰ·head p)
+      | no n ↦ ⊎-elim (λ m. inl (List·Memᴰ·tail m)) (λ i. inr (sym (getD-set-other s g a true false n) ∙ i)) (addAll-only gs (set s g true) a e)
+    ]
 
-    first : List·Memᴰ a gs ⊎ In (set s g true) a → List·Memᴰ a (g ∷ gs) ⊎ In s a
-    first (inl m) = inl (List·Memᴰ·tail m)
-    first (inr e′) = second (set-only s g a e′)
-
--- a set that holds another has no fewer members
-members-mono : (s r : List Bool) → length r ≡ length s → ((h : ℕ) → In s h → In r h) → members s ≤ members r
+-- a set that holds another has no fewer members, and is that one where it has no more
+members-mono : (s r : List Bool) → length r ≡ length s → ((h : ℕ) → In s h → In r h) → (members s ≤ members r) × (members r ≤ members s → r ≡ s)
 unfolding members
-members-mono [] [] l sub = zero-le
-members-mono [] (y ∷ r) l sub = zero-le
+members-mono [] [] l sub = (zero-le, λ le. refl)
+members-mono [] (y ∷ r) l sub = absurd (omega arith)
 members-mono (x ∷ s) [] l sub = absurd (omega arith)
-members-mono (true ∷ s) (true ∷ r) l sub = suc-le-suc (members-mono s r (omega arith) (λ h. sub (suc h)))
-members-mono (false ∷ s) (true ∷ r) l sub = omega (arith, members-mono s r (omega arith) (λ h. sub (suc h)))
+members-mono (true ∷ s) (true ∷ r) l sub = let q = members-mono s r (omega arith) (λ h. sub (suc h)) in (suc-le-suc (q .0), λ le. ap (λ z. true ∷ z) (q .1 (omega arith)))
+members-mono (false ∷ s) (true ∷ r) l sub = let q = members-mono s r (omega arith) (λ h. sub (suc h)) in (omega (arith, q .0), λ le. absurd (omega (arith, q .0)))
 members-mono (true ∷ s) (false ∷ r) l sub = false≢ (sub zero refl)
-members-mono (false ∷ s) (false ∷ r) l sub = members-mono s r (omega arith) (λ h. sub (suc h))
-
--- and is that one where it has no more
-same-members : (s r : List Bool) → length r ≡ length s → ((h : ℕ) → In s h → In r h) → members r ≤ members s → (h : ℕ) → In r h → In s h
-unfolding members
-same-members s [] l sub le h e = false≢ e
-same-members [] (y ∷ r) l sub le h e = absurd (omega arith)
-same-members (true ∷ s) (y ∷ r) l sub le zero e = refl
-same-members (false ∷ s) (true ∷ r) l sub le zero e = absurd (omega (arith, members-mono s r (omega arith) (λ h. sub (suc h))))
-same-members (false ∷ s) (false ∷ r) l sub le zero e = e
-same-members (true ∷ s) (true ∷ r) l sub le (suc h) e = same-members s r (omega arith) (λ h. sub (suc h)) (omega arith) h e
-same-members (true ∷ s) (false ∷ r) l sub le (suc h) e = false≢ (sub zero refl)
-same-members (false ∷ s) (true ∷ r) l sub le (suc h) e = same-members s r (omega arith) (λ h. sub (suc h)) (omega arith) h e
-same-members (false ∷ s) (false ∷ r) l sub le (suc h) e = same-members s r (omega arith) (λ h. sub (suc h)) le h e
+members-mono (false ∷ s) (false ∷ r) l sub = let q = members-mono s r (omega arith) (λ h. sub (suc h)) in (q .0, λ le. ap (λ z. false ∷ z) (q .1 le))
 
 members-le-length : (s : List Bool) → members s ≤ length s
 unfolding members
@@ -99,102 +66,48 @@ members-le-length (true ∷ s) = suc-le-suc (members-le-length s)
 members-le-length (false ∷ s) = omega (arith, members-le-length s)
 
 module _ (f : ℕ → List ℕ) where
+  -- what it keeps to follow a member, a round keeps, and so does the closure
+  module _ (P : List Bool → Type 0) (c : (g : ℕ) (s : List Bool) → In s g → P s → P (addAll (f g) s)) (n : ℕ) where
+    round-keeps : (j : ℕ) (s : List Bool) → P s → P (round f j s)
+    unfolding round
+    round-keeps zero s q = q
+    round-keeps (suc j) s q =
+        let h = round-keeps j s q in
+        elim (bool-cases (getD (round f j s) j false)) [ inl e ↦ rw e (c j (round f j s) e h) | inr e ↦ rw e h ]
+
+    closure-keeps : (j : ℕ) (s : List Bool) → P s → P (closure f n j s)
+    unfolding closure
+    closure-keeps zero s q = q
+    closure-keeps (suc j) s q =
+        let h = closure-keeps j (round f n s) (round-keeps n s q) in
+        elim (bool-cases (leb (members (round f n s)) (members s))) [ inl e ↦ rw (e, closure) q | inr e ↦ rw (e, closure) h ]
+
   length-round : (n : ℕ) (s : List Bool) → length (round f n s) ≡ length s
-  unfolding round
-  length-round zero s = refl
-  length-round (suc n) s = go (getD (round f n s) n false) ∙ length-round n s
-    where
-      go : (b : Bool) → length (cond b (addAll (f n) (round f n s)) (round f n s)) ≡ length (round f n s)
-      go true = length-addAll (f n) (round f n s)
-      go false = refl
+  length-round n s = round-keeps (λ r. length r ≡ length s) (λ g r i e. length-addAll (f g) r ∙ e) n n s refl
 
   round-mono : (n : ℕ) (s : List Bool) (h : ℕ) → In s h → In (round f n s) h
-  unfolding round
-  round-mono zero s h e = e
-  round-mono (suc n) s h e = go (getD (round f n s) n false) (round-mono n s h e)
-    where
-      go : (b : Bool) → In (round f n s) h → In (cond b (addAll (f n) (round f n s)) (round f n s)) h
-      go true i = addAll-mono (f n) (round f n s) h i
-      go false i = i
+  round-mono n s h = round-keeps (λ r. In r h) (λ g r i. addAll-mono (f g) r h) n n s
 
   round-has : (n : ℕ) (s : List Bool) (g a : ℕ) → g < n → In s g → List·Memᴰ a (f g) → a < length s → In (round f n s) a
   unfolding round
-  round-has zero s g a h i m l = absurd (not-suc-le-zero h)
-  round-has (suc n) s g a h i m l = here (λ lt. round-has n s g a lt i m l) (ℕ-discrete g n)
-    where
-      r : List Bool
-      r = round f n s
+  round-has zero s g a h i m l = absurd (omega arith)
+  round-has (suc n) s g a h i m l =
+      let r : List Bool = round f n s in
+      elim (ℕ-discrete g n) [
+        | yes e ↦ rw (rw e at (round-mono n s g i)) (addAll-has (f n) r a (rw e at m) (omega (arith, length-round n s)))
+        | no ne ↦ let k = round-has n s g a (omega arith) i m l in elim (bool-cases (getD r n false)) [ inl e ↦ rw e (addAll-mono (f n) r a k) | inr e ↦ rw e k ]
+      ]
 
-      up : (b : Bool) → In r a → In (cond b (addAll (f n) r) r) a
-      up true j = addAll-mono (f n) r a j
-      up false j = j
-
-      here : (g < n → In r a) → Dec (g ≡ n) → In (cond (getD r n false) (addAll (f n) r) r) a
-      here ih (yes e) = rw (rw e at (round-mono n s g i)) (addAll-has (f n) r a (rw e at m) (omega (arith, length-round n s)))
-      here ih (no ne) = up (getD r n false) (ih (omega arith))
-
-  round-only : (P : ℕ → Type 0) → ((g a : ℕ) → P g → List·Memᴰ a (f g) → P a) → (n : ℕ) (s : List Bool) → ((g : ℕ) → In s g → P g) → (h : ℕ) → In (round f n s) h → P h
-  unfolding round
-  round-only P c zero s q h i = q h i
-  round-only P c (suc n) s q h i = go (round-only P c n s q) (getD (round f n s) n false) refl i
-    where
-      r : List Bool
-      r = round f n s
-
-      go : ((h : ℕ) → In r h → P h) → (b : Bool) → getD r n false ≡ b → In (cond b (addAll (f n) r) r) h → P h
-      go ih true e j = pick (addAll-only (f n) r h j)
-        where
-          pick : List·Memᴰ h (f n) ⊎ In r h → P h
-          pick (inl m) = c n h (ih n e) m
-          pick (inr k) = ih h k
-      go ih false e j = ih h j
-
-  -- no round adds anything
-  pub Stable : ℕ → List Bool → Type 0
-  Stable n s = members (round f n s) ≤ members s
-
-  closure-stable : (n j : ℕ) (s : List Bool) → length s ≤ members s + j → Stable n (closure f n j s)
-  unfolding closure Stable
+  -- no round adds anything to the closure
+  closure-stable : (n j : ℕ) (s : List Bool) → length s ≤ members s + j → members (round f n (closure f n j s)) ≤ members (closure f n j s)
+  unfolding closure
   closure-stable n zero s h = omega (arith, members-le-length (round f n s), length-round n s)
-  closure-stable n (suc j) s h = go (closure-stable n j (round f n s)) (leb (members (round f n s)) (members s)) refl
-    where
-      r : List Bool
-      r = round f n s
-
-      go : (length r ≤ members r + j → Stable n (closure f n j r)) → (b : Bool) → leb (members r) (members s) ≡ b → Stable n (elim b [ true ↦ s | false ↦ closure f n j r ])
-      go ih true e = leb-true _ _ e
-      go ih false e = ih (omega (arith, leb-false, length-round n s))
-
-  stable-closed : (n : ℕ) (s : List Bool) → Stable n s → (g a : ℕ) → g < n → In s g → List·Memᴰ a (f g) → a < length s → In s a
-  unfolding Stable
-  stable-closed n s st g a h i m l = same-members s (round f n s) (length-round n s) (round-mono n s) st a (round-has n s g a h i m l)
-
-  closure-only : (P : ℕ → Type 0) → ((g a : ℕ) → P g → List·Memᴰ a (f g) → P a) → (n j : ℕ) (s : List Bool) → ((g : ℕ) → In s g → P g) → (h : ℕ) → In (closure f n j s) h → P h
-  unfolding closure
-  closure-only P c n zero s q h i = q h i
-  closure-only P c n (suc j) s q h i = go (closure-only P c n j (round f n s) (round-only P c n s q) h) (leb (members (round f n s)) (members s)) i
-    where
-      go : (In (closure f n j (round f n s)) h → P h) → (b : Bool) → In (elim b [ true ↦ s | false ↦ closure f n j (round f n s) ]) h → P h
-      go ih true k = q h k
-      go ih false k = ih k
-
-  closure-mono : (n j : ℕ) (s : List Bool) (h : ℕ) → In s h → In (closure f n j s) h
-  unfolding closure
-  closure-mono n zero s h i = i
-  closure-mono n (suc j) s h i = go (closure-mono n j (round f n s) h (round-mono n s h i)) (leb (members (round f n s)) (members s))
-    where
-      go : In (closure f n j (round f n s)) h → (b : Bool) → In (elim b [ true ↦ s | false ↦ closure f n j (round f n s) ]) h
-      go k true = i
-      go k false = k
-
-  length-closure : (n j : ℕ) (s : List Bool) → length (closure f n j s) ≡ length s
-  unfolding closure
-  length-closure n zero s = refl
-  length-closure n (suc j) s = go (length-closure n j (round f n s) ∙ length-round n s) (leb (members (round f n s)) (members s))
-    where
-      go : length (closure f n j (round f n s)) ≡ length s → (b : Bool) → length {A = Bool} (elim b [ true ↦ s | false ↦ closure f n j (round f n s) ]) ≡ length s
-      go k true = refl
-      go k false = k
+  closure-stable n (suc j) s h =
+      let r : List Bool = round f n s in
+      elim (bool-cases (leb (members r) (members s))) [
+        | inl e ↦ rw (e, closure) (leb-true _ _ e)
+        | inr e ↦ rw (e, closure) (closure-stable n j r (omega (arith, leb-false, length-round n s)))
+      ]
 
 -- The same by derivations
 pub data Reached (f : ℕ → List ℕ) (l : List ℕ) : ℕ → Type 0 where
@@ -208,29 +121,23 @@ replicate-none (suc n) (suc h) e = replicate-none n h e
 
 pub reached-sound : (n : ℕ) (f : ℕ → List ℕ) (l : List ℕ) (h : ℕ) → In (reached n f l) h → Reached f l h
 unfolding reached
-reached-sound n f l h i = closure-only f (Reached f l) (λ g a. follow) n n (addAll l (replicate n false)) start h i
-  where
-    pick : (g : ℕ) → List·Memᴰ g l ⊎ In (replicate n false) g → Reached f l g
-    pick g (inl m) = seed m
-    pick g (inr k) = absurd (replicate-none n g k)
-
-    start : (g : ℕ) → In (addAll l (replicate n false)) g → Reached f l g
-    start g k = pick g (addAll-only l (replicate n false) g k)
+reached-sound n f l =
+    closure-keeps f
+    (λ s. (h : ℕ) → In s h → Reached f l h)
+    (λ g s i q h k. ⊎-elim (λ m. follow (q g i) m) (λ j. q h j) (addAll-only (f g) s h k))
+    n n (addAll l (replicate n false))
+    (λ g k. ⊎-elim (λ m. seed m) (λ j. absurd (replicate-none n g j)) (addAll-only l (replicate n false) g k))
 
 -- where all that is reached lies below n
 pub reached-complete : (n : ℕ) (f : ℕ → List ℕ) (l : List ℕ) → ((a : ℕ) → Reached f l a → a < n) → (h : ℕ) → Reached f l h → In (reached n f l) h
 unfolding reached
-reached-complete n f l b h (seed m) = closure-mono f n n (addAll l (replicate n false)) h (addAll-has l (replicate n false) h m (rw length-replicate (b h (seed m))))
-reached-complete n f l b h (follow {g = g} q m) = go (reached-complete n f l b g q)
-  where
-    s : List Bool
-    s = addAll l (replicate n false)
-
-    len : length (closure f n n s) ≡ n
-    len = length-closure f n n s ∙ length-addAll l (replicate n false) ∙ length-replicate n false
-
-    st : Stable f n (closure f n n s)
-    st = closure-stable f n n s (omega (arith, length-addAll l (replicate n false), length-replicate n false))
-
-    go : In (closure f n n s) g → In (closure f n n s) h
-    go i = stable-closed f n (closure f n n s) st g h (b g q) i m (omega (arith, len, b h (follow q m)))
+reached-complete n f l b h (seed m) =
+    let s : List Bool = addAll l (replicate n false) in
+    closure-keeps f (λ r. In r h) (λ g r i. addAll-mono (f g) r h) n n s (addAll-has l (replicate n false) h m (rw length-replicate (b h (seed m))))
+reached-complete n f l b h (follow {g = g} q m) =
+    let s : List Bool = addAll l (replicate n false) in
+    let c : List Bool = closure f n n s in
+    let ls : length s ≡ n = length-addAll l (replicate n false) ∙ length-replicate n false in
+    let lc : length c ≡ n = closure-keeps f (λ r. length r ≡ n) (λ g r i e. length-addAll (f g) r ∙ e) n n s ls in
+    let whole : round f n c ≡ c = members-mono c (round f n c) (length-round f n c) (round-mono f n c) .1 (closure-stable f n n s (omega arith)) in
+    rw whole at (round-has f n c g h (b g q) (reached-complete n f l b g q) m (omega (arith, b h (follow q m))))

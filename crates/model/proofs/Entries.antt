@@ -1,13 +1,13 @@
 -- Pieces of a list, members of a list and the entries of packets, by place.
 use mathlib.Core.Path.{_≡_, refl, sym, ap, _∙_}
-use mathlib.Core.Logic.{_⊎_, inl, inr}
-use mathlib.Core.Bool.{Bool, true, _||_}
+use mathlib.Core.Logic.{_⊎_, inl, inr, ⊎-elim}
+use mathlib.Core.Bool.{Bool, true}
 use mathlib.Core.List.{List, [], _∷_, _++_}
 use Prim.Native.Nat.{ℕ, zero, suc, _+_, _*_, _≤_, _<_}
 use native.Mathlib.Nat.{mul-zero, mul-suc, add-comm}
 use native.Mathlib.Omega.{arith}
 use lib.Dec.{eqb}
-use lib.ListN.{length, getD, take, drop, length-take, length-drop}
+use lib.ListN.{length, take, drop, length-take, length-drop}
 use lib.Seq.{drop-drop, getD-drop, getD-take}
 use borrow.Author.Tests.{eqb-true, eq-eqb}
 use Rattle.model.specs.Base.{nth, elem, eachPiece}
@@ -24,9 +24,6 @@ nth-take n l i h = getD-take n l i 0 h
 
 -- ---- each of the pieces of a list
 
-piece-first : (s : ℕ) (ws : List ℕ) → take s (drop (s * 0) ws) ≡ take s ws
-piece-first s ws = rw (mul-zero s) refl
-
 piece-next : (s i : ℕ) (ws : List ℕ) → take s (drop (s * suc i) ws) ≡ take s (drop (s * i) (drop s ws))
 piece-next s i ws = rw (mul-suc s i, add-comm (s * i) s, drop-drop (s * i) s ws) refl
 
@@ -34,14 +31,14 @@ pub eachPiece-make : (s n : ℕ) (p : List ℕ → Bool) (ws : List ℕ) → ((i
 unfolding eachPiece
 eachPiece-make s zero p ws f = refl
 eachPiece-make s (suc n) p ws f =
-    and-join (p (take s ws)) (eachPiece s n p (drop s ws)) (ap p (sym (piece-first s ws)) ∙ f zero (omega arith))
+    and-join (p (take s ws)) (eachPiece s n p (drop s ws)) (rw (mul-zero s) at (f zero (omega arith)))
     (eachPiece-make s n p (drop s ws) (λ i h. ap p (sym (piece-next s i ws)) ∙ f (suc i) (omega arith)))
 
 -- piece i of those that each pass
 pub eachPiece-use : (s n : ℕ) (p : List ℕ → Bool) (ws : List ℕ) → eachPiece s n p ws ≡ true → (i : ℕ) → i < n → p (take s (drop (s * i) ws)) ≡ true
 unfolding eachPiece
 eachPiece-use s zero p ws e i h = absurd (omega arith)
-eachPiece-use s (suc n) p ws e zero h = ap p (piece-first s ws) ∙ (and-split (p (take s ws)) _ e) .0
+eachPiece-use s (suc n) p ws e zero h = rw (mul-zero s) ((and-split (p (take s ws)) _ e) .0)
 eachPiece-use s (suc n) p ws e (suc i) h = ap p (piece-next s i ws) ∙ eachPiece-use s n p (drop s ws) ((and-split (p (take s ws)) _ e) .1) i (omega arith)
 
 -- ---- members of a list by place
@@ -49,11 +46,11 @@ eachPiece-use s (suc n) p ws e (suc i) h = ap p (piece-next s i ws) ∙ eachPiec
 pub elem-use : (g : ℕ) (l : List ℕ) → elem g l ≡ true → (i : ℕ) × (i < length l) × (nth l i ≡ g)
 unfolding elem nth
 elem-use g [] e = false≢ e
-elem-use g (x ∷ l) e = go (elem-use g l) (or-split (eqb g x) (elem g l) e)
-  where
-    go : (elem g l ≡ true → (i : ℕ) × (i < length l) × (getD l i 0 ≡ g)) → (eqb g x ≡ true) ⊎ (elem g l ≡ true) → (i : ℕ) × (i < suc (length l)) × (getD (x ∷ l) i 0 ≡ g)
-    go ih (inl q) = (0, omega arith, sym (eqb-true g x q))
-    go ih (inr q) = let r = ih q in (suc (r .0), omega (arith, r .1), r .2)
+elem-use g (x ∷ l) e =
+    elim (or-split (eqb g x) (elem g l) e) [
+      | inl q ↦ (0, omega arith, sym (eqb-true g x q))
+      | inr q ↦ let r = elem-use g l q in (suc (r .0), omega (arith, r .1), r .2)
+    ]
 
 pub elem-make : (g : ℕ) (l : List ℕ) (i : ℕ) → i < length l → nth l i ≡ g → elem g l ≡ true
 unfolding elem nth
@@ -64,24 +61,16 @@ elem-make g (x ∷ l) (suc i) h e = or-right (eqb g x) (elem g l) (elem-make g l
 pub elem-split : (g : ℕ) (l r : List ℕ) → elem g (l ++ r) ≡ true → (elem g l ≡ true) ⊎ (elem g r ≡ true)
 unfolding elem
 elem-split g [] r e = inr e
-elem-split g (x ∷ l) r e = go (elem-split g l r) (or-split (eqb g x) (elem g (l ++ r)) e)
-  where
-    go : (elem g (l ++ r) ≡ true → (elem g l ≡ true) ⊎ (elem g r ≡ true)) → (eqb g x ≡ true) ⊎ (elem g (l ++ r) ≡ true) → ((eqb g x || elem g l) ≡ true) ⊎ (elem g r ≡ true)
-    go ih (inl q) = inl (or-left (eqb g x) (elem g l) q)
-    go ih (inr q) = two (ih q)
-      where
-        two : (elem g l ≡ true) ⊎ (elem g r ≡ true) → ((eqb g x || elem g l) ≡ true) ⊎ (elem g r ≡ true)
-        two (inl p) = inl (or-right (eqb g x) (elem g l) p)
-        two (inr p) = inr p
+elem-split g (x ∷ l) r e =
+    elim (or-split (eqb g x) (elem g (l ++ r)) e) [
+      | inl q ↦ inl (rw q)
+      | inr q ↦ ⊎-elim (λ p. inl (or-right (eqb g x) (elem g l) p)) inr (elem-split g l r q)
+    ]
 
 pub elem-left : (g : ℕ) (l r : List ℕ) → elem g l ≡ true → elem g (l ++ r) ≡ true
 unfolding elem
 elem-left g [] r e = false≢ e
-elem-left g (x ∷ l) r e = go (elem-left g l r) (or-split (eqb g x) (elem g l) e)
-  where
-    go : (elem g l ≡ true → elem g (l ++ r) ≡ true) → (eqb g x ≡ true) ⊎ (elem g l ≡ true) → (eqb g x || elem g (l ++ r)) ≡ true
-    go ih (inl q) = or-left (eqb g x) (elem g (l ++ r)) q
-    go ih (inr q) = or-right (eqb g x) (elem g (l ++ r)) (ih q)
+elem-left g (x ∷ l) r e = elim (or-split (eqb g x) (elem g l) e) [ inl q ↦ rw q | inr q ↦ or-right (eqb g x) (elem g (l ++ r)) (elem-left g l r q) ]
 
 pub elem-right : (g : ℕ) (l r : List ℕ) → elem g r ≡ true → elem g (l ++ r) ≡ true
 unfolding elem
@@ -101,24 +90,24 @@ pub record EntryAt (n : ℕ) (ps : List ℕ) (g : ℕ) : Type 0 where
 pub entries-use : (n : ℕ) (ps : List ℕ) (g : ℕ) → elem g (entriesOf n ps) ≡ true → EntryAt n ps g
 unfolding entriesOf elem
 entries-use zero ps g e = false≢ e
-entries-use (suc n) ps g e = go (entries-use n (drop 32 ps) g) (elem-split g (take (nth ps 0) (drop 2 ps)) (entriesOf n (drop 32 ps)) e)
-  where
-    go : (elem g (entriesOf n (drop 32 ps)) ≡ true → EntryAt n (drop 32 ps) g) → (elem g (take (nth ps 0) (drop 2 ps)) ≡ true) ⊎ (elem g (entriesOf n (drop 32 ps)) ≡ true) → EntryAt (suc n) ps g
-    go ih (inl q) =
-        let r = elem-use g (take (nth ps 0) (drop 2 ps)) q in
-        let h : r .0 < nth ps 0 = omega (arith, r .1, length-take (nth ps 0) (drop 2 ps)) in
-        record { packet = 0; place = r .0; is-packet = omega arith; below = h; is-entry = sym (nth-drop 2 ps (r .0)) ∙ (sym (nth-take (nth ps 0) (drop 2 ps) (r .0) h) ∙ r .2) }
-    go ih (inr q) =
-        let r = ih q in
-        let c : 32 + 32 * r .packet ≡ 32 * suc (r .packet) = omega arith in
-        let d : 32 + (32 * r .packet + 2 + r .place) ≡ 32 * suc (r .packet) + 2 + r .place = omega arith in
-        record {
-          packet = suc (r .packet);
-          place = r .place;
-          is-packet = omega (arith, r .is-packet);
-          below = omega (arith, r .below, nth-drop 32 ps (32 * r .packet), ap (nth ps) c);
-          is-entry = ap (nth ps) (sym d) ∙ (sym (nth-drop 32 ps (32 * r .packet + 2 + r .place)) ∙ r .is-entry);
-        }
+entries-use (suc n) ps g e =
+    elim (elem-split g (take (nth ps 0) (drop 2 ps)) (entriesOf n (drop 32 ps)) e) [
+      | inl q ↦
+          let r = elem-use g (take (nth ps 0) (drop 2 ps)) q in
+          let h : r .0 < nth ps 0 = omega (arith, r .1, length-take (nth ps 0) (drop 2 ps)) in
+          record { packet = 0; place = r .0; is-packet = omega arith; below = h; is-entry = sym (nth-drop 2 ps (r .0)) ∙ (sym (nth-take (nth ps 0) (drop 2 ps) (r .0) h) ∙ r .2) }
+      | inr q ↦
+          let r = entries-use n (drop 32 ps) g q in
+          let c : 32 + 32 * r .packet ≡ 32 * suc (r .packet) = omega arith in
+          let d : 32 + (32 * r .packet + 2 + r .place) ≡ 32 * suc (r .packet) + 2 + r .place = omega arith in
+          record {
+            packet = suc (r .packet);
+            place = r .place;
+            is-packet = omega (arith, r .is-packet);
+            below = omega (arith, r .below, nth-drop 32 ps (32 * r .packet), ap (nth ps) c);
+            is-entry = ap (nth ps) (sym d) ∙ (sym (nth-drop 32 ps (32 * r .packet + 2 + r .place)) ∙ r .is-entry);
+          }
+    ]
 
 pub entries-make : (n : ℕ) (ps : List ℕ) (p e g : ℕ) → 32 * n ≤ length ps → p < n → e < nth ps (32 * p) → nth ps (32 * p) ≤ 30 → nth ps (32 * p + 2 + e) ≡ g → elem g (entriesOf n ps) ≡ true
 unfolding entriesOf

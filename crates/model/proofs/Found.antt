@@ -1,8 +1,8 @@
 -- What a finish computes is what its rule says, on every sound image: the found set is Found, the kept set is Kept.
 use mathlib.Core.Path.{_≡_, refl, sym, ap, subst, _∙_}
-use mathlib.Core.Logic.{_⊎_, inl, inr, _↔_}
+use mathlib.Core.Logic.{_⊎_, inl, inr, ⊎-elim, _↔_}
 use mathlib.Core.Bool.{Bool, true, false, cond, _||_}
-use mathlib.Core.List.{List, [], _∷_, _++_, List·Memᴰ, List·Memᴰ·head, List·Memᴰ·tail, List·Memᴰ·cases-cons, List·Memᴰ·append-cases, Memᴰ·append-left, Memᴰ·append-right}
+use mathlib.Core.List.{List, [], _∷_, _++_, List·Memᴰ, List·Memᴰ·head, List·Memᴰ·tail, List·Memᴰ·append-cases, Memᴰ·append-left, Memᴰ·append-right}
 use Prim.Native.Nat.{ℕ, zero, suc, _+_, _*_, _/_, _%_, _<_, suc-le-suc}
 use native.Mathlib.Nat.{le-of-suc-le-suc}
 use native.Mathlib.Decide.{ℕ-discrete}
@@ -14,7 +14,7 @@ use Rattle.model.specs.Base.{nth, every, some, any, table}
 use Rattle.model.specs.Image.{Image, granules, isStart, marked, links, link, dirty, reg, count, entry, entries, hand, handCard, fits, parts}
 use Rattle.model.specs.Undamaged.{nilOrStart, entered, sound}
 use Rattle.model.specs.Finish.{stillDue, nonNil, linksOf, dueFrom, seeds, follows, foundSet, keptSet, Due, due-entered, due-in-hand, due-dirty, due-card-in-hand, Found, found-reg, found-link, found-due, Kept, kept-marked, kept-found}
-use Rattle.model.proofs.Laws.{false≢, and-split, and-join, or-split, or-left, or-right, every-use, every-cons, every-nil, some-use, some-nil, some-make, any-use, any-make}
+use Rattle.model.proofs.Laws.{false≢, bool-cases, and-split, and-join, or-split, or-left, or-right, every-use, every-cons, every-nil, some-use, some-nil, some-make, any-use, any-make}
 use Rattle.model.proofs.Entries.{entries-use, entries-make}
 use Rattle.model.proofs.Sited.{Sited, sited, start-of}
 use Rattle.model.proofs.Closure.{In, Reached, seed, follow, reached-sound, reached-complete}
@@ -28,11 +28,8 @@ nonNil-use : (a : ℕ) (l : List ℕ) → Mem a (nonNil l) → Mem a l × (a ≡
 unfolding nonNil
 nonNil-use a [] h = elim h [ ]
 nonNil-use a (zero ∷ l) h = let r = nonNil-use a l h in (List·Memᴰ·tail (r .0), r .1)
-nonNil-use a (suc g ∷ l) h = go (nonNil-use a l) (List·Memᴰ·cases-cons h)
-  where
-    go : (Mem a (nonNil l) → Mem a l × (a ≡ 0 → ⊥)) → (a ≡ suc g) ⊎ Mem a (nonNil l) → Mem a (suc g ∷ l) × (a ≡ 0 → ⊥)
-    go ih (inl e) = (List·Memᴰ·head e, λ z. omega arith)
-    go ih (inr k) = let r = ih k in (List·Memᴰ·tail (r .0), r .1)
+nonNil-use a (suc g ∷ l) (List·Memᴰ·head e) = (List·Memᴰ·head e, λ z. omega arith)
+nonNil-use a (suc g ∷ l) (List·Memᴰ·tail k) = let r = nonNil-use a l k in (List·Memᴰ·tail (r .0), r .1)
 
 nonNil-make : (a : ℕ) (l : List ℕ) → Mem a l → (a ≡ 0 → ⊥) → Mem a (nonNil l)
 unfolding nonNil
@@ -44,11 +41,8 @@ nonNil-make a (suc g ∷ l) (List·Memᴰ·tail h) nz = List·Memᴰ·tail (nonN
 table-use : (a n : ℕ) (f : ℕ → ℕ) → Mem a (table n f) → (i : ℕ) × (i < n) × (f i ≡ a)
 unfolding table
 table-use a zero f h = elim h [ ]
-table-use a (suc n) f h = go (table-use a n (λ i. f (suc i))) (List·Memᴰ·cases-cons h)
-  where
-    go : (Mem a (table n (λ i. f (suc i))) → (i : ℕ) × (i < n) × (f (suc i) ≡ a)) → (a ≡ f zero) ⊎ Mem a (table n (λ i. f (suc i))) → (i : ℕ) × (i < suc n) × (f i ≡ a)
-    go ih (inl e) = (0, omega arith, sym e)
-    go ih (inr k) = let r = ih k in (suc (r .0), suc-le-suc (r .1), r .2)
+table-use a (suc n) f (List·Memᴰ·head e) = (0, omega arith, sym e)
+table-use a (suc n) f (List·Memᴰ·tail k) = let r = table-use a n (λ i. f (suc i)) k in (suc (r .0), suc-le-suc (r .1), r .2)
 
 table-make : (a n : ℕ) (f : ℕ → ℕ) (i : ℕ) → i < n → f i ≡ a → Mem a (table n f)
 unfolding table
@@ -133,40 +127,28 @@ dueAt m g = every (marked m g ∷ stillDue m g ∷ [])
 dueFrom-use : (m : Image) (a n : ℕ) → Mem a (dueFrom m n) → (g : ℕ) × (g < n) × (dueAt m g ≡ true) × Mem a (linksOf m g)
 unfolding dueFrom
 dueFrom-use m a zero h = elim h [ ]
-dueFrom-use m a (suc n) h = go (dueFrom-use m a n) (dueAt m n) refl h
-  where
-    R : ℕ → Type 0
-    R j = (g : ℕ) × (g < j) × (dueAt m g ≡ true) × Mem a (linksOf m g)
-
-    up : R n → R (suc n)
-    up r = (r .0, omega arith, r .2, r .3)
-
-    two : (Mem a (dueFrom m n) → R n) → dueAt m n ≡ true → Mem a (linksOf m n) ⊎ Mem a (dueFrom m n) → R (suc n)
-    two ih d (inl k) = (n, omega arith, d, k)
-    two ih d (inr k) = up (ih k)
-
-    go : (Mem a (dueFrom m n) → R n) → (b : Bool) → dueAt m n ≡ b → Mem a (elim b [ true ↦ linksOf m n ++ dueFrom m n | false ↦ dueFrom m n ]) → R (suc n)
-    go ih true d k = two ih d (List·Memᴰ·append-cases (linksOf m n) k)
-    go ih false d k = up (ih k)
+dueFrom-use m a (suc n) h =
+    let up : Mem a (dueFrom m n) → (g : ℕ) × (g < suc n) × (dueAt m g ≡ true) × Mem a (linksOf m g) =
+    λ k. let r = dueFrom-use m a n k in (r .0, omega (arith, r .1), r .2, r .3) in
+    elim (bool-cases (dueAt m n)) [
+      | inl d ↦ ⊎-elim (λ k. (n, omega arith, d, k)) up (List·Memᴰ·append-cases (linksOf m n) (rw (d, dueFrom) at h))
+      | inr d ↦ up (rw (d, dueFrom) at h)
+    ]
 
 dueFrom-make : (m : Image) (a n g : ℕ) → g < n → dueAt m g ≡ true → Mem a (linksOf m g) → Mem a (dueFrom m n)
 unfolding dueFrom
 dueFrom-make m a zero g h k e = absurd (omega arith)
-dueFrom-make m a (suc n) g h k e = go (λ l. dueFrom-make m a n g l k e) (dueAt m n) refl (ℕ-discrete g n)
-  where
-    go : (g < n → Mem a (dueFrom m n)) → (b : Bool) → dueAt m n ≡ b → Dec (g ≡ n) → Mem a (elim b [ true ↦ linksOf m n ++ dueFrom m n | false ↦ dueFrom m n ])
-    go ih true q (yes s) = Memᴰ·append-left (dueFrom m n) (subst (λ x. Mem a (linksOf m x)) s e)
-    go ih false q (yes s) = false≢ (sym q ∙ subst (λ x. dueAt m x ≡ true) s k)
-    go ih true q (no s) = Memᴰ·append-right (linksOf m n) (ih (omega arith))
-    go ih false q (no s) = ih (omega arith)
+dueFrom-make m a (suc n) g h k e =
+    elim (ℕ-discrete g n) [
+      | yes s ↦ rw (rw s at k, dueFrom) (Memᴰ·append-left (dueFrom m n) (rw s at e))
+      | no s ↦
+          let r = dueFrom-make m a n g (omega arith) k e in
+          elim (bool-cases (dueAt m n)) [ inl q ↦ rw (q, dueFrom) (Memᴰ·append-right (linksOf m n) r) | inr q ↦ rw (q, dueFrom) r ]
+    ]
 
 follows-use : (m : Image) (g a : ℕ) → Mem a (follows m g) → (marked m g ≡ false) × Mem a (linksOf m g)
 unfolding follows
-follows-use m g a h = go (marked m g) refl h
-  where
-    go : (b : Bool) → marked m g ≡ b → Mem a (cond b [] (linksOf m g)) → (marked m g ≡ false) × Mem a (linksOf m g)
-    go true q k = elim k [ ]
-    go false q k = (q, k)
+follows-use m g a h = elim (bool-cases (marked m g)) [ inl q ↦ elim (rw q at h) [ ] | inr q ↦ (q, rw q at h) ]
 
 -- ---- the found set
 
@@ -221,31 +203,19 @@ unfolding keptSet
 set-kept m s g h =
     let l : g < granules m = table-in (granules m) _ g h in
     let b = and-split (isStart m g) _ (sym (table-below (granules m) _ g l) ∙ h) in
-    (b .0, go (or-split (marked m g) _ (b .1)))
-  where
-    go : (marked m g ≡ true) ⊎ In (foundSet m) g → Kept m g
-    go (inl k) = kept-marked k
-    go (inr k) = kept-found (set-found m s g k)
+    (b .0, ⊎-elim kept-marked (λ k. kept-found (set-found m s g k)) (or-split (marked m g) _ (b .1)))
 
 pub kept-set : (m : Image) → Sited m → (g : ℕ) → isStart m g ≡ true → Kept m g → In (keptSet m) g
 unfolding keptSet
-kept-set m s g h k = table-below (granules m) _ g (s .start-in g h) ∙ and-join (isStart m g) _ h (go k)
-  where
-    go : Kept m g → (marked m g || getD (foundSet m) g false) ≡ true
-    go (kept-marked q) = or-left (marked m g) _ q
-    go (kept-found q) = or-right (marked m g) _ (found-set m s g q)
+kept-set m s g h k =
+    table-below (granules m) _ g (s .start-in g h)
+    ∙ and-join (isStart m g) _ h (elim k [ kept-marked q ↦ or-left (marked m g) _ q | kept-found q ↦ or-right (marked m g) _ (found-set m s g q) ])
 
 -- ---- on every sound image
 
 module _ (w : ℕ) (ws : List ℕ) (f : fits w (length ws) ≡ true) (e : sound (parts w ws) ≡ true) where
-  pub found-sound : (a : ℕ) → In (foundSet (parts w ws)) a → Found (parts w ws) a
-  found-sound a h = set-found (parts w ws) (sited w ws f e) a h
-
-  pub found-complete : (a : ℕ) → Found (parts w ws) a → In (foundSet (parts w ws)) a
-  found-complete a h = found-set (parts w ws) (sited w ws f e) a h
-
   pub found-is : (a : ℕ) → In (foundSet (parts w ws)) a ↔ Found (parts w ws) a
-  found-is a = (found-sound a, found-complete a)
+  found-is a = (set-found (parts w ws) (sited w ws f e) a, found-set (parts w ws) (sited w ws f e) a)
 
   pub kept-is : (g : ℕ) → In (keptSet (parts w ws)) g ↔ (isStart (parts w ws) g ≡ true) × Kept (parts w ws) g
   kept-is g = (set-kept (parts w ws) (sited w ws f e) g, λ k. kept-set (parts w ws) (sited w ws f e) g (k .0) (k .1))

@@ -4,7 +4,6 @@ use mathlib.Core.Logic.{_⊎_, inl, inr}
 use mathlib.Core.Bool.{Bool, true, false, not, cond, _&&_, _||_}
 use mathlib.Core.List.{List, [], _∷_}
 use Prim.Native.Nat.{ℕ, zero, suc, _+_, _≤_, _<_}
-use native.Mathlib.Nat.{not-suc-le-zero}
 use native.Mathlib.Decide.{ℕ-discrete}
 use native.Mathlib.Omega.{arith}
 use lib.Dec.{T, eqb}
@@ -46,8 +45,7 @@ or-right false b p = p
 
 pub imp-use : (a b : Bool) → implies a b ≡ true → a ≡ true → b ≡ true
 unfolding implies
-imp-use true b e p = e
-imp-use false b e p = false≢ p
+imp-use a b e p = rw p at e
 
 pub imp-make : (a b : Bool) → (a ≡ true → b ≡ true) → implies a b ≡ true
 unfolding implies
@@ -58,13 +56,11 @@ imp-make false b f = refl
 
 pub either-yes : (b x y : Bool) → b ≡ true → either b x y ≡ true → x ≡ true
 unfolding either
-either-yes true x y p e = e
-either-yes false x y p e = false≢ p
+either-yes b x y p e = rw p at e
 
 pub either-no : (b x y : Bool) → b ≡ false → either b x y ≡ true → y ≡ true
 unfolding either
-either-no true x y p e = false≢ (sym p)
-either-no false x y p e = e
+either-no b x y p e = rw p at e
 
 pub either-make : (b x y : Bool) → (b ≡ true → x ≡ true) → (b ≡ false → y ≡ true) → either b x y ≡ true
 unfolding either
@@ -83,12 +79,8 @@ bool-cases false = inr refl
 
 pub all-use : (n : ℕ) (p : ℕ → Bool) → all n p ≡ true → (i : ℕ) → i < n → p i ≡ true
 unfolding all
-all-use zero p e i h = absurd (not-suc-le-zero h)
-all-use (suc n) p e i h = here (all-use n p ((and-split (all n p) (p n) e) .0) i) (ℕ-discrete i n)
-  where
-    here : (i < n → p i ≡ true) → Dec (i ≡ n) → p i ≡ true
-    here ih (yes q) = rw q ((and-split (all n p) (p n) e) .1)
-    here ih (no q) = ih (omega arith)
+all-use zero p e i h = absurd (omega arith)
+all-use (suc n) p e i h = let s = and-split (all n p) (p n) e in elim (ℕ-discrete i n) [ yes q ↦ rw q (s .1) | no q ↦ all-use n p (s .0) i (omega arith) ]
 
 pub all-make : (n : ℕ) (p : ℕ → Bool) → ((i : ℕ) → i < n → p i ≡ true) → all n p ≡ true
 unfolding all
@@ -98,20 +90,12 @@ all-make (suc n) p f = and-join (all n p) (p n) (all-make n p (λ i h. f i (omeg
 pub any-use : (n : ℕ) (p : ℕ → Bool) → any n p ≡ true → (i : ℕ) × (i < n) × (p i ≡ true)
 unfolding any
 any-use zero p e = false≢ e
-any-use (suc n) p e = go (any-use n p) (or-split (any n p) (p n) e)
-  where
-    go : (any n p ≡ true → (i : ℕ) × (i < n) × (p i ≡ true)) → (any n p ≡ true) ⊎ (p n ≡ true) → (i : ℕ) × (i < suc n) × (p i ≡ true)
-    go ih (inl q) = let r = ih q in (r .0, omega arith, r .2)
-    go ih (inr q) = (n, omega arith, q)
+any-use (suc n) p e = elim (or-split (any n p) (p n) e) [ inl q ↦ let r = any-use n p q in (r .0, omega (arith, r .1), r .2) | inr q ↦ (n, omega arith, q) ]
 
 pub any-make : (n : ℕ) (p : ℕ → Bool) (i : ℕ) → i < n → p i ≡ true → any n p ≡ true
 unfolding any
-any-make zero p i h e = absurd (not-suc-le-zero h)
-any-make (suc n) p i h e = here (λ lt. any-make n p i lt e) (ℕ-discrete i n)
-  where
-    here : (i < n → any n p ≡ true) → Dec (i ≡ n) → (any n p || p n) ≡ true
-    here ih (yes q) = or-right (any n p) (p n) (rw q at e)
-    here ih (no q) = or-left (any n p) (p n) (ih (omega arith))
+any-make zero p i h e = absurd (omega arith)
+any-make (suc n) p i h e = elim (ℕ-discrete i n) [ yes q ↦ or-right (any n p) (p n) (rw q at e) | no q ↦ rw (any-make n p i (omega arith) e) ]
 
 pub every-use : (l : List Bool) → every l ≡ true → (i : ℕ) → getD l i true ≡ true
 unfolding every
@@ -181,47 +165,38 @@ length-put l i v = length-set l i v
 
 -- ---- choices
 
+-- of the choices up to n, v is n, which passes; or it is x, that of those before, and n fails where x is none
+abbrev Turn : ℕ → ℕ → ℕ → Bool → Type 0
+Turn v n x b = ((v ≡ suc n) × (b ≡ true)) ⊎ ((v ≡ x) × (x ≡ 0 → b ≡ false))
+
+best-turn : (better : ℕ → ℕ → Bool) (ok : ℕ → Bool) (n : ℕ) → Turn (best better ok (suc n)) n (best better ok n) (ok n)
+unfolding best
+best-turn better ok n = go (best better ok n) (ok n)
+  where
+    go : (x : ℕ) (b : Bool) → Turn (elim x [ zero ↦ cond b (suc n) 0 | suc q ↦ cond (b && better n q) (suc n) (suc q) ]) n x b
+    go zero true = inl (refl, refl)
+    go zero false = inr (refl, λ e. refl)
+    go (suc q) true = elim (bool-cases (better n q)) [ inl e ↦ inl (rw e, refl) | inr e ↦ inr (rw e, λ z. absurd (omega arith)) ]
+    go (suc q) false = inr (refl, λ e. refl)
+
 -- what `best` returns passes
 pub best-ok : (better : ℕ → ℕ → Bool) (ok : ℕ → Bool) (n p : ℕ) → best better ok n ≡ suc p → (p < n) × (ok p ≡ true)
 unfolding best
 best-ok better ok zero p e = absurd (omega arith)
-best-ok better ok (suc n) p e = go (best-ok better ok n) (best better ok n) refl e
-  where
-    end : (b : Bool) → ok n ≡ b → cond b (suc n) 0 ≡ suc p → (p < suc n) × (ok p ≡ true)
-    end true q r = let s : p ≡ n = omega arith in (omega arith, rw s q)
-    end false q r = absurd (omega arith)
-
-    two : (b : Bool) (q : ℕ) → (ok n && b) ≡ true → suc n ≡ suc p → (p < suc n) × (ok p ≡ true)
-    two b q a r = let s : p ≡ n = omega arith in (omega arith, rw s ((and-split (ok n) b a) .0))
-
-    more : ((p : ℕ) → best better ok n ≡ suc p → (p < n) × (ok p ≡ true)) → (q : ℕ) → best better ok n ≡ suc q → (b : Bool) → (ok n && better n q) ≡ b → cond b (suc n) (suc q) ≡ suc p → (p < suc n) × (ok p ≡ true)
-    more ih q a true c r = two (better n q) q c r
-    more ih q a false c r = let s : p ≡ q = omega arith in let h = ih p (rw s a) in (omega arith, h .1)
-
-    go : ((p : ℕ) → best better ok n ≡ suc p → (p < n) × (ok p ≡ true)) → (x : ℕ) → best better ok n ≡ x
-        → _≡_ {A = ℕ} (elim x [ zero ↦ cond (ok n) (suc n) 0 | suc b ↦ cond (ok n && better n b) (suc n) (suc b) ]) (suc p) → (p < suc n) × (ok p ≡ true)
-    go ih zero a r = end (ok n) refl r
-    go ih (suc q) a r = more ih q a (ok n && better n q) refl r
+best-ok better ok (suc n) p e =
+    elim (best-turn better ok n) [
+      | inl h ↦ let s : p ≡ n = omega arith in (omega arith, rw s (h .1))
+      | inr h ↦ let r = best-ok better ok n p (sym (h .0) ∙ e) in (omega (arith, r .0), r .1)
+    ]
 
 -- and where it returns nothing, none passes
 pub best-none : (better : ℕ → ℕ → Bool) (ok : ℕ → Bool) (n : ℕ) → best better ok n ≡ 0 → (i : ℕ) → i < n → ok i ≡ false
-unfolding best
 best-none better ok zero e i h = absurd (omega arith)
-best-none better ok (suc n) e i h = go (λ a l. best-none better ok n a i l) (best better ok n) refl e (ℕ-discrete i n)
-  where
-    last : (b : Bool) → cond b (suc n) 0 ≡ 0 → b ≡ false
-    last true r = absurd (omega arith)
-    last false r = refl
-
-    never : (b : Bool) (q : ℕ) → cond b (suc n) (suc q) ≡ 0 → ok i ≡ false
-    never true q r = absurd (omega arith)
-    never false q r = absurd (omega arith)
-
-    go : (best better ok n ≡ 0 → i < n → ok i ≡ false) → (x : ℕ) → best better ok n ≡ x
-        → _≡_ {A = ℕ} (elim x [ zero ↦ cond (ok n) (suc n) 0 | suc b ↦ cond (ok n && better n b) (suc n) (suc b) ]) 0 → Dec (i ≡ n) → ok i ≡ false
-    go ih zero a r (yes q) = rw q (last (ok n) r)
-    go ih zero a r (no q) = ih a (omega arith)
-    go ih (suc b) a r d = never (ok n && better n b) b r
+best-none better ok (suc n) e i h =
+    elim (best-turn better ok n) [
+      | inl q ↦ absurd (omega arith)
+      | inr q ↦ let z = sym (q .0) ∙ e in elim (ℕ-discrete i n) [ yes s ↦ rw s (q .1 z) | no s ↦ best-none better ok n z i (omega arith) ]
+    ]
 
 -- ---- the first line of a table that passes
 
@@ -248,15 +223,11 @@ unfolding first
 first-cons n true b′ l l′ e h = ap (λ z. first n (z ∷ l′)) e
 first-cons n false b′ l l′ e h = h refl ∙ ap (λ z. first n (z ∷ l′)) e
 
-pub first-low : (n : ℕ) (l : List Bool) → (first n l ≡ 0) ⊎ (n ≤ first n l)
+first-low : (n : ℕ) (l : List Bool) → (first n l ≡ 0) ⊎ (n ≤ first n l)
 unfolding first
 first-low n [] = inl refl
 first-low n (true ∷ l) = inr (omega arith)
-first-low n (false ∷ l) = more (first-low (suc n) l)
-  where
-    more : (first (suc n) l ≡ 0) ⊎ (suc n ≤ first (suc n) l) → (first (suc n) l ≡ 0) ⊎ (n ≤ first (suc n) l)
-    more (inl e) = inl e
-    more (inr h) = inr (omega arith)
+first-low n (false ∷ l) = elim (first-low (suc n) l) [ inl e ↦ inl e | inr h ↦ inr (omega arith) ]
 
 -- the line that is given passes
 pub first-passes : (n : ℕ) (l : List Bool) (i : ℕ) → first (suc n) l ≡ suc n + i → getD l i false ≡ true
@@ -264,11 +235,7 @@ unfolding first
 first-passes n [] i e = absurd (omega arith)
 first-passes n (true ∷ l) zero e = refl
 first-passes n (true ∷ l) (suc i) e = absurd (omega arith)
-first-passes n (false ∷ l) zero e = absurd (past (first-low (suc (suc n)) l))
-  where
-    past : (first (suc (suc n)) l ≡ 0) ⊎ (suc (suc n) ≤ first (suc (suc n)) l) → ⊥
-    past (inl z) = omega arith
-    past (inr z) = omega arith
+first-passes n (false ∷ l) zero e = elim (first-low (suc (suc n)) l) [ inl z ↦ absurd (omega arith) | inr z ↦ absurd (omega arith) ]
 first-passes n (false ∷ l) (suc i) e = first-passes (suc n) l i (omega arith)
 
 -- ---- words that are all 0

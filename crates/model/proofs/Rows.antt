@@ -34,13 +34,11 @@ pub is-same : (n x : Kind) → is n x ≡ true → n ≡ x
 unfolding is
 is-same n x e = sym (kind-code n) ∙ (ap kindOf (eqb-true ((rowOf n) .code) ((rowOf x) .code) e) ∙ kind-code x)
 
-pub code-kind : (x : ℕ) → x < 15 → (rowOf (kindOf x)) .code ≡ x
-unfolding all kindOf rowOf
-code-kind x h = eqb-true _ _ (all-use 15 (λ y. eqb ((rowOf (kindOf y)) .code) y) refl x h)
-
 pub kind-known : (x : ℕ) → 1 ≤ x → x < 15 → is (kindOf x) unknown ≡ false
-unfolding is
-kind-known x l h = ne-eqb ((rowOf (kindOf x)) .code) 0 (λ e. omega (arith, code-kind x h))
+unfolding is all kindOf rowOf
+kind-known x l h =
+    let c : (rowOf (kindOf x)) .code ≡ x = eqb-true _ _ (all-use 15 (λ y. eqb ((rowOf (kindOf y)) .code) y) refl x h) in
+    ne-eqb ((rowOf (kindOf x)) .code) 0 (λ e. omega arith)
 
 pub kind-unknown : (x : ℕ) → 15 ≤ x → kindOf x ≡ unknown
 unfolding kindOf

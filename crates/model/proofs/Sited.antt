@@ -33,19 +33,16 @@ start-of m a e nz = let r = either-no _ _ _ (ne-eqb a 0 nz) e in (ltb-true _ _ (
 
 -- registers, links and marks of a sound image are where they belong
 pub sited : (w : ℕ) (ws : List ℕ) → fits w (length ws) ≡ true → sound (parts w ws) ≡ true → Sited (parts w ws)
-unfolding sound linksOk regOk markOk packetOk count isStart sections
-sited w ws f e = record {
-  regs-length = long regsAt;
-  packets-length = long packetsAt;
-  counts = λ p h. subst (λ x. x ≤ 30) (nth-take 32 _ 0 (omega arith) ∙ nth-drop (32 * p) (m .packets) 0 ∙ ap (nth (m .packets)) (add-zero (32 * p))) (leb-true _ _ (every-use _ (eachPiece-use 32 32 (packetOk m) (m .packets) (every-use _ e 8) p h) 0));
-  reg-in = all-use 256 _ (every-use _ e 3);
-  link-in = λ g i h s l. all-use (links m g) _ (imp-use _ _ (all-use (granules m) _ (every-use _ e 2) g h) s) i l;
-  start-in = λ g h. unfold granules in bit-within (m .width) (64 * m .k) (m .starts) g (long startsAt) h;
-  mark-start = λ g h k. imp-use _ _ (all-use (granules m) _ (every-use _ e 7) g h) k;
-}
-  where
-    m : Image
-    m = parts w ws
-
-    long : (i : ℕ) → getD (map length (sections m)) i 0 ≡ getD (lengths (m .width) (m .k)) i 0
-    long i = ap (λ l. getD l i 0) ((parts-fit w ws f) .section-lengths)
+unfolding sound linksOk regOk markOk packetOk count granules isStart sections
+sited w ws f e =
+    let m : Image = parts w ws in
+    let long : (i : ℕ) → getD (map length (sections m)) i 0 ≡ getD (lengths (m .width) (m .k)) i 0 = λ i. ap (λ l. getD l i 0) ((parts-fit w ws f) .section-lengths) in
+    record {
+      regs-length = long regsAt;
+      packets-length = long packetsAt;
+      counts = λ p h. subst (λ x. x ≤ 30) (nth-take 32 _ 0 (omega arith) ∙ nth-drop (32 * p) (m .packets) 0 ∙ ap (nth (m .packets)) (add-zero (32 * p))) (leb-true _ _ (every-use _ (eachPiece-use 32 32 (packetOk m) (m .packets) (every-use _ e 8) p h) 0));
+      reg-in = all-use 256 _ (every-use _ e 3);
+      link-in = λ g i h s l. all-use (links m g) _ (imp-use _ _ (all-use (granules m) _ (every-use _ e 2) g h) s) i l;
+      start-in = λ g h. bit-within (m .width) (64 * m .k) (m .starts) g (long startsAt) h;
+      mark-start = λ g h k. imp-use _ _ (all-use (granules m) _ (every-use _ e 7) g h) k;
+    }

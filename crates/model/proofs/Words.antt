@@ -1,15 +1,15 @@
 -- An image is its words, and words of fitting length are an image: both round trips.
 use mathlib.Core.Path.{_≡_, refl, sym, ap, subst, _∙_}
 use mathlib.Core.Logic.{_⊎_, inl, inr}
-use mathlib.Core.Bool.{Bool, true, false, cond}
+use mathlib.Core.Bool.{true}
 use mathlib.Core.List.{List, [], _∷_, _++_, map}
 use Prim.Native.Nat.{ℕ, zero, suc, _+_, _*_, _-_, _≤_, _<_}
 use native.Mathlib.Nat.{add-assoc, zero-add, suc-add}
+use native.Mathlib.Decide.{ℕ-discrete}
 use native.Mathlib.Omega.{arith}
-use lib.Dec.{eqb}
 use lib.ListN.{length, getD, drop, replicate, length-replicate, length-drop, length-append, take-append-drop}
-use lib.Seq.{set-append-left, take-at, drop-at, length-take-le}
-use borrow.Author.Tests.{eqb-true, eq-eqb, leb-true, le-leb}
+use lib.Seq.{set-append-left, map-set-same, take-at, drop-at, length-take-le}
+use borrow.Author.Tests.{eqb-true, eq-eqb, ne-eqb, leb-true, le-leb}
 use Rattle.model.specs.Base.{put}
 use Rattle.model.specs.Image.{Image, heapAt, generalAt, lengths, total, place, imageLength, mostCards, cardsOf, fits, split, join, sections, image, imageOf, parts, words, setSection, withHeap, withGeneral, setWord, setFirstRun}
 use Rattle.model.specs.Undamaged.{freshStore}
@@ -42,12 +42,11 @@ length-join (l ∷ ls) = omega (arith, length-append l (join ls), length-join ls
 
 -- a store has words of 16 or 32 bits
 pub width-cases : (w k : ℕ) → 1 ≤ k → k ≤ mostCards w → (w ≡ 16) ⊎ (w ≡ 32)
-width-cases w k l h = go (eqb w 16) refl (eqb w 32) refl h
-  where
-    go : (a : Bool) → eqb w 16 ≡ a → (b : Bool) → eqb w 32 ≡ b → k ≤ cond a 512 (cond b 65536 0) → (w ≡ 16) ⊎ (w ≡ 32)
-    go true e b f q = inl (eqb-true w 16 e)
-    go false e true f q = inr (eqb-true w 32 f)
-    go false e false f q = absurd (omega arith)
+width-cases w k l h =
+    elim (ℕ-discrete w 16) [
+      | yes e ↦ inl e
+      | no a ↦ elim (ℕ-discrete w 32) [ yes e ↦ inr e | no b ↦ let z = rw (ne-eqb w 16 a, ne-eqb w 32 b) at h in absurd (omega arith) ]
+    ]
 
 -- the number of cards comes back from the length
 pub cards-length : (w k : ℕ) → (w ≡ 16) ⊎ (w ≡ 32) → cardsOf w (imageLength w k) ≡ k
@@ -111,27 +110,16 @@ join-put (l ∷ ls) (suc s) i v h =
 
 put-lengths : (ls : List (List ℕ)) (s i v : ℕ) → map length (setSection ls s (put (getD ls s []) i v)) ≡ map length ls
 unfolding setSection
-put-lengths [] s i v = refl
-put-lengths (l ∷ ls) zero i v = ap (λ n. n ∷ map length ls) (length-put l i v)
-put-lengths (l ∷ ls) (suc s) i v = ap (λ ns. length l ∷ ns) (put-lengths ls s i v)
+put-lengths ls s i v = map-set-same length ls s _ [] (length-put (getD ls s []) i v)
 
 -- the words of a fresh store: zeros but for two
 pub fresh-words : (w k : ℕ) → 1 ≤ k → freshStore w k ≡ put (put (replicate (imageLength w k) 0) 4 (64 * k - 1)) (place (lengths w k) generalAt + 1) 1
 unfolding freshStore words sections setFirstRun setWord withGeneral withHeap imageOf image split setSection
 fresh-words w k h =
+    let zeros : List (List ℕ) = split (lengths w k) (replicate (imageLength w k) 0) in
+    let with-run : List (List ℕ) = setSection zeros heapAt (put (getD zeros heapAt []) 4 (64 * k - 1)) in
+    let zero-lengths : map length zeros ≡ lengths w k = split-lengths (lengths w k) (replicate (imageLength w k) 0) (length-replicate _ 0) in
+    let run-lengths : map length with-run ≡ lengths w k = put-lengths zeros heapAt 4 (64 * k - 1) ∙ zero-lengths in
+    let heap-put = join-put zeros heapAt 4 (64 * k - 1) (subst (λ ns. 4 < getD ns heapAt 0) (sym zero-lengths) (omega arith)) in
     join-put with-run generalAt 1 1 (subst (λ ns. 1 < getD ns generalAt 0) (sym run-lengths) (omega arith))
-    ∙ (ap (λ ns. put (join with-run) (place ns generalAt + 1) 1) run-lengths
-    ∙ ap (λ ws. put ws (place (lengths w k) generalAt + 1) 1)
-    (join-put zeros heapAt 4 (64 * k - 1) (subst (λ ns. 4 < getD ns heapAt 0) (sym zero-lengths) (omega arith)) ∙ ap (λ ws. put ws 4 (64 * k - 1)) (join-split (lengths w k) (replicate (imageLength w k) 0) (length-replicate _ 0))))
-  where
-    zeros : List (List ℕ)
-    zeros = split (lengths w k) (replicate (imageLength w k) 0)
-
-    with-run : List (List ℕ)
-    with-run = setSection zeros heapAt (put (getD zeros heapAt []) 4 (64 * k - 1))
-
-    zero-lengths : map length zeros ≡ lengths w k
-    zero-lengths = split-lengths (lengths w k) (replicate (imageLength w k) 0) (length-replicate _ 0)
-
-    run-lengths : map length with-run ≡ lengths w k
-    run-lengths = put-lengths zeros heapAt 4 (64 * k - 1) ∙ zero-lengths
+    ∙ cc (run-lengths, heap-put, join-split (lengths w k) (replicate (imageLength w k) 0) (length-replicate _ 0))

@@ -1,11 +1,11 @@
 -- New: the run that it takes, the words that it writes, and its cases.
-use mathlib.Core.Path.{_≡_, refl, sym, _∙_}
+use mathlib.Core.Path.{_≡_, refl, _∙_}
 use mathlib.Core.Bool.{true, false}
 use mathlib.Core.List.{List}
 use Prim.Native.Nat.{ℕ, zero, suc, _+_, _*_, _-_, _≤_, _<_}
 use native.Mathlib.Omega.{arith}
 use borrow.Author.Tests.{lt-ltb, le-ltb, eq-eqb, ne-eqb}
-use Rattle.model.specs.Image.{Image, granules, word, firstRun, owed, setWord, setStart, setReg, setFirstRun, imageOf}
+use Rattle.model.specs.Image.{Image, word, firstRun, owed, setWord, setStart, setReg, setFirstRun, imageOf}
 use Rattle.model.specs.Mutate.{Room, roomFor, setNext, takeRun, newObject}
 use Rattle.model.specs.Records.{new}
 use Rattle.model.specs.Rows.{rows-open}
@@ -26,32 +26,25 @@ use Rattle.mutator_laws.proofs.Passed.{new-passed}
 
 -- ---- the run found
 
-run-in : (m : Image) → Sound m → (b g before : ℕ) → _≡_ {A = Room} (record { run = g; before = before }) (roomFor m b) → (g ≡ 0 → ⊥) → (b ≤ word m g 0) × (g + word m g 0 ≤ granules m) × (before < g)
-run-in m s b zero before e nz = absurd (nz refl)
-run-in m s b (suc g) before e nz =
-    let o : HeapFilled m = heap-filled-of (s .lines) in
-    let h : PlaceIn m b 1 (firstRun m) false 0 (suc g) ((roomFor m b) .before) = room-place m b o (heap-sized-of (s .lines)) g (rw (← e)) in
-    let a = place-apart m b (omega arith) h (clear-one m o) in
-    (a .1, a .0 .is-run .ends, rw (← e) at (place-below m h (omega arith)))
-
 pub run-for : (w k : ℕ) (ws : List ℕ) → Sound (imageOf w k ws) → (b g before : ℕ) → 1 ≤ b → _≡_ {A = Room} (record { run = g; before = before }) (roomFor (imageOf w k ws) b) → (g ≡ 0 → ⊥) → RunFor k (imageOf w k ws) b g before
-run-for w k ws s b g before h e nz =
-    let q = run-in (imageOf w k ws) s b g before e nz in
-    record { some-granules = h; suffices = q .0; ends = omega (arith, q .1, granules-image w k ws); below = q .2 }
+run-for w k ws s b zero before h e nz = absurd (nz refl)
+run-for w k ws s b (suc g) before h e nz =
+    let m : Image = imageOf w k ws in
+    let o : HeapFilled m = heap-filled-of (s .lines) in
+    let p : PlaceIn m b 1 (firstRun m) false 0 (suc g) ((roomFor m b) .before) = room-place m b o (heap-sized-of (s .lines)) g (rw (← e)) in
+    let a = place-apart m b (omega arith) p (clear-one m o) in
+    record { some-granules = h; suffices = a .1; ends = omega (arith, a .0 .is-run .ends, granules-image w k ws); below = rw (← e) at (place-below m p (omega arith)) }
 
 -- ---- the run taken from the chain
 
-module _ (m i : Image) (before g : ℕ) where
-  pub set-next-first : before ≡ 0 → i ≡ setFirstRun m g → i ≡ setNext m before g
-  unfolding setNext
-  set-next-first z e = rw z e
+pub set-next-first : (m i : Image) (before g : ℕ) → before ≡ 0 → i ≡ setFirstRun m g → i ≡ setNext m before g
+unfolding setNext
+set-next-first m i before g z e = rw z e
 
-  pub set-next-after : (before ≡ 0 → ⊥) → i ≡ setWord m before 1 g → i ≡ setNext m before g
-  set-next-after nz e = e ∙ sym (go before nz)
-    where
-      go : (x : ℕ) → (x ≡ 0 → ⊥) → setNext m x g ≡ setWord m x 1 g
-      go zero n = absurd (n refl)
-      go (suc x) n = unfold setNext in refl
+pub set-next-after : (m i : Image) (before g : ℕ) → (before ≡ 0 → ⊥) → i ≡ setWord m before 1 g → i ≡ setNext m before g
+unfolding setNext
+set-next-after m i zero g nz e = absurd (nz refl)
+set-next-after m i (suc before) g nz e = e
 
 module _ (m : Image) (g before b n next : ℕ) (en : n ≡ word m g 0) (ex : next ≡ word m g 1) where
   pub take-whole : n ≡ b → (i : Image) → i ≡ setNext m before next → i ≡ takeRun m g before b (word m g 0 - b)
@@ -60,11 +53,11 @@ module _ (m : Image) (g before b n next : ℕ) (en : n ≡ word m g 0) (ex : nex
 
   pub take-part : (n ≡ b → ⊥) → b ≤ word m g 0 → (i j l : Image) → i ≡ setWord m (g + b) 0 (n - b) → j ≡ setWord i (g + b) 1 next → l ≡ setNext j before (g + b)
       → l ≡ takeRun m g before b (word m g 0 - b)
-  take-part h q i j l ei ej el = go (word m g 0 - b) refl
-    where
-      go : (left : ℕ) → word m g 0 - b ≡ left → l ≡ takeRun m g before b left
-      go zero z = absurd (h (omega arith))
-      go (suc left) z = unfold takeRun in let d : n - b ≡ suc left = omega arith in el ∙ rw (ej, ei, d, ex)
+  unfolding takeRun
+  take-part h q i j l ei ej el =
+      let x : word m g 0 - b ≡ suc (n - b - 1) = omega arith in
+      let d : suc (n - b - 1) ≡ n - b = omega arith in
+      rw (x, d) (el ∙ rw (ej, ei, ex))
 
 -- ---- the object made
 
@@ -102,6 +95,4 @@ module _ (m : Image) (p a b c : ℕ) (h : (p < 16) × (a < 16)) (z : owed m p �
     pub new-done : (g ≡ 0 → ⊥) → (i j : Image) → i ≡ takeRun m g before b (word m g 0 - b)
         → j ≡ setReg (setStart (setWord (setWord i g 0 b) g 1 c) g) p a g → done 0 g j ≡ step m (asked 1 p a b c)
     unfolding asked numbers-open act accept newObject
-    new-done e i j ei ej =
-        let x : act m (asked 1 p a b c) new ≡ done 0 g j = rw (ej, ei, ← er) in
-        sym x ∙ number-0 (new-passed m p a z h b c) refl refl right-size (rw (← er) (ne-eqb _ 0 e)) refl refl
+    new-done e i j ei ej = rw (ej, ei) (rw (← er) at (number-0 (new-passed m p a z h b c) refl refl right-size (rw (← er) (ne-eqb _ 0 e)) refl refl))

@@ -1,6 +1,7 @@
 -- Numbers 3 to 5 as four tests of fields, and what the three say together.
-use mathlib.Core.Path.{_≡_, refl, sym, ap, subst, _∙_}
-use mathlib.Core.Bool.{Bool, true, false, not, _&&_, _||_}
+use mathlib.Core.Path.{_≡_, refl, sym, ap, _∙_}
+use mathlib.Core.Logic.{inl, inr}
+use mathlib.Core.Bool.{Bool, true, false, not, _&&_, _||_, or-assoc, or-false}
 use mathlib.Core.List.{[], _∷_}
 use Prim.Native.Nat.{ℕ, _^_, _≤_, _<_}
 use native.Mathlib.Omega.{arith}
@@ -10,7 +11,7 @@ use Rattle.model.specs.Image.{Image, owed}
 use Rattle.model.specs.Records.{Step, Kind, unknown, kindOf}
 use Rattle.model.specs.Rows.{Role, unused, player, tracer, register, number, rowOf, isPlayer, fields}
 use Rattle.model.specs.Steps.{unnamed, offDesk, owes, owing, step}
-use Rattle.model.proofs.Laws.{false≢, and-split}
+use Rattle.model.proofs.Laws.{false≢, bool-cases, and-split}
 use Rattle.model.proofs.Rows.{kind-known, kind-unknown}
 use Rattle.theory.specs.Fields.{fieldAt, roleAt, bound, boundAt}
 use Rattle.theory.proofs.steps.Fields.{four, unnamed-by, off-by, field-below}
@@ -24,11 +25,7 @@ use Rattle.request_laws.proofs.Numbers.{number-3, number-4, number-5}
 
 some-four : (a b c d : Bool) → (((a || b) || c) || d) ≡ some (a ∷ b ∷ c ∷ d ∷ [])
 unfolding some
-some-four true b c d = refl
-some-four false true c d = refl
-some-four false false true d = refl
-some-four false false false true = refl
-some-four false false false false = refl
+some-four a b c d = simp (or-assoc, or-false)
 
 -- ---- the three tests, as code makes them: l is a field's limit, the others what was found of each
 
@@ -39,19 +36,16 @@ module _ (w k : ℕ) (r : Request) where
   abbrev s : Step
   s = requested r
 
-  in-range : InRange w r → (i : ℕ) → i < 4 → fieldAt s i < 2 ^ w
+  pub in-range : InRange w r → (i : ℕ) → i < 4 → fieldAt s i < 2 ^ w
   unfolding requested fieldAt
   in-range q = four (λ i. fieldAt s i < 2 ^ w) (q .who-small) (q .a-small) (q .b-small) (q .c-small)
 
   -- the tests of four fields by their limits
-  tests : (f : ℕ → ℕ → Bool) → some (f (boundAt w k n 0) (r .who) ∷ f (boundAt w k n 1) (r .a) ∷ f (boundAt w k n 2) (r .b) ∷ f (boundAt w k n 3) (r .c) ∷ []) ≡ some (fields s (λ x y. f (bound w k x) y) (rowOf n))
-  unfolding requested fields boundAt roleAt
-  tests f = refl
-
   module _ (f : ℕ → ℕ → Bool) {l₀ l₁ l₂ l₃ : ℕ} {t u v x : Bool} where
     found : l₀ ≡ boundAt w k n 0 → l₁ ≡ boundAt w k n 1 → l₂ ≡ boundAt w k n 2 → l₃ ≡ boundAt w k n 3 → t ≡ f l₀ (r .who) → u ≡ f l₁ (r .a) → v ≡ f l₂ (r .b) → x ≡ f l₃ (r .c)
         → (((t || u) || v) || x) ≡ some (fields s (λ x y. f (bound w k x) y) (rowOf n))
-    found e₀ e₁ e₂ e₃ f₀ f₁ f₂ f₃ = some-four t u v x ∙ (rw (f₀, f₁, f₂, f₃, e₀, e₁, e₂, e₃) (tests f))
+    unfolding requested fields boundAt roleAt
+    found e₀ e₁ e₂ e₃ f₀ f₁ f₂ f₃ = some-four t u v x ∙ rw (f₀, f₁, f₂, f₃, e₀, e₁, e₂, e₃)
 
   module _ {l₀ l₁ l₂ l₃ : ℕ} {t u v x : Bool} (e₀ : l₀ ≡ boundAt w k n 0) (e₁ : l₁ ≡ boundAt w k n 1) (e₂ : l₂ ≡ boundAt w k n 2) (e₃ : l₃ ≡ boundAt w k n 3) where
     pub stray-found : 1 ≤ r .kind → r .kind < 15 → t ≡ (eqb l₀ 0 && not (eqb (r .who) 0)) → u ≡ (eqb l₁ 0 && not (eqb (r .a) 0)) → v ≡ (eqb l₂ 0 && not (eqb (r .b) 0)) → x ≡ (eqb l₃ 0 && not (eqb (r .c) 0))
@@ -68,17 +62,14 @@ module _ (w k : ℕ) (r : Request) where
   -- a field that must owe nothing is a player's number
   pub debtor-below : InRange w r → offDesk (requested r) k (kindOf (r .kind)) ≡ false → (i : ℕ) → i < 4 → asksDebt (kindOf (r .kind)) i ≡ true → fieldAt (requested r) i < 16
   unfolding asksDebt boundAt isPlayer bound
-  debtor-below q e i h d = go (roleAt n i) (is-player (roleAt n i) ((and-split ((rowOf n) .unowing) (isPlayer (roleAt n i)) d) .1)) (field-below w k s n e i h (in-range q i h))
+  debtor-below q e i h d = go (roleAt n i) ((and-split ((rowOf n) .unowing) (isPlayer (roleAt n i)) d) .1) (field-below w k s n e i h (in-range q i h))
     where
-      is-player : (x : Role) → isPlayer x ≡ true → x ≡ player
-      is-player unused e = false≢ e
-      is-player player e = refl
-      is-player tracer e = false≢ e
-      is-player register e = false≢ e
-      is-player number e = false≢ e
-
-      go : (x : Role) → x ≡ player → (0 < bound w k x → fieldAt s i < bound w k x) → fieldAt s i < 16
-      go x p f = subst (λ (y : Role). 0 < bound w k y → fieldAt s i < bound w k y) p f (omega arith)
+      go : (x : Role) → isPlayer x ≡ true → (0 < bound w k x → fieldAt s i < bound w k x) → fieldAt s i < 16
+      go player p f = f (omega arith)
+      go unused p f = false≢ p
+      go tracer p f = false≢ p
+      go register p f = false≢ p
+      go number p f = false≢ p
 
 -- a field that is asked for its debt, and one that is not
 module _ (d : Bool) {t : Bool} (e : t ≡ d) where
@@ -88,24 +79,15 @@ module _ (d : Bool) {t : Bool} (e : t ≡ d) where
   pub debt-none : t ≡ false → (y : ℕ) → false ≡ (d && not (eqb y 0))
   debt-none h y = rw (← e, h)
 
-debts : (b p₀ p₁ p₂ p₃ o₀ o₁ o₂ o₃ : Bool) → some (((b && p₀) && o₀) ∷ ((b && p₁) && o₁) ∷ ((b && p₂) && o₂) ∷ ((b && p₃) && o₃) ∷ []) ≡ (b && some ((p₀ && o₀) ∷ (p₁ && o₁) ∷ (p₂ && o₂) ∷ (p₃ && o₃) ∷ []))
-unfolding some
-debts true p₀ p₁ p₂ p₃ o₀ o₁ o₂ o₃ = refl
-debts false p₀ p₁ p₂ p₃ o₀ o₁ o₂ o₃ = refl
-
 module _ (m : Image) (r : Request) {t u v x : Bool} where
   pub owing-found : t ≡ (asksDebt (kindOf (r .kind)) 0 && not (eqb (owed m (r .who)) 0)) → u ≡ (asksDebt (kindOf (r .kind)) 1 && not (eqb (owed m (r .a)) 0)) → v ≡ (asksDebt (kindOf (r .kind)) 2 && not (eqb (owed m (r .b)) 0))
       → x ≡ (asksDebt (kindOf (r .kind)) 3 && not (eqb (owed m (r .c)) 0)) → (((t || u) || v) || x) ≡ owing m (requested r) (kindOf (r .kind))
-  unfolding owing owes fields requested asksDebt roleAt
-  owing-found f₀ f₁ f₂ f₃ = some-four t u v x ∙ (rw (f₀, f₁, f₂, f₃) (debts ((rowOf (kindOf (r .kind))) .unowing) _ _ _ _ _ _ _ _))
+  unfolding owing owes fields requested asksDebt roleAt some
+  owing-found f₀ f₁ f₂ f₃ = some-four t u v x ∙ rw (f₀, f₁, f₂, f₃) (elim (bool-cases ((rowOf (kindOf (r .kind))) .unowing)) [ inl e ↦ rw e | inr e ↦ rw e ])
 
 -- ---- what they say together
 
 module _ (m : Image) (r : Request) where
-  by-tests : (t u v : Bool) → t ≡ unnamed (requested r) (kindOf (r .kind)) → u ≡ offDesk (requested r) (m .k) (kindOf (r .kind)) → v ≡ owing m (requested r) (kindOf (r .kind)) → admissionBy t u v ≡ admissionOf m (requested r)
-  unfolding admissionOf requested
-  by-tests t u v f g o = λ j. admissionBy (f j) (g j) (o j)
-
   unknown-kinds : kindOf (r .kind) ≡ unknown → Unknown ≡ admissionOf m (requested r)
   unfolding admissionOf admissionBy requested unnamed
   unknown-kinds e = rw e
@@ -119,66 +101,51 @@ module _ (m : Image) (r : Request) where
 
   module _ {t : Bool} (f : t ≡ unnamed (requested r) (kindOf (r .kind))) where
     pub admit-stray : t ≡ true → Unknown ≡ admissionOf m (requested r)
-    unfolding admissionBy
-    admit-stray e = by-tests true _ _ (sym e ∙ f) refl refl
+    unfolding admissionOf admissionBy requested
+    admit-stray e = rw (← f, e)
 
     module _ {u : Bool} (e : t ≡ false) (g : u ≡ offDesk (requested r) (m .k) (kindOf (r .kind))) where
       pub admit-beyond : u ≡ true → OffDesk ≡ admissionOf m (requested r)
-      unfolding admissionBy
-      admit-beyond h = by-tests false true _ (sym e ∙ f) (sym h ∙ g) refl
+      unfolding admissionOf admissionBy requested
+      admit-beyond h = rw (← f, e, ← g, h)
 
       module _ {v : Bool} (h : u ≡ false) (o : v ≡ owing m (requested r) (kindOf (r .kind))) where
         pub admit-owing : v ≡ true → Owing ≡ admissionOf m (requested r)
-        unfolding admissionBy
-        admit-owing i = by-tests false false true (sym e ∙ f) (sym h ∙ g) (sym i ∙ o)
+        unfolding admissionOf admissionBy requested
+        admit-owing i = rw (← f, e, ← g, h, ← o, i)
 
         pub admit-passed : v ≡ false → Admitted ≡ admissionOf m (requested r)
-        unfolding admissionBy
-        admit-passed i = by-tests false false false (sym e ∙ f) (sym h ∙ g) (sym i ∙ o)
+        unfolding admissionOf admissionBy requested
+        admit-passed i = rw (← f, e, ← g, h, ← o, i)
 
 -- ---- and what each says of the step
 
-said-unknown : (a b c : Bool) → admissionBy a b c ≡ Unknown → a ≡ true
-unfolding admissionBy
-said-unknown true b c e = refl
-said-unknown false true c e = cc
-said-unknown false false true e = cc
-said-unknown false false false e = cc
+abbrev Says : Admission → Bool → Bool → Bool → Type 0
+Says Unknown a b c = a ≡ true
+Says OffDesk a b c = (a ≡ false) × (b ≡ true)
+Says Owing a b c = (a ≡ false) × (b ≡ false) × (c ≡ true)
+Says Admitted a b c = (a ≡ false) × (b ≡ false) × (c ≡ false)
 
-said-off : (a b c : Bool) → admissionBy a b c ≡ OffDesk → (a ≡ false) × (b ≡ true)
+says : (a b c : Bool) → Says (admissionBy a b c) a b c
 unfolding admissionBy
-said-off true b c e = (cc, cc)
-said-off false true c e = (refl, refl)
-said-off false false true e = (cc, cc)
-said-off false false false e = (cc, cc)
-
-said-owing : (a b c : Bool) → admissionBy a b c ≡ Owing → (a ≡ false) × (b ≡ false) × (c ≡ true)
-unfolding admissionBy
-said-owing true b c e = (cc, cc, cc)
-said-owing false true c e = (cc, cc, cc)
-said-owing false false true e = (refl, refl, refl)
-said-owing false false false e = (cc, cc, cc)
-
-said-admitted : (a b c : Bool) → admissionBy a b c ≡ Admitted → (a ≡ false) × (b ≡ false) × (c ≡ false)
-unfolding admissionBy
-said-admitted true b c e = (cc, cc, cc)
-said-admitted false true c e = (cc, cc, cc)
-said-admitted false false true e = (cc, cc, cc)
-said-admitted false false false e = (refl, refl, refl)
+says true b c = refl
+says false true c = (refl, refl)
+says false false true = (refl, refl, refl)
+says false false false = (refl, refl, refl)
 
 module _ (m : Image) (s : Step) {x : Admission} (f : x ≡ admissionOf m s) where
-  pub refused-unknown : x ≡ Unknown → done 3 0 m ≡ step m s
+  said : {y : Admission} → x ≡ y → Says y (unnamed s (kindOf (s .kind))) (offDesk s (m .k) (kindOf (s .kind))) (owing m s (kindOf (s .kind)))
   unfolding admissionOf
-  refused-unknown e = number-3 m s (kindOf (s .kind)) refl (said-unknown _ _ _ (sym f ∙ e))
+  said e = let n : Kind = kindOf (s .kind) in rw (sym f ∙ e) at (says (unnamed s n) (offDesk s (m .k) n) (owing m s n))
+
+  pub refused-unknown : x ≡ Unknown → done 3 0 m ≡ step m s
+  refused-unknown e = number-3 m s (kindOf (s .kind)) refl (said e)
 
   pub refused-off : x ≡ OffDesk → done 4 0 m ≡ step m s
-  unfolding admissionOf
-  refused-off e = let q = said-off _ _ _ (sym f ∙ e) in number-4 m s (kindOf (s .kind)) refl (q .0) (q .1)
+  refused-off e = let q = said e in number-4 m s (kindOf (s .kind)) refl (q .0) (q .1)
 
   pub refused-owing : x ≡ Owing → done 5 0 m ≡ step m s
-  unfolding admissionOf
-  refused-owing e = let q = said-owing _ _ _ (sym f ∙ e) in number-5 m s (kindOf (s .kind)) refl (q .0) (q .1) (q .2)
+  refused-owing e = let q = said e in number-5 m s (kindOf (s .kind)) refl (q .0) (q .1) (q .2)
 
   pub admitted-passes : x ≡ Admitted → Passed m s (kindOf (s .kind))
-  unfolding admissionOf
-  admitted-passes e = let q = said-admitted _ _ _ (sym f ∙ e) in record { is-kind = refl; named = q .0; on-desk = q .1; none-owed = q .2 }
+  admitted-passes e = let q = said e in record { is-kind = refl; named = q .0; on-desk = q .1; none-owed = q .2 }

@@ -6,7 +6,7 @@ use lib.Dec.{eqb}
 use borrow.Author.Tests.{eqb-true, not-true}
 use Rattle.model.specs.Base.{all, testBit}
 use Rattle.model.specs.Records.{kindOf}
-use Rattle.model.proofs.Laws.{false≢, all-use}
+use Rattle.model.proofs.Laws.{all-use}
 use Rattle.theory.specs.Fields.{boundAt}
 use Rattle.theory.proofs.steps.Fields.{four}
 use Rattle.request_laws.specs.Request.{asksDebt, roleDigit, roleLimit}
@@ -36,10 +36,8 @@ limit-number w (suc (suc (suc d))) a b c = refl
 -- ---- whole tables: t is right for field i
 
 same-bool : (a b : Bool) → cond a b (not b) ≡ true → a ≡ b
-same-bool true true e = refl
-same-bool true false e = false≢ e
-same-bool false true e = false≢ e
-same-bool false false e = refl
+same-bool true b e = sym e
+same-bool false b e = sym (not-true b e)
 
 module _ (n : ℕ) (h : n < 15) (i j : ℕ) (q : j ≡ i) where
   pub limit-at : (w k t r : ℕ) → r ≡ roleLimit w (roleDigit t n) → all 15 (λ n. eqb (roleLimit w (roleDigit t n)) (boundAt w k (kindOf n) i)) ≡ true → r ≡ boundAt w k (kindOf n) j
@@ -50,15 +48,9 @@ module _ (n : ℕ) (h : n < 15) (i j : ℕ) (q : j ≡ i) where
 
 -- fields a and c never are players who must owe nothing
 module _ (n : ℕ) (h : n < 15) where
-  none-a : all 15 (λ n. not (asksDebt (kindOf n) 1)) ≡ true
-  unfolding all kindOf asksDebt
-  none-a = refl
-
-  none-c : all 15 (λ n. not (asksDebt (kindOf n) 3)) ≡ true
-  unfolding all kindOf asksDebt
-  none-c = refl
-
   pub no-debt : (j : ℕ) → j < 4 → (j ≡ 0 → ⊥) → (j ≡ 2 → ⊥) → false ≡ asksDebt (kindOf n) j
+  unfolding all kindOf asksDebt
   no-debt =
       four (λ j. (j ≡ 0 → ⊥) → (j ≡ 2 → ⊥) → false ≡ asksDebt (kindOf n) j)
-      (λ a b. absurd (a refl)) (λ a b. sym (not-true _ (all-use 15 _ none-a n h))) (λ a b. absurd (b refl)) (λ a b. sym (not-true _ (all-use 15 _ none-c n h)))
+      (λ a b. absurd (a refl)) (λ a b. sym (not-true _ (all-use 15 (λ n. not (asksDebt (kindOf n) 1)) refl n h)))
+      (λ a b. absurd (b refl)) (λ a b. sym (not-true _ (all-use 15 (λ n. not (asksDebt (kindOf n) 3)) refl n h)))

@@ -1,7 +1,7 @@
 -- The walks along the free runs, for the lowest that suffices and for their granules: where they stand, and each of their turns.
 use mathlib.Core.Path.{_≡_, refl, sym, ap, _∙_}
 use mathlib.Core.Logic.{_⊎_, inl, inr, ⊎-elim}
-use mathlib.Core.Bool.{Bool, true, false, cond}
+use mathlib.Core.Bool.{cond}
 use Prim.Native.Nat.{ℕ, zero, suc, _+_, _-_, _≤_, _<_, _*_}
 use native.Mathlib.Omega.{arith}
 use lib.Dec.{eqb}
@@ -9,10 +9,9 @@ use borrow.Author.Tests.{le-leb, lt-leb, eq-eqb, ne-eqb}
 use Rattle.model.specs.Image.{Image, granules, word, firstRun}
 use Rattle.model.specs.Mutate.{fit, roomFor, Room, freeFrom, freeGranules}
 use Rattle.runs_laws.specs.Chain.{Linked, linked-end, linked-run}
-use Rattle.model.specs.Steps.{run}
 use Rattle.theory.proofs.heap.Free.{chain-end}
 use native.Mathlib.Nat.{zero-add}
-use Rattle.model.specs.Mutate
+use native.Mathlib.Numerals.{sub-one}
 
 -- ---- a place on the chain, with as many runs left to ask as there may be
 
@@ -31,30 +30,17 @@ chain-measure n g = cond (eqb g 0) 0 (n - g)
 on-first : (m : Image) (g : ℕ) → g ≡ firstRun m → Linked m (firstRun m) → OnChain m (granules m) g
 on-first m g e l = record { enough = inr (omega arith); linked = rw e l }
 
-module _ (m : Image) (left g : ℕ) (o : OnChain m left g) (h : g ≡ 0 → ⊥) where
-  on-in : g < granules m
-  on-in = linked-in m g (o .linked) h .0
-
-  on-left : granules m ≤ left + g
-  on-left = ⊎-elim (λ e. absurd (h e)) (λ l. l) (o .enough)
-
-  on-some : 0 < left
-  on-some = omega (arith, on-in, on-left)
-
-  on-next : OnChain m (left - 1) (word m g 1)
-  on-next =
-      let r = linked-in m g (o .linked) h in
-      record { enough = ⊎-elim (λ z. inl z) (λ (z : g < word m g 1). inr (omega (arith, on-in, on-left))) (r .1); linked = r .2 }
-
-  on-less : chain-measure (granules m) (word m g 1) < chain-measure (granules m) g
-  on-less =
-      let r = linked-in m g (o .linked) h in
-      let i : g < granules m = on-in in
-      rw (ne-eqb g 0 h) (⊎-elim (λ z. rw (eq-eqb (word m g 1) 0 z) (omega arith)) (λ (z : g < word m g 1). go (eqb (word m g 1) 0) i z) (r .1))
-    where
-      go : (t : Bool) → g < granules m → g < word m g 1 → cond t 0 (granules m - word m g 1) < granules m - g
-      go true i z = omega arith
-      go false i z = omega arith
+-- a turn: run g lies in the heap, there was one left to ask, the next is on the chain, and the measure falls
+on-turn : (m : Image) (left g : ℕ) → OnChain m left g → (g ≡ 0 → ⊥)
+    → (g < granules m) × (0 < left) × OnChain m (left - 1) (word m g 1) × (chain-measure (granules m) (word m g 1) < chain-measure (granules m) g)
+on-turn m left g o h =
+    let r = linked-in m g (o .linked) h in
+    let i : g < granules m = r .0 in
+    let l : granules m ≤ left + g = ⊎-elim (λ e. absurd (h e)) (λ l. l) (o .enough) in
+    elim (r .1) [
+      | inl z ↦ (i, omega arith, record { enough = inl z; linked = r .2 }, rw (ne-eqb g 0 h, eq-eqb (word m g 1) 0 z) (omega arith))
+      | inr z ↦ (i, omega arith, record { enough = inr (omega arith); linked = r .2 }, rw (ne-eqb g 0 h, ne-eqb (word m g 1) 0 (λ e. omega arith)) (omega arith))
+    ]
 
 -- ---- the walk for the lowest run that suffices
 
@@ -85,27 +71,27 @@ unfolding roomFor
 walk-first m b g e l = record { left = granules m; on = on-first m g e l; same = rw e }
 
 module _ (m : Image) (b before g : ℕ) (w : Walk m b before g) where
-  pub walk-end : g ≡ 0 → _≡_ {A = Mutate.Room} (record { run = 0; before = before }) (roomFor m b)
+  pub walk-end : g ≡ 0 → _≡_ {A = Room} (record { run = 0; before = before }) (roomFor m b)
   walk-end e = sym (fit-end m b (w .left) before) ∙ (ap (fit m b (w .left) before) (sym e) ∙ w .same)
 
   module _ (h : g ≡ 0 → ⊥) where
     pub walk-in : g < granules m
-    walk-in = on-in m (w .left) g (w .on) h
+    walk-in = on-turn m (w .left) g (w .on) h .0
 
-    pub walk-here : b ≤ word m g 0 → _≡_ {A = Mutate.Room} (record { run = g; before = before }) (roomFor m b)
-    walk-here l = sym (fit-here m b (w .left) before g (on-some m (w .left) g (w .on) h) (omega arith) l) ∙ w .same
+    pub walk-here : b ≤ word m g 0 → _≡_ {A = Room} (record { run = g; before = before }) (roomFor m b)
+    walk-here l = sym (fit-here m b (w .left) before g (on-turn m (w .left) g (w .on) h .1) (omega arith) l) ∙ w .same
 
     pub walk-next : word m g 0 < b → Walk m b g (word m g 1)
     walk-next l =
-        let e : suc (w .left - 1) ≡ w .left = omega (arith, on-some m (w .left) g (w .on) h) in
+        let e : suc (w .left - 1) ≡ w .left = omega (arith, on-turn m (w .left) g (w .on) h .1) in
         record {
           left = w .left - 1;
-          on = on-next m (w .left) g (w .on) h;
+          on = on-turn m (w .left) g (w .on) h .2;
           same = sym (fit-next m b (w .left - 1) before g (omega arith) l) ∙ (rw e (w .same));
         }
 
     pub walk-less : chain-measure (granules m) (word m g 1) < chain-measure (granules m) g
-    walk-less = on-less m (w .left) g (w .on) h
+    walk-less = on-turn m (w .left) g (w .on) h .3
 
 -- ---- the walk that counts granules
 
@@ -113,9 +99,7 @@ free-next : (m : Image) (n g : ℕ) → 0 < n → 0 < g → freeFrom m n g ≡ w
 unfolding freeFrom
 free-next m zero g h i = absurd (omega arith)
 free-next m (suc n) zero h i = absurd (omega arith)
-free-next m (suc n) (suc g) h i =
-    let e : suc n - 1 ≡ n = omega arith in
-    rw e
+free-next m (suc n) (suc g) h i = rw sub-one
 
 -- total granules are counted before run g, each run's fewer than the widest word can say
 pub record Counting (m : Image) (total g : ℕ) : Type 0 where
@@ -135,21 +119,18 @@ module _ (m : Image) (total g : ℕ) (w : Counting m total g) where
 
   module _ (h : g ≡ 0 → ⊥) where
     pub count-in : g < granules m
-    count-in = on-in m (w .left) g (w .on) h
-
-    so-far : total ≤ 4294967295 * g
-    so-far = ⊎-elim (λ e. absurd (h e)) (λ l. l) (w .fewer)
+    count-in = on-turn m (w .left) g (w .on) h .0
 
     pub count-next : (n : ℕ) → n ≡ word m g 0 → n ≤ 4294967295 → Counting m (total + n) (word m g 1)
     count-next n en l =
-        let r = linked-in m g (w .on .linked) h in
+        let so-far : total ≤ 4294967295 * g = ⊎-elim (λ e. absurd (h e)) (λ l. l) (w .fewer) in
         record {
           left = w .left - 1;
-          on = on-next m (w .left) g (w .on) h;
-          same = omega (arith, w .same, en, free-next m (w .left) g (on-some m (w .left) g (w .on) h) (omega arith));
-          small = omega (arith, so-far, count-in);
-          fewer = ⊎-elim (λ z. inl z) (λ (z : g < word m g 1). inr (omega (arith, so-far))) (r .1);
+          on = on-turn m (w .left) g (w .on) h .2;
+          same = omega (arith, w .same, en, free-next m (w .left) g (on-turn m (w .left) g (w .on) h .1) (omega arith));
+          small = omega (arith, count-in);
+          fewer = elim (linked-in m g (w .on .linked) h .1) [ inl z ↦ inl z | inr z ↦ inr (omega arith) ];
         }
 
     pub count-less : chain-measure (granules m) (word m g 1) < chain-measure (granules m) g
-    count-less = on-less m (w .left) g (w .on) h
+    count-less = on-turn m (w .left) g (w .on) h .3

@@ -9,17 +9,12 @@ use Rattle.model.specs.Records.{isDue, kindOf}
 use Rattle.model.specs.Mutate.{freeGranules}
 use Rattle.model.specs.Steps.{numbers-open, accept, act, step}
 use Rattle.request_laws.specs.Answer.{done, asked}
-use Rattle.request_laws.specs.Passed.{Passed}
 use Rattle.request_laws.proofs.Numbers.{number-0}
 
 module _ (m : Image) (a free : ℕ) (f : free ≡ freeGranules m) where
-  passed : Passed m (asked 14 0 a 0 0) isDue
-  unfolding numbers-open kindOf asked
-  passed = record { is-kind = refl; named = refl; on-desk = refl; none-owed = refl }
-
   due-is : done 0 (cond (ltb free a) 1 0) m ≡ step m (asked 14 0 a 0 0)
-  unfolding numbers-open accept act asked
-  due-is = rw f (number-0 passed refl refl refl refl refl refl)
+  unfolding numbers-open kindOf accept act asked
+  due-is = rw f (number-0 {n = isDue} (record { is-kind = refl; named = refl; on-desk = refl; none-owed = refl }) refl refl refl refl refl refl)
 
   pub due-yes : free < a → done 0 1 m ≡ step m (asked 14 0 a 0 0)
   due-yes l = rw (lt-ltb free a l) at due-is

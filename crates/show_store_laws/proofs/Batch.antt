@@ -1,13 +1,12 @@
 -- The ways out of a batch: refused by a misfit, refused as damaged, or run to its end.
-use mathlib.Core.Path.{_≡_, refl, sym, ap, _∙_}
-use mathlib.Core.Bool.{Bool, true, false, not}
-use mathlib.Core.List.{List, [], _∷_}
+use mathlib.Core.Path.{_≡_, sym, ap, _∙_}
+use mathlib.Core.Bool.{Bool, true, false}
+use mathlib.Core.List.{List}
 use Prim.Native.Nat.{ℕ, _*_, _/_, _%_}
-use lib.Dec.{eqb}
 use lib.ListN.{length}
 use borrow.Author.Tests.{eq-eqb, ne-eqb}
 use Rattle.model.specs.Base.{some, first}
-use Rattle.model.specs.Image.{fits, imageOf, parts, words}
+use Rattle.model.specs.Image.{imageOf, words}
 use Rattle.model.specs.Undamaged.{undamaged}
 use Rattle.model.specs.Records.{recordBytes, records}
 use Rattle.model.specs.Steps.{run, after, answersOf}
@@ -21,47 +20,34 @@ use Rattle.image_laws.proofs.Sections.{words-image}
 use Rattle.image_laws.proofs.Size.{misfit-fits, cards-fits, cards-sized, cards-parts}
 use Rattle.show_store_laws.specs.Run.{batched}
 
--- a call by the four tests that may refuse it
-called : Bool → Bool → Bool → Bool → ℕ
-called f b a u = first 1 (some (not f ∷ not b ∷ not a ∷ []) ∷ not u ∷ [])
-
-module _ (w : ℕ) (ws bytes answers : List ℕ) where
-  number-is : (f b a u : Bool) → fits w (length ws) ≡ f → eqb (length bytes % recordBytes w) 0 ≡ b → eqb (length answers) (2 * (length bytes / recordBytes w)) ≡ a → undamaged (parts w ws) ≡ u
-      → batchAt w ws bytes answers ≡ batchWith w ws bytes answers (called f b a u)
-  unfolding batchAt callNumber misfit called
-  number-is f b a u p q r s = rw (p, q, r, s)
-
 module _ (w : ℕ) (ws bytes answers : List ℕ) (s : Extent) (e : s ≡ extentOf w (length ws)) where
   pub batch-misfit : s ≡ Misfit → batched 1 ws answers ≡ batchAt w ws bytes answers
-  unfolding called some first batchWith
-  batch-misfit q = sym (number-is w ws bytes answers _ _ _ _ (misfit-fits w ws s e q) refl refl refl)
+  unfolding batchAt callNumber misfit some first batchWith
+  batch-misfit q = rw (misfit-fits w ws s e q)
 
   module _ (k : ℕ) (q : s ≡ Cards k) where
     pub batch-part : (length bytes % recordBytes w ≡ 0 → ⊥) → batched 1 ws answers ≡ batchAt w ws bytes answers
-    unfolding called some first batchWith
-    batch-part h = sym (number-is w ws bytes answers _ _ _ _ (cards-fits w ws s e k q) (ne-eqb _ _ h) refl refl)
+    unfolding batchAt callNumber misfit some first batchWith
+    batch-part h = rw (cards-fits w ws s e k q, ne-eqb)
 
     module _ (h : length bytes % recordBytes w ≡ 0) where
       pub batch-answers : (length answers ≡ 2 * (length bytes / recordBytes w) → ⊥) → batched 1 ws answers ≡ batchAt w ws bytes answers
-      unfolding called some first batchWith
-      batch-answers l = sym (number-is w ws bytes answers _ _ _ _ (cards-fits w ws s e k q) (eq-eqb _ _ h) (ne-eqb _ _ l) refl)
+      unfolding batchAt callNumber misfit some first batchWith
+      batch-answers l = rw (cards-fits w ws s e k q, eq-eqb, ne-eqb)
 
       module _ (l : length answers ≡ 2 * (length bytes / recordBytes w)) (u : Bool) (eu : u ≡ undamaged (imageOf w k ws)) where
-        judged : undamaged (parts w ws) ≡ u
-        judged = ap undamaged (cards-parts w ws s e k q) ∙ sym eu
-
         pub batch-damaged : u ≡ false → batched 2 ws answers ≡ batchAt w ws bytes answers
-        unfolding called some first batchWith
-        batch-damaged d = sym (number-is w ws bytes answers _ _ _ _ (cards-fits w ws s e k q) (eq-eqb _ _ h) (eq-eqb _ _ l) (judged ∙ d))
+        unfolding batchAt callNumber misfit some first batchWith
+        batch-damaged d = rw (cards-fits w ws s e k q, eq-eqb, eq-eqb, cards-parts w ws s e k q, ← eu, d)
 
         pub batch-run : u ≡ true → (vs out : List ℕ) → length vs ≡ length ws
             → imageOf w k vs ≡ after (imageOf w k ws) (run (imageOf w k ws) (records w bytes)) → out ≡ answersOf (run (imageOf w k ws) (records w bytes))
             → batched 0 vs out ≡ batchAt w ws bytes answers
-        unfolding called some first batchWith events
+        unfolding batchAt callNumber misfit some first batchWith events
         batch-run d vs out n i a =
             let z = cards-sized w ws s e k q in
             let left : vs ≡ words (after (imageOf w k ws) (run (imageOf w k ws) (records w bytes))) = sym (words-image (record { low = z .low; high = z .high; long = n ∙ z .long })) ∙ ap words i in
-            sym (number-is w ws bytes answers _ _ _ _ (cards-fits w ws s e k q) (eq-eqb _ _ h) (eq-eqb _ _ l) (judged ∙ d) ∙ rw (cards-parts w ws s e k q, ← left, ← a))
+            rw (cards-fits w ws s e k q, eq-eqb, eq-eqb, cards-parts w ws s e k q, ← eu, d, cards-parts w ws s e k q, left, a)
 
 -- what the loop asks for
 pub judged-undamaged : (w : ℕ) (ws : List ℕ) (s : Extent) (k : ℕ) (u : Bool) → s ≡ extentOf w (length ws) → s ≡ Cards k → u ≡ undamaged (imageOf w k ws) → u ≡ true → Undamaged (imageOf w k ws)

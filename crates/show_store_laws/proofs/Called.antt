@@ -1,7 +1,7 @@
 -- What the contract of `batch` says over a row of calls: demand 3, and an undamaged image is handed back undamaged.
-use mathlib.Core.Path.{_≡_, refl, sym, ap, subst, _∙_}
-use mathlib.Core.List.{List, _∷_, _++_, map, List·Memᴰ, List·Memᴰ·cases-cons}
-use mathlib.Core.Logic.{⊎-elim}
+use mathlib.Core.Path.{_≡_, refl, ap, _∙_}
+use mathlib.Core.List.{List, _∷_, map, List·Memᴰ, List·Memᴰ·cases-cons}
+use mathlib.Core.Logic.{inl, inr}
 use Prim.Native.Nat.{ℕ, zero, suc}
 use Rattle.model.specs.Steps.{answersOf}
 use Rattle.model.specs.Batch.{Batch, callNumber, batchWith, batchAt}
@@ -16,8 +16,7 @@ use Rattle.show_store_laws.proofs.Run.{answers-append}
 calls-results : {w : ℕ} {ws : List ℕ} {bs : List Lent} {rs : List Batch} → Called w ws bs rs → map (λ (r : Batch). r .result) rs ≡ results w ws bs
 unfolding results
 calls-results none = refl
-calls-results {w} {ws} (more b r bs rs e c) =
-    subst (λ (q : Batch). r .result ∷ map (λ (x : Batch). x .result) rs ≡ q .result ∷ results w (q .image) bs) e (ap (λ l. r .result ∷ l) (calls-results c))
+calls-results (more b r bs rs e c) = rw (← e) (ap (λ l. r .result ∷ l) (calls-results c))
 
 -- the claim's answers are the words that the calls have written
 one-written : (w : ℕ) (ws : List ℕ) (b : Lent) (n : ℕ) → let q : Batch = batchWith w ws (b .steps) (b .answers) n in answersOf (eventsOf w ws b (q .result)) ≡ writtenBy q (q .result)
@@ -29,21 +28,17 @@ calls-answers : {w : ℕ} {ws : List ℕ} {bs : List Lent} {rs : List Batch} →
 unfolding history written batchAt answersOf
 calls-answers none = refl
 calls-answers {w} {ws} (more b r bs rs e c) =
-    let q : Batch = batchWith w ws (b .steps) (b .answers) (callNumber w ws (b .steps) (b .answers)) in
-    let rest : answersOf (history w (q .image) bs) ≡ written rs = subst (λ (x : Batch). answersOf (history w (x .image) bs) ≡ written rs) e (calls-answers c) in
-    answers-append (eventsOf w ws b (q .result)) (history w (q .image) bs)
-    ∙ (ap (λ l. l ++ answersOf (history w (q .image) bs)) (one-written w ws b (callNumber w ws (b .steps) (b .answers)))
-    ∙ (ap (λ l. writtenBy q (q .result) ++ l) rest ∙ ap (λ (x : Batch). writtenBy x (x .result) ++ written rs) (sym e)))
+    let n : ℕ = callNumber w ws (b .steps) (b .answers) in
+    let q : Batch = batchWith w ws (b .steps) (b .answers) n in
+    let rest : answersOf (history w (q .image) bs) ≡ written rs = rw e at (calls-answers c) in
+    answers-append (eventsOf w ws b (q .result)) (history w (q .image) bs) ∙ rw (one-written w ws b n, rest, e)
 
 -- "A batch hands back an undamaged image undamaged"
-batch-undamaged : (w : ℕ) (ws bytes answers : List ℕ) (r : Batch) → r ≡ batchAt w ws bytes answers → judgeAt w ws ≡ 0 → judgeAt w (r .image) ≡ 0
-batch-undamaged w ws bytes answers r e j = subst (λ (x : Batch). judgeAt w (x .image) ≡ 0) (sym e) (batch-judged w ws bytes answers j)
-
 calls-undamaged : {w : ℕ} {ws : List ℕ} {bs : List Lent} {rs : List Batch} → judgeAt w ws ≡ 0 → Called w ws bs rs → (r : Batch) → List·Memᴰ r rs → judgeAt w (r .image) ≡ 0
 calls-undamaged j none r k = elim k [ ]
 calls-undamaged {w} {ws} j (more b q bs rs e c) r k =
-    let left : judgeAt w (q .image) ≡ 0 = batch-undamaged w ws (b .steps) (b .answers) q e j in
-    ⊎-elim (λ (x : r ≡ q). subst (λ (y : Batch). judgeAt w (y .image) ≡ 0) (sym x) left) (λ x. calls-undamaged left c r x) (List·Memᴰ·cases-cons k)
+    let left : judgeAt w (q .image) ≡ 0 = rw e (batch-judged w ws (b .steps) (b .answers) j) in
+    elim (List·Memᴰ·cases-cons k) [ inl x ↦ rw x left | inr x ↦ calls-undamaged left c r x ]
 
 pub calls-hold : (w : ℕ) (ws : List ℕ) (bs : List Lent) (rs : List Batch) → judgeAt w ws ≡ 0 → Called w ws bs rs → CallsHold w ws bs rs
 calls-hold w ws bs rs j c = record { claim = demand-three w ws bs j; same-results = calls-results c; same-answers = calls-answers c; undamaged = calls-undamaged j c }

@@ -1,19 +1,20 @@
 -- The dispatch: what an admitted request's fields are, kind by kind, and its step by its kind.
-use mathlib.Core.Path.{_≡_, refl, sym, ap, subst, _∙_}
+use mathlib.Core.Path.{_≡_, refl}
 use mathlib.Core.Bool.{true}
-use Prim.Native.Nat.{ℕ, zero, suc, _^_, _≤_, _<_}
+use Prim.Native.Nat.{ℕ, zero, suc, _≤_, _<_}
 use native.Mathlib.Decide.{decLt}
 use native.Mathlib.Omega.{arith}
 use Rattle.model.specs.Image.{Image, owed}
-use Rattle.model.specs.Records.{Kind, unknown, kindOf}
+use Rattle.model.specs.Records.{unknown, kindOf}
 use Rattle.model.specs.Rows.{rowOf, player}
 use Rattle.model.specs.Steps as steps
 use Rattle.model.specs.Steps.{unnamed, step}
 use Rattle.model.proofs.Rows.{kind-unknown}
 use Rattle.theory.specs.Fields.{fieldAt, roleAt, boundAt}
-use Rattle.theory.proofs.steps.Fields.{four, field-zero, field-below, field-paid}
+use Rattle.theory.proofs.steps.Fields.{field-zero, field-below, field-paid}
 use Rattle.request_laws.specs.Answer.{done, asked}
 use Rattle.request_laws.proofs.Numbers.{number-3}
+use Rattle.request_laws.proofs.Fields.{in-range}
 use Rattle.request_laws.specs.Passed.{Passed}
 use Rattle.request_laws.specs.Request.{requested, InRange}
 use Rattle.request_laws.specs.declared.Request.{Request}
@@ -24,25 +25,18 @@ unfolding requested asked
 by-kind m r n w a b c d e f g h i q = rw (e, f, g, h, i) q
 
 module _ (w : ℕ) {m : Image} (r : Request) (v : InRange w r) (q : Passed m (requested r) (kindOf (r .kind))) where
-  in-range : (i : ℕ) → i < 4 → fieldAt (requested r) i < 2 ^ w
-  unfolding requested fieldAt
-  in-range = four (λ i. fieldAt (requested r) i < 2 ^ w) (v .who-small) (v .a-small) (v .b-small) (v .c-small)
-
   -- a field that its kind n does not name, one that has a limit, and a player who must owe nothing
   module _ (n : ℕ) (e : r .kind ≡ n) (i : ℕ) (h : i < 4) where
-    same : kindOf (r .kind) ≡ kindOf n
-    same = ap kindOf e
-
     zero-at : boundAt w (m .k) (kindOf n) i ≡ 0 → fieldAt (requested r) i ≡ 0
-    zero-at z = field-zero w (m .k) (requested r) (kindOf (r .kind)) (q .named) i h (ap (λ (x : Kind). boundAt w (m .k) x i) same ∙ z)
+    zero-at z = field-zero w (m .k) (requested r) (kindOf (r .kind)) (q .named) i h (rw e z)
 
     below-at : (l : ℕ) → boundAt w (m .k) (kindOf n) i ≡ suc l → fieldAt (requested r) i < suc l
     below-at l b =
-        let s : boundAt w (m .k) (kindOf (r .kind)) i ≡ suc l = ap (λ (x : Kind). boundAt w (m .k) x i) same ∙ b in
-        subst (λ (x : ℕ). fieldAt (requested r) i < x) s (field-below w (m .k) (requested r) (kindOf (r .kind)) (q .on-desk) i h (in-range i h) (subst (λ (x : ℕ). 0 < x) (sym s) (omega arith)))
+        let s : boundAt w (m .k) (kindOf (r .kind)) i ≡ suc l = rw e b in
+        rw s at (field-below w (m .k) (requested r) (kindOf (r .kind)) (q .on-desk) i h (in-range w (m .k) r v i h) (omega arith))
 
     paid-at : (rowOf (kindOf n)) .unowing ≡ true → roleAt (kindOf n) i ≡ player → owed m (fieldAt (requested r) i) ≡ 0
-    paid-at u p = field-paid m (requested r) (kindOf (r .kind)) (q .none-owed) (ap (λ (x : Kind). (rowOf x) .unowing) same ∙ u) i h (ap (λ (x : Kind). roleAt x i) same ∙ p)
+    paid-at u p = field-paid m (requested r) (kindOf (r .kind)) (q .none-owed) (rw e u) i h (rw e p)
 
   -- ---- kind by kind: the limits of its fields and who must owe nothing; its step, where the fields that it does not name are 0
 
@@ -155,11 +149,7 @@ none-to n (suc j) h p q = none-to n j (h .0) p (omega (arith, h .1))
 no-kind : (n : ℕ) → NoneTo n 14 → kindOf n ≡ unknown
 unfolding kindOf
 no-kind zero h = refl
-no-kind (suc n) h = kind-unknown (suc n) (at-least (decLt (suc n) 15))
-  where
-    at-least : Dec (suc n < 15) → 15 ≤ suc n
-    at-least (yes l) = absurd (none-to (suc n) 14 h (omega arith) (omega arith))
-    at-least (no l) = omega arith
+no-kind (suc n) h = kind-unknown (suc n) (elim (decLt (suc n) 15) [ yes l ↦ absurd (none-to (suc n) 14 h (omega arith) (omega arith)) | no l ↦ omega arith ])
 
 pub no-step : (m : Image) (r : Request) → NoneTo (r .kind) 14 → done 3 0 m ≡ step m (requested r)
 unfolding requested unnamed

@@ -1,11 +1,11 @@
 -- One turn of the batch's loop, and its invariant: the records so far have run, and their answers stand before what is left of the answer space.
 use mathlib.Core.Path.{_≡_, refl, sym, ap, _∙_}
-use mathlib.Core.List.{List, [], _∷_, _++_, append-assoc, append-nil}
+use mathlib.Core.List.{List, [], _∷_, _++_, append-nil}
 use Prim.Native.Nat.{ℕ, zero, suc, _+_, _*_, _/_, _≤_, _<_, zero-le}
 use native.Mathlib.Omega.{arith}
 use native.Mathlib.Numerals.{add-one}
 use lib.ListN.{length, set, drop, length-append, length-drop, drop-of-length-le}
-use lib.Seq.{drop-drop}
+use lib.Seq.{drop-drop, take-at, drop-at, sets-eq}
 use Rattle.model.specs.Base.{table}
 use Rattle.model.specs.Image.{Image, imageOf}
 use Rattle.model.specs.Records.{Step, recordBytes, records}
@@ -59,12 +59,6 @@ module _ (w : ℕ) (m : Image) (bytes : List ℕ) (i : ℕ) where
 
 -- ---- two words written behind a list
 
-set-two : (p l : List ℕ) (n x y : ℕ) → length p ≡ n → 2 ≤ length l → set (set (p ++ l) n x) (suc n) y ≡ p ++ (x ∷ y ∷ drop 2 l)
-set-two [] [] n x y e h = absurd (omega arith)
-set-two [] (a ∷ []) n x y e h = absurd (omega arith)
-set-two [] (a ∷ b ∷ l) n x y e h = rw (← e)
-set-two (z ∷ p) l n x y e h = rw (← e) (ap (λ q. z ∷ q) (set-two p l (length p) x y refl h))
-
 module _ (w : ℕ) (m : Image) (bytes : List ℕ) (i : ℕ) (long : length (answersOf (ran w m bytes i)) ≡ 2 * i) where
   long-one : length (answersOf (ran w m bytes (suc i))) ≡ 2 * suc i
   long-one = rw (answers-one w m bytes i, length-append (answersOf (ran w m bytes i)) ((step (so-far w m bytes i) (recordAt w bytes i)) .number ∷ (step (so-far w m bytes i) (recordAt w bytes i)) .value ∷ [])) (omega arith)
@@ -74,10 +68,13 @@ module _ (w : ℕ) (m : Image) (bytes : List ℕ) (i : ℕ) (long : length (answ
   unfolding writtenAt
   written-one answers h =
       let p : List ℕ = answersOf (ran w m bytes i) in
+      let r : List ℕ = drop (2 * i) answers in
       let d : Done = step (so-far w m bytes i) (recordAt w bytes i) in
       let q : 2 * i + 2 ≡ 2 * suc i = omega arith in
       let o : 2 * i + 1 ≡ suc (2 * i) = omega arith in
-      rw (o, set-two p (drop (2 * i) answers) (2 * i) (d .number) (d .value) long (omega (arith, length-drop (2 * i) answers)), drop-drop 2 (2 * i) answers, q, answers-one w m bytes i, append-assoc p (d .number ∷ d .value ∷ []) (drop (2 * suc i) answers))
+      rw (o, answers-one w m bytes i)
+      (sets-eq (d .number ∷ d .value ∷ []) (p ++ r) (2 * i) (omega (arith, length-append p r, length-drop (2 * i) answers))
+      ∙ rw (take-at p r (2 * i) long, ← (drop-drop 2 (2 * i) (p ++ r)), drop-at p r (2 * i) long, drop-drop 2 (2 * i) answers, q))
 
 -- ---- the invariant
 
@@ -115,14 +112,10 @@ module _ (w k : ℕ) (im₀ bytes answers₀ : List ℕ) (n : ℕ) (im answers :
 
 -- ---- the end
 
-ran-all : (w : ℕ) (m : Image) (bytes : List ℕ) (n : ℕ) → n ≡ length bytes / recordBytes w → ran w m bytes n ≡ run m (records w bytes)
-unfolding ran records recordAt
-ran-all w m bytes n e = rw e
-
 module _ (w k : ℕ) (im₀ bytes answers₀ : List ℕ) (n : ℕ) (im answers : List ℕ) where
   pub ran-end : Ran w k im₀ bytes answers₀ n im answers n → n ≡ length bytes / recordBytes w → length answers₀ ≡ 2 * n
       → (imageOf w k im ≡ after (imageOf w k im₀) (run (imageOf w k im₀) (records w bytes))) × (answers ≡ answersOf (run (imageOf w k im₀) (records w bytes)))
   ran-end r h l =
       let m : Image = imageOf w k im₀ in
-      let e : ran w m bytes n ≡ run m (records w bytes) = ran-all w m bytes n h in
+      let e : ran w m bytes n ≡ run m (records w bytes) = unfold ran records recordAt in rw h in
       (r .image ∙ ap (after m) e, r .written ∙ (rw (drop-of-length-le answers₀ {i = 2 * n} (omega arith)) (append-nil _) ∙ ap answersOf e))

@@ -36,41 +36,27 @@ tyAt [] j = tyUnit
 tyAt (local t h ∷ ls) zero = t
 tyAt (local t h ∷ ls) (suc j) = tyAt ls j
 
+-- the first part and the rest of a sequence, and a turn of a loop
+abbrev parts : Code → Code × Code × Code
+parts skipᴹ = (skipᴹ, skipᴹ, skipᴹ)
+parts (seq a b) = (a, b, skipᴹ)
+parts (assign p r) = (skipᴹ, skipᴹ, skipᴹ)
+parts (block b) = (skipᴹ, skipᴹ, (parts b) .2)
+parts (loop b) = (skipᴹ, skipᴹ, b)
+parts (cond c a b) = (skipᴹ, skipᴹ, skipᴹ)
+parts (switch c rs) = (skipᴹ, skipᴹ, skipᴹ)
+parts (exit j) = (skipᴹ, skipᴹ, skipᴹ)
+parts return = (skipᴹ, skipᴹ, skipᴹ)
+parts (call f rs p) = (skipᴹ, skipᴹ, skipᴹ)
+
 abbrev pub first-of : Code → Code
-first-of skipᴹ = skipᴹ
-first-of (seq a b) = a
-first-of (assign p r) = skipᴹ
-first-of (block b) = skipᴹ
-first-of (loop b) = skipᴹ
-first-of (cond c a b) = skipᴹ
-first-of (switch c rs) = skipᴹ
-first-of (exit j) = skipᴹ
-first-of return = skipᴹ
-first-of (call f rs p) = skipᴹ
+first-of c = (parts c) .0
 
 abbrev pub rest-of : Code → Code
-rest-of skipᴹ = skipᴹ
-rest-of (seq a b) = b
-rest-of (assign p r) = skipᴹ
-rest-of (block b) = skipᴹ
-rest-of (loop b) = skipᴹ
-rest-of (cond c a b) = skipᴹ
-rest-of (switch c rs) = skipᴹ
-rest-of (exit j) = skipᴹ
-rest-of return = skipᴹ
-rest-of (call f rs p) = skipᴹ
+rest-of c = (parts c) .1
 
 abbrev pub inside : Code → Code
-inside skipᴹ = skipᴹ
-inside (seq a b) = skipᴹ
-inside (assign p r) = skipᴹ
-inside (block b) = inside b
-inside (loop b) = b
-inside (cond c a b) = skipᴹ
-inside (switch c rs) = skipᴹ
-inside (exit j) = skipᴹ
-inside return = skipᴹ
-inside (call f rs p) = skipᴹ
+inside c = (parts c) .2
 
 -- three facts of a `requires` are learned
 pub needs3 : {M : Type 1} (𝓤 : URA M) (φ ψ χ : Type 0) (P : SProp 𝓤) {Q : SProp 𝓤} → (φ → ψ → χ → ent 𝓤 P Q) → ent 𝓤 (sep 𝓤 P (sep 𝓤 (fact 𝓤 φ) (sep 𝓤 (fact 𝓤 ψ) (fact 𝓤 χ)))) Q
