@@ -1,9 +1,8 @@
 // A finish: what it finds is marked, the rest is freed, and the cycle ends.
 ghost use mathlib.Core.Path.{_≡_};
-ghost use mathlib.Core.Bool.{true};
-ghost use Rattle.model.specs.Undamaged.{sound};
 ghost use Rattle.model.specs.Finish.{finishStep};
 ghost use Rattle.model.specs.Image.{imageOf};
+ghost use Rattle.theory.specs.Lines.{Sound};
 ghost use Rattle.image_laws.specs.Sized.{Sized};
 ghost use Rattle.image.specs.Layout.{width};
 ghost use Rattle.finish_laws.specs.Ending.{finished};
@@ -16,7 +15,7 @@ pub mod step; // step.rt: kind 13, the finish as a step
 // The value: granules freed, by which the free runs grow.
 pub fn finish(im: &mut [Word], k: usize) -> Word
     requires { ⌜ Sized width k (now im) ⌝ }
-    requires { ⌜ sound (imageOf width k (now im)) ≡ true ⌝ }
+    requires { ⌜ Sound (imageOf width k (now im)) ⌝ }
     ensures { λ r. ⌜ finished r (imageOf width k (now (im .exit))) ≡ finishStep (imageOf width k (now (im .entry))) ⌝ }
 {
     let before = runs::chain::free_granules(im, k);

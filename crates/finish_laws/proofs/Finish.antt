@@ -8,11 +8,11 @@ use lib.ListN.{length, replicate, getD, take, drop, length-drop}
 use lib.Seq.{set-comm}
 use Rattle.model.specs.Base.{nth, put, zeros, addBits}
 use Rattle.model.specs.Image.{Image, granules, isStart, marked, firstRun, imageOf, withHeap, withStarts, withMarks, withPackets, withTracers, withPlayers, withGeneral, setFirstRun, words}
-use Rattle.model.specs.Undamaged.{sound}
 use Rattle.model.specs.Mutate.{freeFrom, freeGranules}
 use Rattle.model.specs.Finish.{Kept, kept-marked, kept-found, keptSet, Swept, sweptWords, firstOf, sweep, finishWith, finishStep}
 use Rattle.model.proofs.Words.{Fits, parts-words, words-fit}
-use Rattle.theory.specs.Lines.{Lines}
+use Rattle.theory.specs.Lines.{Lines, Sound}
+use Rattle.theory.proofs.lines.Judged.{sound-make}
 use Rattle.theory.proofs.lines.Sizes.{fits-sizes}
 use Rattle.model.proofs.Sited.{Sited, sited}
 use Rattle.model.proofs.Found.{found-start, set-kept, kept-set}
@@ -30,13 +30,12 @@ use Rattle.image_laws.proofs.Lengths.{width-image, cards-image, sized-width, st
 use Rattle.image_laws.proofs.Sections.{image-fits, granules-image}
 use Rattle.image_laws.proofs.Words.{zero-words, bit-words}
 use Rattle.finish_marking_laws.specs.Seeds.{KeptMarked}
-use Rattle.finish_marking_laws.proofs.Fits.{sound-lines}
 use Rattle.finish_marking_laws.proofs.seeds.Bared.{same-section}
 
 -- ---- what is marked is the computed set
 
-pub sited-of : (m : Image) → Fits m → sound m ≡ true → Sited m
-sited-of m f e = rw (parts-words m f) at (sited (m .width) (words m) (words-fit m f) (rw (parts-words m f) e))
+pub sited-of : (m : Image) → Fits m → Sound m → Sited m
+sited-of m f s = rw (parts-words m f) at (sited (m .width) (words m) (words-fit m f) (rw (parts-words m f) (sound-make m s)))
 
 kept-start : (m : Image) → Sited m → Lines m → (g : ℕ) → Kept m g → isStart m g ≡ true
 unfolding isStart marked
@@ -45,7 +44,7 @@ kept-start m s o g (kept-found h) = found-start m s h .1
 
 -- ---- the whole
 
-module _ {w k : ℕ} {ws ws1 : List ℕ} (z : Sized w k ws) (z1 : Sized w k ws1) (e : sound (imageOf w k ws) ≡ true) (q : KeptMarked (imageOf w k ws) (imageOf w k ws1)) where
+module _ {w k : ℕ} {ws ws1 : List ℕ} (z : Sized w k ws) (z1 : Sized w k ws1) (e : Sound (imageOf w k ws)) (q : KeptMarked (imageOf w k ws) (imageOf w k ws1)) where
   abbrev m : Image
   m = imageOf w k ws
 
@@ -58,7 +57,7 @@ module _ {w k : ℕ} {ws ws1 : List ℕ} (z : Sized w k ws) (z1 : Sized w k ws1)
   same-set : (g : ℕ) → marked m1 g ≡ is-kept g
   same-set g =
       let s = sited-of m (image-fits z) e in
-      same-test _ _ (λ h. let r = q .only g h in kept-set m s g (kept-start m s (sound-lines z e) g r) r) (λ h. q .all g (set-kept m s g h .1))
+      same-test _ _ (λ h. let r = q .only g h in kept-set m s g (kept-start m s (e .lines) g r) r) (λ h. q .all g (set-kept m s g h .1))
 
   -- the sweep over what is kept, and over the marks
   kept-sweep : Swept
@@ -74,12 +73,12 @@ module _ {w k : ℕ} {ws ws1 : List ℕ} (z : Sized w k ws) (z1 : Sized w k ws1)
   swept-runs : SweptRuns k m1 m (firstRun m) marks-sweep
   unfolding marks-sweep
   swept-runs =
-      let heap : HeapFilled m = heap-filled-of (sound-lines z e) in
+      let heap : HeapFilled m = heap-filled-of (e .lines) in
       let filled : Filled (isStart m1) 1 (drop 4 (m1 .heap)) (firstRun m) false = rw (fun-ext (q .starts), q .heap) (heap .heap-filled) in
       let long : length (m1 .heap) ≡ 4 * (64 * k) = rw (cards-image w k ws1) at (fits-sizes m1 (image-fits z1) .heap-size) in
       let behind : 4 + length (drop 4 (m1 .heap)) ≡ 4 * (64 * k) = omega (arith, length-drop 4 (m1 .heap), z .low) in
       swept-all k m1 m (z .low) long (omega (arith, fits-sizes m1 (image-fits z1) .general-size)) (q .heap)
-      (λ g h. q .starts g ∙ kept-start m (sited-of m (image-fits z) e) (sound-lines z e) g (q .only g h))
+      (λ g h. q .starts g ∙ kept-start m (sited-of m (image-fits z) e) (e .lines) g (q .only g h))
       (granules m) filled (q .starts 0 ∙ no-start-zero heap) (omega (arith, granules-image w k ws)) behind
 
   -- ---- the value

@@ -1,8 +1,6 @@
 // The marking of a finish: all that it keeps is marked, with no memory beyond the image's own bits and cards.
-ghost use mathlib.Core.Path.{_≡_};
-ghost use mathlib.Core.Bool.{true};
-ghost use Rattle.model.specs.Undamaged.{sound};
 ghost use Rattle.model.specs.Image.{imageOf};
+ghost use Rattle.theory.specs.Lines.{Sound};
 ghost use Rattle.image_laws.specs.Sized.{Sized};
 ghost use Rattle.image.specs.Layout.{width};
 ghost use Rattle.finish_marking_laws.specs.Seeds.{KeptMarked};
@@ -14,7 +12,7 @@ pub mod seeds; // seeds.rt: the objects whose links are followed first
 // Marks all that a finish keeps: the seeds become pending, then their links are followed.
 pub fn mark_found(im: &mut [Word], k: usize)
     requires { ⌜ Sized width k (now im) ⌝ }
-    requires { ⌜ sound (imageOf width k (now im)) ≡ true ⌝ }
+    requires { ⌜ Sound (imageOf width k (now im)) ⌝ }
     ensures { λ _. ⌜ KeptMarked (imageOf width k (now (im .entry))) (imageOf width k (now (im .exit))) ⌝ }
 {
     seeds::open_entries(im, k);

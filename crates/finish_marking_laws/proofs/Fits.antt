@@ -7,18 +7,13 @@ use Prim.Native.Nat.{ℕ, _+_, _*_, _<_, _≤_}
 use native.Mathlib.Omega.{arith}
 use Rattle.model.specs.Base.{nth}
 use Rattle.model.specs.Image.{Image, granules, isStart, marked, link, imageOf}
-use Rattle.model.specs.Undamaged.{sound}
-use Rattle.theory.specs.Lines.{none, one, Lines}
+use Rattle.theory.specs.Lines.{none, one, Lines, Sound}
 use Rattle.theory.proofs.heap.Walk.{object-at}
-use Rattle.theory.proofs.lines.Judged.{sound-use}
-use Rattle.theory.proofs.lines.Sizes.{fits-sizes}
 use Rattle.theory.proofs.heap.Facts.{heap-filled-of, link-value, start-at}
 use Rattle.finish_marking_laws.specs.Follow.{objectBit, World}
 use Rattle.image_laws.specs.Digits.{markBit, startBit}
-use Rattle.image_laws.specs.Sized.{Sized}
 use Rattle.image_laws.proofs.Digits.{digit-two, digit-le, digit-on, digit-off, on-digit}
 use Rattle.image_laws.proofs.Lengths.{cards-image}
-use Rattle.image_laws.proofs.Sections.{image-fits}
 
 pub record Fit (k : ℕ) (m : Image) : Type 0 where
   pub number : m .k ≡ k
@@ -60,8 +55,5 @@ module _ (m : Image) (o : Lines m) where
     handCards = λ t h. elim (o .tracers-ok .handCards .pair t h) [ none z _ ↦ omega arith | one _ r ↦ r .0 ];
   }
 
-pub sound-lines : {w k : ℕ} {ws : List ℕ} → Sized w k ws → sound (imageOf w k ws) ≡ true → Lines (imageOf w k ws)
-sound-lines {w} {k} {ws} z e = sound-use (imageOf w k ws) (fits-sizes (imageOf w k ws) (image-fits z)) e .lines
-
-pub sound-fit : {w k : ℕ} {ws : List ℕ} → Sized w k ws → sound (imageOf w k ws) ≡ true → Fit k (imageOf w k ws)
-sound-fit {w} {k} {ws} z e = subst (λ (j : ℕ). Fit j (imageOf w k ws)) (cards-image w k ws) (lines-fit (imageOf w k ws) (sound-lines z e))
+pub sound-fit : (w k : ℕ) (ws : List ℕ) → Sound (imageOf w k ws) → Fit k (imageOf w k ws)
+sound-fit w k ws s = subst (λ (j : ℕ). Fit j (imageOf w k ws)) (cards-image w k ws) (lines-fit (imageOf w k ws) (s .lines))

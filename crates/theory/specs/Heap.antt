@@ -30,13 +30,6 @@ pub data Filled (st : ℕ → Bool) : ℕ → List ℕ → ℕ → Bool → Type
   f-run : {g : ℕ} (n next : ℕ) (rest : List ℕ) → st g ≡ false → Bare st g (suc n)
       → Filled st (g + suc n) rest next true → Filled st g (runWords n next ++ rest) g false
 
--- the object that starts at h, in the words from granule g on
-pub record At (st : ℕ → Bool) (g : ℕ) (ws : List ℕ) (h : ℕ) : Type 0 where
-  pub size-pos : 1 ≤ nth ws (4 * (h - g))
-  pub links-in : nth ws (4 * (h - g) + 1) + 2 ≤ 4 * nth ws (4 * (h - g))
-  pub in-words : 4 * (h - g) + 4 * nth ws (4 * (h - g)) ≤ length ws
-  pub none-inside : (i : ℕ) → h < i → i < h + nth ws (4 * (h - g)) → st i ≡ false
-
 -- the heap of an image is filled
 pub record HeapFilled (m : Image) : Type 0 where
   pub heap-words : length (m .heap) ≡ 4 * granules m

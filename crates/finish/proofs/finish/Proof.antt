@@ -1,6 +1,3 @@
-use Rattle.theory.proofs.lines.Judged.{sound-use}
-use Rattle.theory.proofs.lines.Sizes.{fits-sizes}
-use Rattle.image_laws.proofs.Sections.{image-fits}
 use Rattle.runs_laws.proofs.Sound.{sound-linked}
 use Rattle.finish_laws.proofs.Finish.{value-fits, finish-whole}
 use borrow.Author.Needs.{needs}
@@ -8,7 +5,7 @@ use Rattle.finish.proofs.finish.Statement.{statement}
 use Rattle.finish.proofs.finish.Tie as tie
 
 free-granules-requires : tie.Need-free-granules-requires
-free-granules-requires c κs = let S = c .before .before .pre in (S .0, sound-linked _ (sound-use _ (fits-sizes _ (image-fits (S .0))) (S .1)))
+free-granules-requires c κs = let S = c .before .before .pre in (S .0, sound-linked _ (S .1))
 
 sub-result : tie.Need-sub-result
 sub-result c = let E = c .before .before in let K = E .before .before .before .before in let W = K .before .before .before .before in let M = W .before .before .before .before in let F = M .before .before in let S = F .before .before .before in value-fits (S .pre .0) (search needs) (S .pre .1) (M .mark-found .ensures) _ _ _ (F .free-granules .ensures) (W .sweep-all .ensures .0)

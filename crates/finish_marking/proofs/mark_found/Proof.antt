@@ -10,13 +10,13 @@ use Rattle.finish_marking.proofs.mark_found.Tie as tie
 open-entries-requires : tie.Need-open-entries-requires
 open-entries-requires c κs =
     let S = c .before .before in
-    (search needs, entries-in (S .pre .0 .low) (sound-fit (S .pre .0) (S .pre .1)))
+    (search needs, entries-in (S .pre .0 .low) (sound-fit _ _ _ (S .pre .1)))
 
 open-hands-requires : tie.Need-open-hands-requires
 open-hands-requires c κs =
     let E = c .before .before .before in
     let S = E .before .before .before in
-    (search needs, rw (same-section (E .open-entries .ensures .rest) 2) (hands-in (S .pre .0 .low) (sound-fit (S .pre .0) (S .pre .1))))
+    (search needs, rw (same-section (E .open-entries .ensures .rest) 2) (hands-in (S .pre .0 .low) (sound-fit _ _ _ (S .pre .1))))
 
 hold-all-requires : tie.Need-hold-all-requires
 hold-all-requires c κs =
@@ -25,7 +25,7 @@ hold-all-requires c κs =
     let E = H .before .before .before .before in
     let S = E .before .before .before in
     let d = all-due (E .open-entries .ensures) (H .open-hands .ensures) (D .open-dirties .ensures) in
-    (search needs, rw (same-section (d .rest) 0) (regs-in (S .pre .0 .low) (sound-fit (S .pre .0) (S .pre .1))))
+    (search needs, rw (same-section (d .rest) 0) (regs-in (S .pre .0 .low) (sound-fit _ _ _ (S .pre .1))))
 
 mark-all-requires : tie.Need-mark-all-requires
 mark-all-requires c κs =
@@ -36,7 +36,7 @@ mark-all-requires c κs =
     let E = H .before .before .before .before in
     let S = E .before .before .before in
     let d = all-due (E .open-entries .ensures) (H .open-hands .ensures) (D .open-dirties .ensures) in
-    let f = sound-fit (S .pre .0) (S .pre .1) in (
+    let f = sound-fit _ _ _ (S .pre .1) in (
       search needs,
       (
         world5 f d (O .hold-all .ensures) (L .list-all .ensures),
@@ -54,7 +54,7 @@ returns c =
     let E = H .before .before .before .before in
     let S = E .before .before .before in
     let d = all-due (E .open-entries .ensures) (H .open-hands .ensures) (D .open-dirties .ensures) in
-    let f = sound-fit (S .pre .0) (S .pre .1) in
+    let f = sound-fit _ _ _ (S .pre .1) in
     all-kept f d (O .hold-all .ensures) (L .list-all .ensures) _ (M .mark-all .ensures)
 
 pub mark-found-spec : {M : Type 1} → statement M

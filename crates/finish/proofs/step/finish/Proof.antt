@@ -1,4 +1,3 @@
-use Rattle.theory.proofs.lines.Judged.{sound-make}
 use borrow.Author.Needs.{needs}
 use Rattle.finish_laws.proofs.Step.{finish-idle, finish-accepted}
 use Rattle.finish.proofs.step.finish.Statement.{statement}
@@ -8,7 +7,7 @@ returns : tie.Need-returns
 returns c = search finish-idle
 
 finish-requires : tie.Need-finish-requires
-finish-requires c κs = (search needs, search sound-make)
+finish-requires c κs = search needs
 
 returns-2 : tie.Need-returns-2
 returns-2 c = search finish-accepted
