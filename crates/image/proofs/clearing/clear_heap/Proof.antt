@@ -11,5 +11,5 @@ returns c = let A = c .before .before .before .before .before .args in zero-heap
 pub clear-heap-spec : {M : Type 1} → statement M
 clear-heap-spec =
     tie.close
-    (tie.spec (λ c. search needs) (λ c. search needs) (λ c. search needs) (λ c. search needs) (λ c κs. search needs) (λ c. search needs)
-    returns)
+    (tie.spec (λ c. search needs) (λ c. search needs) (λ c. search needs) (λ c. search needs) (λ c κs. search needs)
+    (λ c. search needs) returns)

@@ -14,18 +14,10 @@ Inv-loop s top bad₀ i₀ bad i = NoneBad (length s) (noMore top s) bad i
 abbrev μ-loop : tie.MeasureT-loop
 μ-loop s top bad₀ i₀ bad i = length s - i
 
-loop-holds : tie.Need-loop-holds Inv-loop μ-loop
-loop-holds c = bad-none
-
-loop-again : tie.Need-loop-again Inv-loop μ-loop
-unfolding nth
-loop-again c = most-more _ _ _ (omega arith) _ (c .before .before .loop .inv)
-
-returns : tie.Need-returns Inv-loop μ-loop
-unfolding atMost
-returns c = bad-end (c .before .loop .inv) (omega arith)
-
 pub are-at-most-spec : {M : Type 1} → statement M
+unfolding nth atMost
 are-at-most-spec =
     tie.close
-    (tie.spec Inv-loop μ-loop loop-holds (λ c. search needs) (λ c. search needs) (λ c. search needs) (λ c. search needs) loop-again returns)
+    (tie.spec Inv-loop μ-loop (λ c. bad-none) (λ c. search needs) (λ c. search needs) (λ c. search needs) (λ c. search needs)
+    (λ c. most-more _ _ _ (omega arith) _ (c .before .before .loop .inv))
+    (λ c. bad-end (c .before .loop .inv) (omega arith)))

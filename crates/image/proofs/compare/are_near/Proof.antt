@@ -14,18 +14,10 @@ Inv-loop s from end bad₀ i₀ bad i = NoneBad (length s) (nearAt from end s) b
 abbrev μ-loop : tie.MeasureT-loop
 μ-loop s from end bad₀ i₀ bad i = length s - i
 
-loop-holds : tie.Need-loop-holds Inv-loop μ-loop
-loop-holds c = bad-none
-
-loop-again : tie.Need-loop-again Inv-loop μ-loop
-unfolding nth
-loop-again c = near-more _ _ _ (omega arith) _ _ (c .before .before .loop .inv)
-
-returns : tie.Need-returns Inv-loop μ-loop
-unfolding near
-returns c = bad-end (c .before .loop .inv) (omega arith)
-
 pub are-near-spec : {M : Type 1} → statement M
+unfolding nth near
 are-near-spec =
     tie.close
-    (tie.spec Inv-loop μ-loop loop-holds (λ c. search needs) (λ c. search needs) (λ c. search needs) (λ c. search needs) loop-again returns)
+    (tie.spec Inv-loop μ-loop (λ c. bad-none) (λ c. search needs) (λ c. search needs) (λ c. search needs) (λ c. search needs)
+    (λ c. near-more _ _ _ (omega arith) _ _ (c .before .before .loop .inv))
+    (λ c. bad-end (c .before .loop .inv) (omega arith)))

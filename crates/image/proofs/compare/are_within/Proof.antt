@@ -14,19 +14,11 @@ Inv-loop s low high bad₀ i₀ bad i = NoneBad (length s) (between low high s) 
 abbrev μ-loop : tie.MeasureT-loop
 μ-loop s low high bad₀ i₀ bad i = length s - i
 
-loop-holds : tie.Need-loop-holds Inv-loop μ-loop
-loop-holds c = bad-none
-
-loop-again : tie.Need-loop-again Inv-loop μ-loop
-unfolding nth
-loop-again c = within-more _ _ _ (omega arith) _ _ (c .before .before .before .before .before .loop .inv)
-
-returns : tie.Need-returns Inv-loop μ-loop
-unfolding within
-returns c = bad-end (c .before .loop .inv) (omega arith)
-
 pub are-within-spec : {M : Type 1} → statement M
+unfolding nth within
 are-within-spec =
     tie.close
-    (tie.spec Inv-loop μ-loop loop-holds (λ c. search needs) (λ c. search needs) (λ c. search needs) (λ c. search needs) (λ c. search needs)
-    (λ c. search needs) (λ c. search needs) (λ c. search needs) (λ c. search needs) (λ c. search needs) loop-again returns)
+    (tie.spec Inv-loop μ-loop (λ c. bad-none) (λ c. search needs) (λ c. search needs) (λ c. search needs) (λ c. search needs)
+    (λ c. search needs) (λ c. search needs) (λ c. search needs) (λ c. search needs) (λ c. search needs) (λ c. search needs)
+    (λ c. within-more _ _ _ (omega arith) _ _ (c .before .before .before .before .before .loop .inv))
+    (λ c. bad-end (c .before .loop .inv) (omega arith)))

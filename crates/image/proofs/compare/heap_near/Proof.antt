@@ -14,6 +14,4 @@ unfolding imageOf image split
 returns c = let A = c .before .before .before .args in c .are-near .ensures ∙ ap (near (A .from) (A .end)) (part-words width (A .k) (A .im .now) heapAt (A .a) (A .e - A .a) (A .a) (A .e) (omega arith) (omega arith) (omega arith))
 
 pub heap-near-spec : {M : Type 1} → statement M
-heap-near-spec =
-    tie.close
-    (tie.spec (λ c. search needs) (λ c. search needs) (λ c. search needs) (λ c. search needs) (λ c κs. search needs) returns)
+heap-near-spec = tie.close (tie.spec (λ c. search needs) (λ c. search needs) (λ c. search needs) (λ c. search needs) (λ c κs. search needs) returns)

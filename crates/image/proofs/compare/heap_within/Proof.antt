@@ -14,6 +14,4 @@ unfolding imageOf image split
 returns c = let A = c .before .before .before .before .before .args in c .are-within .ensures ∙ ap (within (A .low .now) (A .high .now)) (part-words width (A .k) (A .im .now) heapAt (A .a) (A .e - A .a) (A .a) (A .e) (omega arith) (omega arith) (omega arith))
 
 pub heap-within-spec : {M : Type 1} → statement M
-heap-within-spec =
-    tie.close
-    (tie.spec (λ c. search needs) (λ c. search needs) (λ c. search needs) (λ c. search needs) (λ c κs. search needs) returns)
+heap-within-spec = tie.close (tie.spec (λ c. search needs) (λ c. search needs) (λ c. search needs) (λ c. search needs) (λ c κs. search needs) returns)

@@ -15,17 +15,10 @@ Inv-loop s bad₀ i₀ bad i = Gathered (length s) (isZero s) bad i
 abbrev μ-loop : tie.MeasureT-loop
 μ-loop s bad₀ i₀ bad i = length s - i
 
-loop-holds : tie.Need-loop-holds Inv-loop μ-loop
-loop-holds c = g-none
-
-loop-again : tie.Need-loop-again Inv-loop μ-loop
-unfolding isZero nth
-loop-again c = g-more _ _ _ _ _ (c .before .before .loop .inv) (omega arith) refl
-
-returns : tie.Need-returns Inv-loop μ-loop
-returns c = g-end (c .before .loop .inv) (omega arith) ∙ zeroes-all _
-
 pub few-zeros-spec : {M : Type 1} → statement M
+unfolding isZero nth
 few-zeros-spec =
     tie.close
-    (tie.spec Inv-loop μ-loop loop-holds (λ c. search needs) (λ c. search needs) (λ c. search needs) (λ c. search needs) loop-again returns)
+    (tie.spec Inv-loop μ-loop (λ c. g-none) (λ c. search needs) (λ c. search needs) (λ c. search needs) (λ c. search needs)
+    (λ c. g-more _ _ _ _ _ (c .before .before .loop .inv) (omega arith) refl)
+    (λ c. g-end (c .before .loop .inv) (omega arith) ∙ zeroes-all _))

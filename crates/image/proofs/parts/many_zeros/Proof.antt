@@ -14,17 +14,11 @@ Inv-loop s h n bad₀ i₀ bad i = Gathered n (bothZero s h) bad i
 abbrev μ-loop : tie.MeasureT-loop
 μ-loop s h n bad₀ i₀ bad i = n - i
 
-loop-holds : tie.Need-loop-holds Inv-loop μ-loop
-loop-holds c = g-none
-
-loop-again : tie.Need-loop-again Inv-loop μ-loop
-unfolding nth
-loop-again c = g-more _ _ _ _ _ (c .before .before .before .loop .inv) (omega arith) (or-both _ _ _)
-
-returns : tie.Need-returns Inv-loop μ-loop
-returns c = g-end (c .before .loop .inv) (omega arith) ∙ zeroes-both _ _ _ (omega arith) (omega arith)
-
 pub many-zeros-spec : {M : Type 1} → statement M
+unfolding nth
 many-zeros-spec =
     tie.close
-    (tie.spec Inv-loop μ-loop (λ c. search needs) loop-holds (λ c. search needs) (λ c. search needs) (λ c. search needs) (λ c. search needs) (λ c. search needs) (λ c. search needs) (λ c. search needs) loop-again returns)
+    (tie.spec Inv-loop μ-loop (λ c. search needs) (λ c. g-none) (λ c. search needs) (λ c. search needs) (λ c. search needs)
+    (λ c. search needs) (λ c. search needs) (λ c. search needs) (λ c. search needs)
+    (λ c. g-more _ _ _ _ _ (c .before .before .before .loop .inv) (omega arith) (or-both _ _ _))
+    (λ c. g-end (c .before .loop .inv) (omega arith) ∙ zeroes-both _ _ _ (omega arith) (omega arith)))

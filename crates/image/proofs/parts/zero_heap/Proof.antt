@@ -12,6 +12,4 @@ unfolding imageOf image split
 returns c = let A = c .before .before .before .args in part-zero width (A .k) (A .im .now) _ heapAt (A .a) (A .e - A .a) (A .a) (A .e) (omega arith) (omega arith) (omega arith) (c .zeros .ensures)
 
 pub zero-heap-spec : {M : Type 1} → statement M
-zero-heap-spec =
-    tie.close
-    (tie.spec (λ c. search needs) (λ c. search needs) (λ c. search needs) (λ c. search needs) (λ c κs. search needs) returns)
+zero-heap-spec = tie.close (tie.spec (λ c. search needs) (λ c. search needs) (λ c. search needs) (λ c. search needs) (λ c κs. search needs) returns)

@@ -7,9 +7,9 @@ use native.Mathlib.Omega.{arith}
 use Rattle.image.proofs.sections.card.Statement.{statement}
 use Rattle.image.proofs.sections.card.Tie as tie
 
-returns : tie.Need-returns
-unfolding state nth imageOf image split
-returns c = let A = c .before .args in get-section width (A .k) (A .im .now) cardsAt _ _ (omega arith) (omega arith)
-
 pub card-spec : {M : Type 1} → statement M
-card-spec = tie.close (tie.spec (λ c. search needs) (λ c. search needs) (λ c. search needs) (λ c. search needs) returns)
+unfolding state nth imageOf image split
+card-spec =
+    tie.close
+    (tie.spec (λ c. search needs) (λ c. search needs) (λ c. search needs) (λ c. search needs)
+    (λ c. let A = c .before .args in get-section width (A .k) (A .im .now) cardsAt _ _ (omega arith) (omega arith)))

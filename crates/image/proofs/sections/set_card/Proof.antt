@@ -7,11 +7,9 @@ use native.Mathlib.Omega.{arith}
 use Rattle.image.proofs.sections.set_card.Statement.{statement}
 use Rattle.image.proofs.sections.set_card.Tie as tie
 
-returns : tie.Need-returns
-unfolding setState put imageOf image split withCards
-returns c = let A = c .args in put-section width (A .k) (A .im .now) cardsAt _ _ (omega arith) (omega arith) (A .v)
-
 pub set-card-spec : {M : Type 1} → statement M
+unfolding setState put imageOf image split withCards
 set-card-spec =
     tie.close
-    (tie.spec (λ c. search needs) (λ c. search needs) (λ c. search needs) (λ c. search needs) (λ c. search needs) returns)
+    (tie.spec (λ c. search needs) (λ c. search needs) (λ c. search needs) (λ c. search needs) (λ c. search needs)
+    (λ c. let A = c .args in put-section width (A .k) (A .im .now) cardsAt _ _ (omega arith) (omega arith) (A .v)))

@@ -7,9 +7,9 @@ use native.Mathlib.Omega.{arith}
 use Rattle.image.proofs.sections.set_heap_word.Statement.{statement}
 use Rattle.image.proofs.sections.set_heap_word.Tie as tie
 
-returns : tie.Need-returns
-unfolding put imageOf image split withHeap
-returns c = let A = c .args in put-section width (A .k) (A .im .now) heapAt _ _ (omega arith) (omega arith) (A .v)
-
 pub set-heap-word-spec : {M : Type 1} → statement M
-set-heap-word-spec = tie.close (tie.spec (λ c. search needs) (λ c. search needs) (λ c. search needs) returns)
+unfolding put imageOf image split withHeap
+set-heap-word-spec =
+    tie.close
+    (tie.spec (λ c. search needs) (λ c. search needs) (λ c. search needs)
+    (λ c. let A = c .args in put-section width (A .k) (A .im .now) heapAt _ _ (omega arith) (omega arith) (A .v)))

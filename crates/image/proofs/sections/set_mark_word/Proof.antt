@@ -7,11 +7,9 @@ use native.Mathlib.Omega.{arith}
 use Rattle.image.proofs.sections.set_mark_word.Statement.{statement}
 use Rattle.image.proofs.sections.set_mark_word.Tie as tie
 
-returns : tie.Need-returns
-unfolding put imageOf image split withMarks
-returns c = let A = c .args in put-section width (A .k) (A .im .now) marksAt _ _ (omega arith) (omega arith) (A .v)
-
 pub set-mark-word-spec : {M : Type 1} → statement M
+unfolding put imageOf image split withMarks
 set-mark-word-spec =
     tie.close
-    (tie.spec (λ c. search needs) (λ c. search needs) (λ c. search needs) (λ c. search needs) (λ c. search needs) returns)
+    (tie.spec (λ c. search needs) (λ c. search needs) (λ c. search needs) (λ c. search needs) (λ c. search needs)
+    (λ c. let A = c .args in put-section width (A .k) (A .im .now) marksAt _ _ (omega arith) (omega arith) (A .v)))

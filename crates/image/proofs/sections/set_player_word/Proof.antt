@@ -7,12 +7,9 @@ use native.Mathlib.Omega.{arith}
 use Rattle.image.proofs.sections.set_player_word.Statement.{statement}
 use Rattle.image.proofs.sections.set_player_word.Tie as tie
 
-returns : tie.Need-returns
-unfolding put imageOf image split withPlayers
-returns c = let A = c .args in put-section width (A .k) (A .im .now) playersAt _ _ (omega arith) (omega arith) (A .v)
-
 pub set-player-word-spec : {M : Type 1} → statement M
+unfolding put imageOf image split withPlayers
 set-player-word-spec =
     tie.close
     (tie.spec (λ c. search needs) (λ c. search needs) (λ c. search needs) (λ c. search needs) (λ c. search needs) (λ c. search needs)
-    returns)
+    (λ c. let A = c .args in put-section width (A .k) (A .im .now) playersAt _ _ (omega arith) (omega arith) (A .v)))
