@@ -79,15 +79,13 @@ returns-13 c = let q = c .before .before .before .before .before .before in fini
 returns-14 : tie.Need-returns-14
 returns-14 c = let q = c .before .before .before .before in due-dispatched width (q .args .r) (q .pre .1 .1 .0) (q .pre .1 .1 .1) (c .before .before .match .keys14) _ (c .due .ensures)
 
-returns-15 : tie.Need-returns-15
-returns-15 c = no-step _ (c .before .before .args .r) (c .match .rest)
-
 pub dispatch-spec : {M : Type 1} → statement M
 dispatch-spec =
     tie.close
     (tie.spec new-requires load-requires store-requires barrier-requires hand-requires drop-requires read-requires write-requires
-    (λ c κs. search needs) scan-requires trace-requires clean-requires (λ c κs. search needs) (λ c κs. search needs) (λ c. search needs)
-    returns (λ c. search needs) returns-2 (λ c. search needs) returns-3 (λ c. search needs) returns-4 (λ c. search needs) returns-5
-    (λ c. search needs) returns-6 (λ c. search needs) returns-7 (λ c. search needs) returns-8 (λ c. search needs) returns-9
-    (λ c. search needs) returns-10 (λ c. search needs) returns-11 (λ c. search needs) returns-12 (λ c. search needs) returns-13
-    (λ c. search needs) returns-14 returns-15)
+    (λ c κs. search needs) scan-requires trace-requires clean-requires (λ c κs. search needs) (λ c κs. search needs)
+    (λ c. search needs) returns (λ c. search needs) returns-2 (λ c. search needs) returns-3 (λ c. search needs) returns-4
+    (λ c. search needs) returns-5 (λ c. search needs) returns-6 (λ c. search needs) returns-7 (λ c. search needs) returns-8
+    (λ c. search needs) returns-9 (λ c. search needs) returns-10 (λ c. search needs) returns-11 (λ c. search needs) returns-12
+    (λ c. search needs) returns-13 (λ c. search needs) returns-14
+    (λ c. no-step _ (c .before .before .args .r) (c .match .rest)))

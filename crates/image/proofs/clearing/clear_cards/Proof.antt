@@ -2,7 +2,7 @@ use borrow.Author.Needs.{needs}
 use Prim.Native.Nat.{_*_}
 use Rattle.image.specs.Layout.{width, cardsFrom, perCard}
 use native.Mathlib.Omega.{arith}
-use Rattle.model.specs.Image.{cardsAt, imageOf, image, lengths, split, withCards}
+use Rattle.model.specs.Image.{cardsAt, imageOf, image, split, withCards}
 use Rattle.image_laws.proofs.Clearing.{zero-whole}
 use Rattle.image.proofs.clearing.clear_cards.Statement.{statement}
 use Rattle.image.proofs.clearing.clear_cards.Tie as tie

@@ -2,7 +2,7 @@ use borrow.Author.Needs.{needs}
 use Prim.Native.Nat.{_*_}
 use Rattle.image.specs.Layout.{width, marksFrom, cardsFrom}
 use native.Mathlib.Omega.{arith}
-use Rattle.model.specs.Image.{marksAt, imageOf, image, lengths, split, withMarks}
+use Rattle.model.specs.Image.{marksAt, imageOf, image, split, withMarks}
 use Rattle.image_laws.proofs.Clearing.{zero-whole}
 use Rattle.image.proofs.clearing.clear_marks.Statement.{statement}
 use Rattle.image.proofs.clearing.clear_marks.Tie as tie

@@ -2,7 +2,7 @@ use borrow.Author.Needs.{needs}
 use Prim.Native.Nat.{_+_, _*_}
 use Rattle.image.specs.Layout.{width, perCard, packetsFrom, tracersFrom}
 use native.Mathlib.Omega.{arith}
-use Rattle.model.specs.Image.{packetsAt, imageOf, image, lengths, split, withPackets}
+use Rattle.model.specs.Image.{packetsAt, imageOf, image, split, withPackets}
 use Rattle.image_laws.proofs.Clearing.{zero-whole}
 use Rattle.image.proofs.clearing.clear_packets.Statement.{statement}
 use Rattle.image.proofs.clearing.clear_packets.Tie as tie

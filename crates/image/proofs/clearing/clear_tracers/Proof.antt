@@ -2,7 +2,7 @@ use borrow.Author.Needs.{needs}
 use Prim.Native.Nat.{_+_, _*_}
 use Rattle.image.specs.Layout.{width, perCard, tracersFrom, playersFrom}
 use native.Mathlib.Omega.{arith}
-use Rattle.model.specs.Image.{tracersAt, imageOf, image, lengths, split, withTracers}
+use Rattle.model.specs.Image.{tracersAt, imageOf, image, split, withTracers}
 use Rattle.image_laws.proofs.Clearing.{zero-whole}
 use Rattle.image.proofs.clearing.clear_tracers.Statement.{statement}
 use Rattle.image.proofs.clearing.clear_tracers.Tie as tie

@@ -2,7 +2,7 @@ use borrow.Author.Needs.{needs}
 use Prim.Native.Nat.{_*_}
 use Rattle.image.specs.Layout.{width, marksFrom, cardsFrom}
 use native.Mathlib.Omega.{arith}
-use Rattle.model.specs.Image.{marksAt, imageOf, image, lengths, split}
+use Rattle.model.specs.Image.{marksAt, imageOf, image, split}
 use Rattle.image_laws.proofs.Parts.{section-zero}
 use Rattle.image.proofs.parts.zero_marks.Statement.{statement}
 use Rattle.image.proofs.parts.zero_marks.Tie as tie

@@ -2,7 +2,7 @@ use borrow.Author.Needs.{needs}
 use Prim.Native.Nat.{_+_, _*_}
 use Rattle.image.specs.Layout.{width, perCard, packetsFrom, tracersFrom}
 use native.Mathlib.Omega.{arith}
-use Rattle.model.specs.Image.{packetsAt, imageOf, image, lengths, split}
+use Rattle.model.specs.Image.{packetsAt, imageOf, image, split}
 use Rattle.image_laws.proofs.Parts.{section-zero}
 use Rattle.image.proofs.parts.zero_packets.Statement.{statement}
 use Rattle.image.proofs.parts.zero_packets.Tie as tie

@@ -2,7 +2,7 @@ use borrow.Author.Needs.{needs}
 use Prim.Native.Nat.{_+_, _*_}
 use Rattle.image.specs.Layout.{width, perCard, tracersFrom, playersFrom}
 use native.Mathlib.Omega.{arith}
-use Rattle.model.specs.Image.{tracersAt, imageOf, image, lengths, split}
+use Rattle.model.specs.Image.{tracersAt, imageOf, image, split}
 use Rattle.image_laws.proofs.Parts.{section-zero}
 use Rattle.image.proofs.parts.zero_tracers.Statement.{statement}
 use Rattle.image.proofs.parts.zero_tracers.Tie as tie

@@ -2,7 +2,7 @@ use borrow.Author.Needs.{needs}
 use Rattle.image.specs.Layout.{width}
 use Rattle.image_laws.proofs.Sections.{get-section}
 use Rattle.model.specs.Base.{nth}
-use Rattle.model.specs.Image.{cardsAt, state, imageOf, image, lengths, split}
+use Rattle.model.specs.Image.{cardsAt, state, imageOf, image, split}
 use native.Mathlib.Omega.{arith}
 use Rattle.image.proofs.sections.card.Statement.{statement}
 use Rattle.image.proofs.sections.card.Tie as tie

@@ -1,7 +1,7 @@
 use borrow.Author.Needs.{needs}
 use Rattle.image.specs.Layout.{width}
 use Rattle.image_laws.proofs.Sections.{get-section}
-use Rattle.model.specs.Image.{packetsAt, imageOf, image, lengths, split}
+use Rattle.model.specs.Image.{packetsAt, imageOf, image, split}
 use Rattle.model.specs.Base.{nth}
 use native.Mathlib.Omega.{arith}
 use Rattle.image.proofs.sections.packet_word.Statement.{statement}

@@ -2,7 +2,7 @@ use borrow.Author.Needs.{needs}
 use Rattle.image.specs.Layout.{width}
 use Rattle.image_laws.proofs.Sections.{put-section}
 use Rattle.model.specs.Base.{put}
-use Rattle.model.specs.Image.{cardsAt, setState, imageOf, image, lengths, split, withCards}
+use Rattle.model.specs.Image.{cardsAt, setState, imageOf, image, split, withCards}
 use native.Mathlib.Omega.{arith}
 use Rattle.image.proofs.sections.set_card.Statement.{statement}
 use Rattle.image.proofs.sections.set_card.Tie as tie

@@ -1,7 +1,7 @@
 use borrow.Author.Needs.{needs}
 use Rattle.image.specs.Layout.{width}
 use Rattle.image_laws.proofs.Sections.{put-section}
-use Rattle.model.specs.Image.{playersAt, imageOf, image, lengths, split, withPlayers}
+use Rattle.model.specs.Image.{playersAt, imageOf, image, split, withPlayers}
 use Rattle.model.specs.Base.{put}
 use native.Mathlib.Omega.{arith}
 use Rattle.image.proofs.sections.set_player_word.Statement.{statement}

@@ -1,7 +1,7 @@
 use borrow.Author.Needs.{needs}
 use Rattle.image.specs.Layout.{width}
 use Rattle.image_laws.proofs.Sections.{put-section}
-use Rattle.model.specs.Image.{regsAt, imageOf, image, lengths, split, withRegs}
+use Rattle.model.specs.Image.{regsAt, imageOf, image, split, withRegs}
 use Rattle.model.specs.Base.{put}
 use native.Mathlib.Omega.{arith}
 use Rattle.image.proofs.sections.set_reg_word.Statement.{statement}

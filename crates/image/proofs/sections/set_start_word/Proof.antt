@@ -1,7 +1,7 @@
 use borrow.Author.Needs.{needs}
 use Rattle.image.specs.Layout.{width}
 use Rattle.image_laws.proofs.Sections.{put-section}
-use Rattle.model.specs.Image.{startsAt, imageOf, image, lengths, split, withStarts}
+use Rattle.model.specs.Image.{startsAt, imageOf, image, split, withStarts}
 use Rattle.model.specs.Base.{put}
 use native.Mathlib.Omega.{arith}
 use Rattle.image.proofs.sections.set_start_word.Statement.{statement}

@@ -1,9 +1,8 @@
 use borrow.Author.Needs.{needs}
 use Rattle.collector_laws.specs.Pool.{choice}
 use Rattle.collector_laws.proofs.Pool.{unheld, choice-more, in-pool, emptiest-choice}
-use Rattle.model.specs.Image.{count}
+use Rattle.model.specs.Image.{count, imageOf}
 use Rattle.image.specs.Layout.{width}
-use Rattle.model.specs.Image.{imageOf}
 use Prim.Native.Nat.{_-_, _≤_}
 use mathlib.Core.Path.{_≡_, refl}
 use native.Mathlib.Omega.{arith}
@@ -17,18 +16,11 @@ Inv-loop im k held c₀ p₀ c p = (p ≤ 32) × (c ≡ choice ltb (count (image
 abbrev μ-loop : tie.MeasureT-loop
 μ-loop im k held c₀ p₀ c p = 32 - p
 
-loop-holds : tie.Need-loop-holds Inv-loop μ-loop
-unfolding choice
-loop-holds c = (omega arith, refl)
-
-loop-again : tie.Need-loop-again Inv-loop μ-loop
-loop-again c = (omega arith, search (choice-more, in-pool))
-
-returns : tie.Need-returns Inv-loop μ-loop
-returns c = search emptiest-choice
-
 pub emptiest-spec : {M : Type 1} → statement M
+unfolding choice
 emptiest-spec =
     tie.close
-    (tie.spec Inv-loop μ-loop (λ c κs. search needs) loop-holds (λ c κs. search needs) (λ c. search needs) (λ c κs. search needs)
-    (λ c κs. search needs) (λ c. search needs) (λ c. search needs) loop-again returns)
+    (tie.spec Inv-loop μ-loop (λ c κs. search needs) (λ c. (omega arith, refl)) (λ c κs. search needs) (λ c. search needs)
+    (λ c κs. search needs) (λ c κs. search needs) (λ c. search needs) (λ c. search needs)
+    (λ c. (omega arith, search (choice-more, in-pool)))
+    (λ c. search emptiest-choice))

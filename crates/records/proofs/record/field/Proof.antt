@@ -3,9 +3,6 @@ use borrow.Author.Needs.{needs}
 use Rattle.show_store_laws.proofs.Record.{field-is}
 use Rattle.records.proofs.record.field.Statement.{statement}
 use Rattle.records.proofs.record.field.Tie as tie
-use Rattle.records.proofs.record.field.Reads as reads
-use Rattle.records.proofs.record.field.Lts as lts
-use Rattle.records.proofs.record.wide.Reads as wide-reads
 
 returns : tie.Need-returns
 returns c =

@@ -4,10 +4,6 @@ use Rattle.show_store_laws.proofs.Record.{record-is}
 use native.Mathlib.Omega.{arith}
 use Rattle.records.proofs.record.record_at.Statement.{statement}
 use Rattle.records.proofs.record.record_at.Tie as tie
-use Rattle.records.proofs.record.record_at.Reads as reads
-use Rattle.records.proofs.record.record_at.Lts as lts
-use Rattle.records.proofs.record.field.Reads as field-reads
-use Rattle.records.proofs.record.wide.Reads as wide-reads
 
 returns : tie.Need-returns
 unfolding recordBytes

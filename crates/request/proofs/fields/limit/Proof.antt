@@ -24,4 +24,7 @@ unfolding tables-open
 returns-4 c = let q = c .before .before in limit-at (q .args .n) (q .pre .0) 3 (q .args .i) (omega (arith, c .before .match .rest, q .pre .1)) width (q .args .k) _ _ (c .limit-by4 .ensures) refl
 
 pub limit-spec : {M : Type 1} → statement M
-limit-spec = tie.close (tie.spec (λ c κs. search needs) (λ c κs. search needs) (λ c κs. search needs) (λ c κs. search needs) returns returns-2 returns-3 returns-4)
+limit-spec =
+    tie.close
+    (tie.spec (λ c κs. search needs) (λ c κs. search needs) (λ c κs. search needs) (λ c κs. search needs) returns returns-2 returns-3
+    returns-4)

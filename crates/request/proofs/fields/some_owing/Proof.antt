@@ -5,9 +5,6 @@ use Rattle.request_laws.specs.Request.{requested}
 use native.Mathlib.Omega.{arith}
 use Rattle.request.proofs.fields.some_owing.Statement.{statement}
 use Rattle.request.proofs.fields.some_owing.Tie as tie
-use Rattle.request.proofs.fields.some_owing.Reads as reads
-use Rattle.request.proofs.fields.some_owing.Lts as lts
-use Rattle.request.proofs.fields.owes.Reads as owes-reads
 
 owes-requires : tie.Need-owes-requires
 unfolding requested fieldAt
@@ -25,8 +22,5 @@ owes-requires-4 : tie.Need-owes-requires-4
 unfolding requested fieldAt
 owes-requires-4 c κs = let q = c .before .before .before .before in (q .pre .0, ((q .pre .1 .1 .0, omega arith), debtor-below width (q .args .k) (q .args .r) (q .pre .1 .0) (q .pre .1 .1 .1) 3 (omega arith)))
 
-returns : tie.Need-returns
-returns c = search owing-found
-
 pub some-owing-spec : {M : Type 1} → statement M
-some-owing-spec = tie.close (tie.spec owes-requires owes-requires-2 owes-requires-3 owes-requires-4 returns)
+some-owing-spec = tie.close (tie.spec owes-requires owes-requires-2 owes-requires-3 owes-requires-4 (λ c. search owing-found))

@@ -15,20 +15,13 @@ Inv-loop im₀ k t p r₀ im r = (r ≤ 16) × (length im ≡ length im₀) × S
 abbrev μ-loop : tie.MeasureT-loop
 μ-loop im₀ k t p r₀ im r = 16 - r
 
-loop-holds : tie.Need-loop-holds Inv-loop μ-loop
-loop-holds c = (omega arith, refl, scan-first _ _ _ (c .before .pre .1 .0))
-
-reach-requires : tie.Need-reach-requires Inv-loop μ-loop
-reach-requires c κs = (search needs, (search needs, (search scan-reg, search needs)))
-
-loop-again : tie.Need-loop-again Inv-loop μ-loop
-loop-again c = (omega arith, search needs, search scan-more)
-
-returns : tie.Need-returns Inv-loop μ-loop
-returns c = search scan-end
-
 pub reach-registers-spec : {M : Type 1} → statement M
 reach-registers-spec =
     tie.close
-    (tie.spec Inv-loop μ-loop loop-holds (λ c κs. search needs) reach-requires (λ c. search needs) (λ c. search needs) loop-again
-    (λ c. search needs) returns)
+    (tie.spec Inv-loop μ-loop
+    (λ c. (omega arith, refl, scan-first _ _ _ (c .before .pre .1 .0)))
+    (λ c κs. search needs)
+    (λ c κs. (search needs, (search needs, (search scan-reg, search needs))))
+    (λ c. search needs) (λ c. search needs)
+    (λ c. (omega arith, search needs, search scan-more))
+    (λ c. search needs) (λ c. search scan-end))

@@ -13,9 +13,6 @@ Inv-loop im k total₀ g₀ total g = Counting (imageOf width k im) total g
 abbrev μ-loop : tie.MeasureT-loop
 μ-loop im k total₀ g₀ total g = chain-measure (granules (imageOf width k im)) g
 
-loop-holds : tie.Need-loop-holds Inv-loop μ-loop
-loop-holds c = search count-first
-
 word-requires : tie.Need-word-requires Inv-loop μ-loop
 word-requires c κs =
     let A = c .before .before .before .before .args in
@@ -37,11 +34,9 @@ loop-less c = rw (c .next-run .ensures) (count-less _ _ _ (c .before .before .be
 loop-again : tie.Need-loop-again Inv-loop μ-loop
 loop-again c = rw (c .next-run .ensures) (count-next _ _ _ (c .before .before .before .loop .inv) (c .before .before .loop-test .taken) _ (c .before .word .ensures) (omega arith))
 
-returns : tie.Need-returns Inv-loop μ-loop
-returns c = count-end _ _ _ (c .before .loop .inv) (c .loop-test .left)
-
 pub free-granules-spec : {M : Type 1} → statement M
 free-granules-spec =
     tie.close
-    (tie.spec Inv-loop μ-loop (λ c κs. search needs) (λ c. search needs) loop-holds word-requires (λ c. search needs) add-total
-    next-run-requires loop-less loop-again returns)
+    (tie.spec Inv-loop μ-loop (λ c κs. search needs) (λ c. search needs) (λ c. search count-first) word-requires (λ c. search needs)
+    add-total next-run-requires loop-less loop-again
+    (λ c. count-end _ _ _ (c .before .loop .inv) (c .loop-test .left)))

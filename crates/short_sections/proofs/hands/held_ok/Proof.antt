@@ -16,5 +16,5 @@ abbrev μ-loop : tie.MeasureT-loop
 pub held-ok-spec : {M : Type 1} → statement M
 held-ok-spec =
     tie.close
-    (tie.spec Inv-loop μ-loop (λ c. checked-none) (λ c κs. search needs) (λ c. search needs) (λ c. search needs) (λ c. search checked-more)
-    (λ c. search checked-end))
+    (tie.spec Inv-loop μ-loop (λ c. checked-none) (λ c κs. search needs) (λ c. search needs) (λ c. search needs)
+    (λ c. search checked-more) (λ c. search checked-end))

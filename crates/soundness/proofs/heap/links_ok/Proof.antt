@@ -13,12 +13,11 @@ Inv-loop im k names g n ok₀ i₀ ok i = Checked n (linkOk (imageOf width k im)
 abbrev μ-loop : tie.MeasureT-loop
 μ-loop im k names g n ok₀ i₀ ok i = n - i
 
-loop-holds : tie.Need-loop-holds Inv-loop μ-loop
-loop-holds c = after-two _ _ _ _ (c .least .ensures) (c .before .first-links .ensures)
-
 pub links-ok-spec : {M : Type 1} → statement M
 links-ok-spec =
     tie.close
-    (tie.spec Inv-loop μ-loop (λ c κs. search needs) (λ c κs. search needs) loop-holds (λ c κs. search needs) (λ c. search needs)
-    (λ c. search needs) (λ c. checked-more _ _ _ _ _ (c .before .before .loop .inv) (c .before .loop-test .taken) (c .link-ok .ensures))
+    (tie.spec Inv-loop μ-loop (λ c κs. search needs) (λ c κs. search needs)
+    (λ c. after-two _ _ _ _ (c .least .ensures) (c .before .first-links .ensures))
+    (λ c κs. search needs) (λ c. search needs) (λ c. search needs)
+    (λ c. checked-more _ _ _ _ _ (c .before .before .loop .inv) (c .before .loop-test .taken) (c .link-ok .ensures))
     (λ c. checked-end _ _ _ _ (c .before .loop .inv) (c .loop-test .left)))

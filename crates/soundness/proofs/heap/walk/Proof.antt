@@ -52,4 +52,5 @@ walk-spec =
     (tie.spec Inv-loop μ-loop (λ c. search needs)
     (λ c. w-from _ _ _ (c .before .before .pre .0) _ (c .before .before .pre .1 .1 .0) (c .before .before .pre .1 .1 .1 .0) _ (c .before .before .pre .1 .1 .1 .1))
     (λ c. search needs) (λ c κs. search needs) (λ c κs. search needs) returns object-links-requires returns-2 one-more-requires
-    (λ c κs. search needs) (λ c κs. search needs) (λ c. search needs) (λ c. search needs) loop-less loop-again (λ c κs. search needs) returns-3)
+    (λ c κs. search needs) (λ c κs. search needs) (λ c. search needs) (λ c. search needs) loop-less loop-again (λ c κs. search needs)
+    returns-3)

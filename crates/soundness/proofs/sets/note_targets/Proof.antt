@@ -38,6 +38,6 @@ pub note-targets-spec : {M : Type 1} → statement M
 note-targets-spec =
     tie.close
     (tie.spec Inv-loop μ-loop (λ c. search needs) (λ c κs. search needs)
-    (λ c. t-none _ _ _ (c .before .before .before .pre .0) _ (c .before .before .before .pre .1)) (λ c κs. search needs) (λ c. search needs)
-    slice-write-targets (λ c. search needs) (λ c. search needs) loop-again slice-read-x (λ c κs. search needs) slice-write-targets-2
-    same-length returns)
+    (λ c. t-none _ _ _ (c .before .before .before .pre .0) _ (c .before .before .before .pre .1))
+    (λ c κs. search needs) (λ c. search needs) slice-write-targets (λ c. search needs) (λ c. search needs) loop-again slice-read-x
+    (λ c κs. search needs) slice-write-targets-2 same-length returns)

@@ -13,16 +13,9 @@ Inv-loop im k targets a e ok₀ g₀ ok g = CheckedFrom a e (smallAt (imageOf wi
 abbrev μ-loop : tie.MeasureT-loop
 μ-loop im k targets a e ok₀ g₀ ok g = e - g
 
-loop-holds : tie.Need-loop-holds Inv-loop μ-loop
-loop-holds c = from-none _ _ _
-
-loop-again : tie.Need-loop-again Inv-loop μ-loop
-loop-again c = from-more _ _ _ _ _ (c .before .before .loop .inv) _ (c .before .loop-test .taken) (c .is-small .ensures)
-
-returns : tie.Need-returns Inv-loop μ-loop
-returns c = from-end _ _ _ _ _ (c .before .loop .inv) (c .loop-test .left)
-
 pub all-small-spec : {M : Type 1} → statement M
 all-small-spec =
     tie.close
-    (tie.spec Inv-loop μ-loop loop-holds (λ c κs. search needs) (λ c. search needs) (λ c. search needs) loop-again returns)
+    (tie.spec Inv-loop μ-loop (λ c. from-none _ _ _) (λ c κs. search needs) (λ c. search needs) (λ c. search needs)
+    (λ c. from-more _ _ _ _ _ (c .before .before .loop .inv) _ (c .before .loop-test .taken) (c .is-small .ensures))
+    (λ c. from-end _ _ _ _ _ (c .before .loop .inv) (c .loop-test .left)))

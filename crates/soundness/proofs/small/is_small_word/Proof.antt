@@ -25,13 +25,10 @@ returns c = let S = c .before .before .before .before .before .before .before in
 all-small-requires : tie.Need-all-small-requires
 all-small-requires c κs = let S = c .before .before .before .before .before .before .before in (S .pre .0, (S .pre .1 .0, omega (arith, full-inside width _ _ (S .pre .0) _ (S .pre .1 .0))))
 
-returns-2 : tie.Need-returns-2
-returns-2 c = all-small _ _ _ _ (c .all-small .ensures)
-
 pub is-small-word-spec : {M : Type 1} → statement M
 is-small-word-spec =
     tie.close
     (tie.spec (λ c. search needs) (λ c. search needs) add-e mul-heap-within mul-heap-within-2 (λ c. search needs) (λ c. search needs)
     (λ c. search needs) (λ c. search needs) (λ c. search needs) (λ c. search needs) (λ c. search needs) (λ c. search needs)
     (λ c. search needs) (λ c. search needs) (λ c. search needs) (λ c. search needs) heap-within-requires returns all-small-requires
-    returns-2)
+    (λ c. all-small _ _ _ _ (c .all-small .ensures)))

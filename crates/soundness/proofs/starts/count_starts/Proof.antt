@@ -13,12 +13,6 @@ Inv-loop im k n₀ i₀ n i = StartsCounted width k im n i
 abbrev μ-loop : tie.MeasureT-loop
 μ-loop im k n₀ i₀ n i = 64 * k / width - i
 
-loop-holds : tie.Need-loop-holds Inv-loop μ-loop
-loop-holds c = c-none _ _ _
-
-cast-n-2 : tie.Need-cast-n-2 Inv-loop μ-loop
-cast-n-2 c = omega (arith, ones-le width (c .start-word .result) (omega arith))
-
 add-n : tie.Need-add-n Inv-loop μ-loop
 add-n c = omega (arith, ones-le width (c .start-word .result) (omega arith), c-small _ _ _ _ _ (c .before .before .loop .inv))
 
@@ -28,5 +22,7 @@ loop-again c = c-more _ _ _ _ _ _ (c .before .before .loop .inv) (c .before .loo
 pub count-starts-spec : {M : Type 1} → statement M
 count-starts-spec =
     tie.close
-    (tie.spec Inv-loop μ-loop loop-holds (λ c. search needs) (λ c κs. search needs) (λ c. search needs) cast-n-2 add-n (λ c. search needs)
-    (λ c. search needs) loop-again (λ c. c-end _ _ _ _ _ (c .before .before .before .pre) (c .before .loop .inv) (c .loop-test .left)))
+    (tie.spec Inv-loop μ-loop (λ c. c-none _ _ _) (λ c. search needs) (λ c κs. search needs) (λ c. search needs)
+    (λ c. omega (arith, ones-le width (c .start-word .result) (omega arith)))
+    add-n (λ c. search needs) (λ c. search needs) loop-again
+    (λ c. c-end _ _ _ _ _ (c .before .before .before .pre) (c .before .loop .inv) (c .loop-test .left)))

@@ -13,17 +13,9 @@ Inv-loop im k c marks₀ i₀ marks i = (i ≤ 64 / width) × MarksBelow width (
 abbrev μ-loop : tie.MeasureT-loop
 μ-loop im k c marks₀ i₀ marks i = 64 / width - i
 
-loop-holds : tie.Need-loop-holds Inv-loop μ-loop
-loop-holds c = (omega arith, marks-none _ _ _)
-
-loop-again : tie.Need-loop-again Inv-loop μ-loop
-loop-again c = (omega arith, search marks-more)
-
-returns : tie.Need-returns Inv-loop μ-loop
-returns c = search marks-all
-
 pub card-marks-spec : {M : Type 1} → statement M
 card-marks-spec =
     tie.close
-    (tie.spec Inv-loop μ-loop loop-holds (λ c. search needs) (λ c. search needs) (λ c κs. search needs) (λ c. search needs)
-    (λ c. search needs) (λ c. search needs) (λ c. search needs) (λ c. search needs) loop-again returns)
+    (tie.spec Inv-loop μ-loop (λ c. (omega arith, marks-none _ _ _)) (λ c. search needs) (λ c. search needs) (λ c κs. search needs)
+    (λ c. search needs) (λ c. search needs) (λ c. search needs) (λ c. search needs) (λ c. search needs)
+    (λ c. (omega arith, search marks-more)) (λ c. search marks-all))

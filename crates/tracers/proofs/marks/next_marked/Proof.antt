@@ -7,9 +7,6 @@ use lib.Count.{trailing-le}
 use Rattle.tracers.proofs.marks.next_marked.Statement.{statement}
 use Rattle.tracers.proofs.marks.next_marked.Tie as tie
 
-returns : tie.Need-returns
-returns c = search next-past
-
 returns-2 : tie.Need-returns-2
 returns-2 c = let A = c .before .before .before .before .args in next-none _ _ (A .from) _ _ (omega arith) (omega arith) (c .before .card-marks .ensures) refl (c .if2 .taken)
 
@@ -28,4 +25,5 @@ returns-3 c = let A = c .before .before .before .before .args in next-found _ _ 
 pub next-marked-spec : {M : Type 1} → statement M
 next-marked-spec =
     tie.close
-    (tie.spec (λ c. search needs) returns (λ c κs. search needs) (λ c. search needs) returns-2 cast-t add-result add-result-2 returns-3)
+    (tie.spec (λ c. search needs) (λ c. search next-past) (λ c κs. search needs) (λ c. search needs) returns-2 cast-t add-result
+    add-result-2 returns-3)

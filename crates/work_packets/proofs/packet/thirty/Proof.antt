@@ -21,11 +21,8 @@ loop-again c =
       simp length-set (L .inv .2),
     )
 
-returns : tie.Need-returns Inv-loop μ-loop
-returns c = search alike-done
-
 pub thirty-spec : {M : Type 1} → statement M
 thirty-spec =
     tie.close
     (tie.spec Inv-loop μ-loop (λ c. search needs) (λ c. search needs) (λ c. search needs) (λ c. search needs) (λ c. search needs)
-    (λ c. search needs) (λ c. search needs) loop-again returns)
+    (λ c. search needs) (λ c. search needs) loop-again (λ c. search alike-done))
