@@ -1,5 +1,4 @@
 use borrow.Author.Needs.{needs}
-use Rattle.image.specs.Layout.{width}
 use Rattle.show_store_laws.proofs.Perform.{new-fields, load-fields, store-fields, barrier-fields, hand-fields, drop-fields, read-fields, write-fields, scan-fields, trace-fields, clean-fields, new-dispatched, load-dispatched, store-dispatched, barrier-dispatched, hand-dispatched, drop-dispatched, read-dispatched, write-dispatched, begin-dispatched, scan-dispatched, trace-dispatched, clean-dispatched, finish-dispatched, due-dispatched, no-step}
 use Rattle.dispatch.proofs.perform.dispatch.Statement.{statement}
 use Rattle.dispatch.proofs.perform.dispatch.Tie as tie

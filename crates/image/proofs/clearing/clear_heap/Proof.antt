@@ -1,12 +1,11 @@
 use borrow.Author.Needs.{needs}
 use Rattle.image.specs.Layout.{width}
 use Rattle.image_laws.proofs.Clearing.{zero-heap}
-use native.Mathlib.Omega.{arith}
 use Rattle.image.proofs.clearing.clear_heap.Statement.{statement}
 use Rattle.image.proofs.clearing.clear_heap.Tie as tie
 
 returns : tie.Need-returns
-returns c = let A = c .before .before .before .before .before .args in zero-heap width (A .k) (A .im .now) (c .before .before .clear .last .0) (search needs) (A .a) (A .e) (omega arith) (omega arith) (c .before .before .clear .ensures)
+returns c = let A = c .before .before .before .before .before .args in zero-heap width (A .k) (A .im .now) (c .before .before .clear .last .0) (search needs) (A .a) (A .e) (search needs) (search needs) (c .before .before .clear .ensures)
 
 pub clear-heap-spec : {M : Type 1} → statement M
 clear-heap-spec =

@@ -1,7 +1,6 @@
 use Rattle.model.specs.Base.{nth}
 use Rattle.image_laws.specs.Compare.{nearAt, near}
 use Prim.Native.Nat.{_-_}
-use native.Mathlib.Omega.{arith}
 use borrow.Author.Needs.{needs}
 use lib.ListN.{length}
 use Rattle.image_laws.proofs.Compare.{NoneBad, bad-none, bad-end, near-more}
@@ -19,5 +18,5 @@ unfolding nth near
 are-near-spec =
     tie.close
     (tie.spec Inv-loop μ-loop (λ c. bad-none) (λ c. search needs) (λ c. search needs) (λ c. search needs) (λ c. search needs)
-    (λ c. near-more _ _ _ (omega arith) _ _ (c .before .before .loop .inv))
-    (λ c. bad-end (c .before .loop .inv) (omega arith)))
+    (λ c. near-more _ _ _ (search needs) _ _ (c .before .before .loop .inv))
+    (λ c. bad-end (c .before .loop .inv) (search needs)))

@@ -1,7 +1,6 @@
 use Rattle.model.specs.Base.{nth}
 use Rattle.image_laws.specs.Compare.{between, within}
 use Prim.Native.Nat.{_-_}
-use native.Mathlib.Omega.{arith}
 use borrow.Author.Needs.{needs}
 use lib.ListN.{length}
 use Rattle.image_laws.proofs.Compare.{NoneBad, bad-none, bad-end, within-more}
@@ -20,5 +19,5 @@ are-within-spec =
     tie.close
     (tie.spec Inv-loop μ-loop (λ c. bad-none) (λ c. search needs) (λ c. search needs) (λ c. search needs) (λ c. search needs)
     (λ c. search needs) (λ c. search needs) (λ c. search needs) (λ c. search needs) (λ c. search needs) (λ c. search needs)
-    (λ c. within-more _ _ _ (omega arith) _ _ (c .before .before .before .before .before .loop .inv))
-    (λ c. bad-end (c .before .loop .inv) (omega arith)))
+    (λ c. within-more _ _ _ (search needs) _ _ (c .before .before .before .before .before .loop .inv))
+    (λ c. bad-end (c .before .loop .inv) (search needs)))

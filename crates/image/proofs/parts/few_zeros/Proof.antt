@@ -3,7 +3,6 @@ use Rattle.image_laws.proofs.Parts.{Gathered, g-none, g-more, g-end, zeroes-all
 use Rattle.model.specs.Base.{nth}
 use Prim.Native.Nat.{_-_}
 use mathlib.Core.Path.{refl, _∙_}
-use native.Mathlib.Omega.{arith}
 use borrow.Author.Needs.{needs}
 use lib.ListN.{length}
 use Rattle.image.proofs.parts.few_zeros.Statement.{statement}
@@ -20,5 +19,5 @@ unfolding isZero nth
 few-zeros-spec =
     tie.close
     (tie.spec Inv-loop μ-loop (λ c. g-none) (λ c. search needs) (λ c. search needs) (λ c. search needs) (λ c. search needs)
-    (λ c. g-more _ _ _ _ _ (c .before .before .loop .inv) (omega arith) refl)
-    (λ c. g-end (c .before .loop .inv) (omega arith) ∙ zeroes-all _))
+    (λ c. g-more _ _ _ _ _ (c .before .before .loop .inv) (search needs) refl)
+    (λ c. g-end (c .before .loop .inv) (search needs) ∙ zeroes-all _))

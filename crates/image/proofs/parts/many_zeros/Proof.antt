@@ -3,7 +3,6 @@ use Rattle.image_laws.specs.Parts.{bothZero}
 use Rattle.image_laws.proofs.Parts.{Gathered, g-none, g-more, g-end, or-both, zeroes-both}
 use Prim.Native.Nat.{_-_}
 use mathlib.Core.Path.{_∙_}
-use native.Mathlib.Omega.{arith}
 use borrow.Author.Needs.{needs}
 use Rattle.image.proofs.parts.many_zeros.Statement.{statement}
 use Rattle.image.proofs.parts.many_zeros.Tie as tie
@@ -20,5 +19,5 @@ many-zeros-spec =
     tie.close
     (tie.spec Inv-loop μ-loop (λ c. search needs) (λ c. g-none) (λ c. search needs) (λ c. search needs) (λ c. search needs)
     (λ c. search needs) (λ c. search needs) (λ c. search needs) (λ c. search needs)
-    (λ c. g-more _ _ _ _ _ (c .before .before .before .loop .inv) (omega arith) (or-both _ _ _))
-    (λ c. g-end (c .before .loop .inv) (omega arith) ∙ zeroes-both _ _ _ (omega arith) (omega arith)))
+    (λ c. g-more _ _ _ _ _ (c .before .before .before .loop .inv) (search needs) (or-both _ _ _))
+    (λ c. g-end (c .before .loop .inv) (search needs) ∙ zeroes-both _ _ _ (search needs) (search needs)))

@@ -3,7 +3,6 @@ use Rattle.image.specs.Layout.{width}
 use Rattle.image_laws.proofs.Sections.{get-section}
 use Rattle.model.specs.Image.{tracersAt, imageOf, image, split}
 use Rattle.model.specs.Base.{nth}
-use native.Mathlib.Omega.{arith}
 use Rattle.image.proofs.sections.tracer_word.Statement.{statement}
 use Rattle.image.proofs.sections.tracer_word.Tie as tie
 
@@ -12,4 +11,4 @@ unfolding nth imageOf image split
 tracer-word-spec =
     tie.close
     (tie.spec (λ c. search needs) (λ c. search needs) (λ c. search needs) (λ c. search needs) (λ c. search needs)
-    (λ c. let A = c .before .args in get-section width (A .k) (A .im .now) tracersAt _ _ (omega arith) (omega arith)))
+    (λ c. get-section width (c .before .args .k) _ tracersAt _ _ (search needs) (search needs)))

@@ -1,6 +1,5 @@
 use borrow.Author.Needs.{needs}
 use Rattle.request_laws.proofs.Fields.{admit-none, admit-many, admit-stray, admit-beyond, admit-owing, admit-passed}
-use Rattle.model.specs.Examples.{left}
 use Rattle.model.specs.Image.{image, imageOf}
 use mathlib.Core.Path.{sym, _∙_}
 use Rattle.request.proofs.fields.admit.Statement.{statement}
