@@ -10,13 +10,11 @@ use Rattle.image.proofs.compare.are_at_most.Tie as tie
 abbrev Inv-loop : tie.InvT-loop
 Inv-loop s top bad₀ i₀ bad i = NoneBad (length s) (noMore top s) bad i
 
-abbrev μ-loop : tie.MeasureT-loop
-μ-loop s top bad₀ i₀ bad i = length s - i
-
 pub are-at-most-spec : {M : Type 1} → statement M
 unfolding nth atMost
 are-at-most-spec =
     tie.close
-    (tie.spec Inv-loop μ-loop (λ c. bad-none) (λ c. search needs) (λ c. search needs) (λ c. search needs) (λ c. search needs)
+    (tie.spec Inv-loop (λ s top bad₀ i₀ bad i. length s - i) (λ c. bad-none) (λ c. search needs) (λ c. search needs)
+    (λ c. search needs) (λ c. search needs)
     (λ c. most-more _ _ _ (search needs) _ (c .before .before .loop .inv))
     (λ c. bad-end (c .before .loop .inv) (search needs)))

@@ -10,13 +10,11 @@ use Rattle.image.proofs.compare.are_near.Tie as tie
 abbrev Inv-loop : tie.InvT-loop
 Inv-loop s from end bad₀ i₀ bad i = NoneBad (length s) (nearAt from end s) bad i
 
-abbrev μ-loop : tie.MeasureT-loop
-μ-loop s from end bad₀ i₀ bad i = length s - i
-
 pub are-near-spec : {M : Type 1} → statement M
 unfolding nth near
 are-near-spec =
     tie.close
-    (tie.spec Inv-loop μ-loop (λ c. bad-none) (λ c. search needs) (λ c. search needs) (λ c. search needs) (λ c. search needs)
+    (tie.spec Inv-loop (λ s from end bad₀ i₀ bad i. length s - i) (λ c. bad-none) (λ c. search needs) (λ c. search needs)
+    (λ c. search needs) (λ c. search needs)
     (λ c. near-more _ _ _ (search needs) _ _ (c .before .before .loop .inv))
     (λ c. bad-end (c .before .loop .inv) (search needs)))

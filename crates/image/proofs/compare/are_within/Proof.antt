@@ -10,14 +10,12 @@ use Rattle.image.proofs.compare.are_within.Tie as tie
 abbrev Inv-loop : tie.InvT-loop
 Inv-loop s low high bad₀ i₀ bad i = NoneBad (length s) (between low high s) bad i
 
-abbrev μ-loop : tie.MeasureT-loop
-μ-loop s low high bad₀ i₀ bad i = length s - i
-
 pub are-within-spec : {M : Type 1} → statement M
 unfolding nth within
 are-within-spec =
     tie.close
-    (tie.spec Inv-loop μ-loop (λ c. bad-none) (λ c. search needs) (λ c. search needs) (λ c. search needs) (λ c. search needs)
+    (tie.spec Inv-loop (λ s low high bad₀ i₀ bad i. length s - i) (λ c. bad-none) (λ c. search needs) (λ c. search needs)
     (λ c. search needs) (λ c. search needs) (λ c. search needs) (λ c. search needs) (λ c. search needs) (λ c. search needs)
+    (λ c. search needs) (λ c. search needs)
     (λ c. within-more _ _ _ (search needs) _ _ (c .before .before .before .before .before .loop .inv))
     (λ c. bad-end (c .before .loop .inv) (search needs)))

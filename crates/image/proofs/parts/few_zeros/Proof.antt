@@ -11,13 +11,11 @@ use Rattle.image.proofs.parts.few_zeros.Tie as tie
 abbrev Inv-loop : tie.InvT-loop
 Inv-loop s bad₀ i₀ bad i = Gathered (length s) (isZero s) bad i
 
-abbrev μ-loop : tie.MeasureT-loop
-μ-loop s bad₀ i₀ bad i = length s - i
-
 pub few-zeros-spec : {M : Type 1} → statement M
 unfolding isZero nth
 few-zeros-spec =
     tie.close
-    (tie.spec Inv-loop μ-loop (λ c. g-none) (λ c. search needs) (λ c. search needs) (λ c. search needs) (λ c. search needs)
+    (tie.spec Inv-loop (λ s bad₀ i₀ bad i. length s - i) (λ c. g-none) (λ c. search needs) (λ c. search needs) (λ c. search needs)
+    (λ c. search needs)
     (λ c. g-more _ _ _ _ _ (c .before .before .loop .inv) (search needs) refl)
     (λ c. g-end (c .before .loop .inv) (search needs) ∙ zeroes-all _))

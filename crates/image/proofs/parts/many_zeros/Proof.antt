@@ -10,14 +10,11 @@ use Rattle.image.proofs.parts.many_zeros.Tie as tie
 abbrev Inv-loop : tie.InvT-loop
 Inv-loop s h n bad₀ i₀ bad i = Gathered n (bothZero s h) bad i
 
-abbrev μ-loop : tie.MeasureT-loop
-μ-loop s h n bad₀ i₀ bad i = n - i
-
 pub many-zeros-spec : {M : Type 1} → statement M
 unfolding nth
 many-zeros-spec =
     tie.close
-    (tie.spec Inv-loop μ-loop (λ c. search needs) (λ c. g-none) (λ c. search needs) (λ c. search needs) (λ c. search needs)
-    (λ c. search needs) (λ c. search needs) (λ c. search needs) (λ c. search needs)
+    (tie.spec Inv-loop (λ s h n bad₀ i₀ bad i. n - i) (λ c. search needs) (λ c. g-none) (λ c. search needs) (λ c. search needs)
+    (λ c. search needs) (λ c. search needs) (λ c. search needs) (λ c. search needs) (λ c. search needs)
     (λ c. g-more _ _ _ _ _ (c .before .before .before .loop .inv) (search needs) (or-both _ _ _))
     (λ c. g-end (c .before .loop .inv) (search needs) ∙ zeroes-both _ _ _ (search needs) (search needs)))

@@ -5,12 +5,6 @@ use Rattle.image_laws.proofs.Size.{cards-few, cards-many, cards-odd, cards-fit}
 use Rattle.image.proofs.size.cards.Statement.{statement}
 use Rattle.image.proofs.size.cards.Tie as tie
 
-returns-3 : tie.Need-returns-3
-returns-3 c = cards-odd width perCard behind most _ (λ k. search needs) refl (search needs) (search needs) (search needs) (search needs)
-
-returns-4 : tie.Need-returns-4
-returns-4 c = cards-fit width perCard behind most _ (λ k. search needs) refl (search needs) (search needs) (search needs) (search needs)
-
 pub cards-spec : {M : Type 1} → statement M
 cards-spec =
     tie.close
@@ -18,4 +12,6 @@ cards-spec =
     (λ c. cards-few width perCard behind most _ (λ k. search needs) refl (search needs) (search needs))
     (λ c. search needs)
     (λ c. cards-many width perCard behind most _ (λ k. search needs) refl (search needs) (search needs))
-    (λ c. search needs) (λ c. search needs) returns-3 returns-4)
+    (λ c. search needs) (λ c. search needs)
+    (λ c. cards-odd width perCard behind most _ (λ k. search needs) refl (search needs) (search needs) (search needs) (search needs))
+    (λ c. cards-fit width perCard behind most _ (λ k. search needs) refl (search needs) (search needs) (search needs) (search needs)))

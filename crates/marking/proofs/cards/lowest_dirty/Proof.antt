@@ -2,7 +2,6 @@ use Rattle.collector_laws.proofs.Cards.{NoDirty, dirty-first, dirty-end, dirty-
 use Rattle.image.specs.Layout.{width}
 use Rattle.model.specs.Image.{imageOf}
 use Prim.Native.Nat.{_-_, _≤_}
-use native.Mathlib.Omega.{arith}
 use borrow.Author.Needs.{needs}
 use Rattle.marking.proofs.cards.lowest_dirty.Statement.{statement}
 use Rattle.marking.proofs.cards.lowest_dirty.Tie as tie
@@ -10,11 +9,8 @@ use Rattle.marking.proofs.cards.lowest_dirty.Tie as tie
 abbrev Inv-loop : tie.InvT-loop
 Inv-loop im k c₀ c = (c ≤ k) × NoDirty (imageOf width k im) c
 
-abbrev μ-loop : tie.MeasureT-loop
-μ-loop im k c₀ c = k - c
-
 pub lowest-dirty-spec : {M : Type 1} → statement M
 lowest-dirty-spec =
     tie.close
-    (tie.spec Inv-loop μ-loop (λ c. (omega arith, dirty-first _)) (λ c κs. search needs) (λ c. search needs) (λ c. search dirty-found)
-    (λ c. search needs) (λ c. search needs) (λ c. (omega arith, search dirty-more)) (λ c. search dirty-end))
+    (tie.spec Inv-loop (λ im k c₀ c. k - c) (λ c. (search needs, dirty-first _)) (λ c κs. search needs) (λ c. search needs)
+    (λ c. search dirty-found) (λ c. search needs) (λ c. search needs) (λ c. (search needs, search dirty-more)) (λ c. search dirty-end))

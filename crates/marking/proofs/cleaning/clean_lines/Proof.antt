@@ -1,12 +1,8 @@
 use borrow.Author.Needs.{needs}
 use Rattle.collector_laws.proofs.Cleaning.{dirty-in, clean-hand-line, clean-card-line, clean-dirty-line, clean-no-line}
 use Rattle.collector_laws.proofs.Tracing.{hand-held}
-use native.Mathlib.Omega.{arith}
 use Rattle.marking.proofs.cleaning.clean_lines.Statement.{statement}
 use Rattle.marking.proofs.cleaning.clean_lines.Tie as tie
-
-take-card-requires : tie.Need-take-card-requires
-take-card-requires c κs = (search needs, (search needs, dirty-in _ _ _ _ (c .before .before .lowest-dirty .ensures) (c .before .if3 .taken)))
 
 returns-4 : tie.Need-returns-4
 returns-4 c = clean-no-line _ _ _ (c .before .before .before .before .before .before .before .read-tracer .ensures) (c .before .before .before .before .before .if1 .left) (c .before .before .before .if2 .left) _ (c .before .lowest-dirty .ensures) (c .if3 .left)
@@ -17,6 +13,7 @@ clean-lines-spec =
     (tie.spec (λ c κs. search needs)
     (λ c κs. (search needs, (search needs, (search needs, search hand-held))))
     (λ c. search needs) (λ c. search clean-hand-line)
-    (λ c κs. (search needs, (search needs, (search needs, search needs, omega arith))))
-    (λ c. search needs) (λ c. search clean-card-line) (λ c κs. search needs) (λ c. search needs) take-card-requires
+    (λ c κs. (search needs, (search needs, (search needs, search needs, search needs))))
+    (λ c. search needs) (λ c. search clean-card-line) (λ c κs. search needs) (λ c. search needs)
+    (λ c κs. (search needs, (search needs, dirty-in _ _ _ _ (c .before .before .lowest-dirty .ensures) (c .before .if3 .taken))))
     (λ c. search needs) (λ c. search clean-dirty-line) (λ c. search needs) returns-4)

@@ -4,9 +4,6 @@ use mathlib.Core.Path.{sym, _∙_}
 use Rattle.marking.proofs.tracing.trace_lines.Statement.{statement}
 use Rattle.marking.proofs.tracing.trace_lines.Tie as tie
 
-trace-packets-requires : tie.Need-trace-packets-requires
-trace-packets-requires c κs = (search needs, (search needs, (search needs, (search needs, sym (c .before .before .has-entries .ensures) ∙ c .before .if2 .left))))
-
 pub trace-lines-spec : {M : Type 1} → statement M
 trace-lines-spec =
     tie.close
@@ -15,4 +12,6 @@ trace-lines-spec =
     (λ c. search needs) (λ c. search trace-hand-line) (λ c. search needs) (λ c κs. (search needs, search held-input))
     (λ c. search entries-packet)
     (λ c κs. (search needs, (search needs, (search needs, search input-packet, search input-is, search entries-count))))
-    (λ c. search needs) (λ c. search trace-input-line) trace-packets-requires (λ c. search needs) (λ c. search needs))
+    (λ c. search needs) (λ c. search trace-input-line)
+    (λ c κs. (search needs, (search needs, (search needs, (search needs, sym (c .before .before .has-entries .ensures) ∙ c .before .if2 .left)))))
+    (λ c. search needs) (λ c. search needs))

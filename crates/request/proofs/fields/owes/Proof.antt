@@ -4,8 +4,9 @@ use mathlib.Core.Path.{sym, _∙_}
 use Rattle.request.proofs.fields.owes.Statement.{statement}
 use Rattle.request.proofs.fields.owes.Tie as tie
 
-owed-requires : tie.Need-owed-requires
-owed-requires c κs = let q = c .before .before .before in (q .pre .0, q .pre .1 .1 (sym (c .before .asks-debt .ensures) ∙ c .if1 .taken))
-
 pub owes-spec : {M : Type 1} → statement M
-owes-spec = tie.close (tie.spec (λ c κs. search needs) owed-requires (λ c. search debt-owes) (λ c. search debt-none))
+owes-spec =
+    tie.close
+    (tie.spec (λ c κs. search needs)
+    (λ c κs. let q = c .before .before .before in (q .pre .0, q .pre .1 .1 (sym (c .before .asks-debt .ensures) ∙ c .if1 .taken)))
+    (λ c. search debt-owes) (λ c. search debt-none))

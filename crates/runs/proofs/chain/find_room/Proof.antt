@@ -19,9 +19,6 @@ run-length-requires c κs = let A = c .before .before .before .before .args in (
 next-run-requires : tie.Need-next-run-requires Inv-loop μ-loop
 next-run-requires c κs = let A = c .before .before .before .before .before .before .args in (search needs, omega (arith, walk-in _ _ _ _ (c .before .before .before .loop .inv) (c .before .before .loop-test .taken), granules-image width (A .k) (A .im .now)))
 
-loop-less : tie.Need-loop-less Inv-loop μ-loop
-loop-less c = rw (c .next-run .ensures) (walk-less _ _ _ _ (c .before .before .before .before .loop .inv) (c .before .before .before .loop-test .taken))
-
 loop-again : tie.Need-loop-again Inv-loop μ-loop
 loop-again c = rw (c .next-run .ensures) (walk-next _ _ _ _ (c .before .before .before .before .loop .inv) (c .before .before .before .loop-test .taken) (omega arith))
 
@@ -30,5 +27,7 @@ find-room-spec =
     tie.close
     (tie.spec Inv-loop μ-loop (λ c κs. search needs) (λ c. search needs) (λ c. search walk-first) run-length-requires
     (λ c. walk-here _ _ _ _ (c .before .before .before .loop .inv) (c .before .before .loop-test .taken) (omega arith))
-    next-run-requires loop-less loop-again
+    next-run-requires
+    (λ c. rw (c .next-run .ensures) (walk-less _ _ _ _ (c .before .before .before .before .loop .inv) (c .before .before .before .loop-test .taken)))
+    loop-again
     (λ c. walk-end _ _ _ _ (c .before .loop .inv) (c .loop-test .left)))

@@ -28,9 +28,6 @@ next-run-requires c κs =
     let A = c .before .before .before .before .before .args in
     (search needs, omega (arith, count-in _ _ _ (c .before .before .loop .inv) (c .before .loop-test .taken), granules-image width (A .k) (A .im .now)))
 
-loop-less : tie.Need-loop-less Inv-loop μ-loop
-loop-less c = rw (c .next-run .ensures) (count-less _ _ _ (c .before .before .before .loop .inv) (c .before .before .loop-test .taken))
-
 loop-again : tie.Need-loop-again Inv-loop μ-loop
 loop-again c = rw (c .next-run .ensures) (count-next _ _ _ (c .before .before .before .loop .inv) (c .before .before .loop-test .taken) _ (c .before .word .ensures) (omega arith))
 
@@ -38,5 +35,7 @@ pub free-granules-spec : {M : Type 1} → statement M
 free-granules-spec =
     tie.close
     (tie.spec Inv-loop μ-loop (λ c κs. search needs) (λ c. search needs) (λ c. search count-first) word-requires (λ c. search needs)
-    add-total next-run-requires loop-less loop-again
+    add-total next-run-requires
+    (λ c. rw (c .next-run .ensures) (count-less _ _ _ (c .before .before .before .loop .inv) (c .before .before .loop-test .taken)))
+    loop-again
     (λ c. count-end _ _ _ (c .before .loop .inv) (c .loop-test .left)))

@@ -8,12 +8,10 @@ walk-requires c κs =
     let S = c .before .before .before .before .before .before in
     (S .pre .0, (S .pre .1, (c .first-run .ensures, (unused _ _ _ _ (c .before .before .before .first-unused .ensures) (c .before .before .if1 .left), c .before .after-small .ensures))))
 
-returns-2 : tie.Need-returns-2
-returns-2 c = heap-yes _ _ _ _ (c .before .before .before .before .first-unused .ensures) _ (c .before .before .before .if1 .left) (c .walk .ensures)
-
 pub heap-ok-spec : {M : Type 1} → statement M
 heap-ok-spec =
     tie.close
     (tie.spec (λ c κs. search needs)
     (λ c. heap-no _ _ _ _ (c .before .first-unused .ensures) (c .if1 .taken))
-    (λ c κs. search needs) (λ c κs. search needs) (λ c. search needs) walk-requires returns-2)
+    (λ c κs. search needs) (λ c κs. search needs) (λ c. search needs) walk-requires
+    (λ c. heap-yes _ _ _ _ (c .before .before .before .before .first-unused .ensures) _ (c .before .before .before .if1 .left) (c .walk .ensures)))

@@ -10,13 +10,10 @@ use Rattle.soundness.proofs.heap.links_ok.Tie as tie
 abbrev Inv-loop : tie.InvT-loop
 Inv-loop im k names g n ok₀ i₀ ok i = Checked n (linkOk (imageOf width k im) g) ok i
 
-abbrev μ-loop : tie.MeasureT-loop
-μ-loop im k names g n ok₀ i₀ ok i = n - i
-
 pub links-ok-spec : {M : Type 1} → statement M
 links-ok-spec =
     tie.close
-    (tie.spec Inv-loop μ-loop (λ c κs. search needs) (λ c κs. search needs)
+    (tie.spec Inv-loop (λ im k names g n ok₀ i₀ ok i. n - i) (λ c κs. search needs) (λ c κs. search needs)
     (λ c. after-two _ _ _ _ (c .least .ensures) (c .before .first-links .ensures))
     (λ c κs. search needs) (λ c. search needs) (λ c. search needs)
     (λ c. checked-more _ _ _ _ _ (c .before .before .loop .inv) (c .before .loop-test .taken) (c .link-ok .ensures))

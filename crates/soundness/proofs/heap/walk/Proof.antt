@@ -18,9 +18,6 @@ object-links-requires c κs =
     let inside = w-room _ _ _ (L .before .before .before .pre .0) _ _ _ _ (L .loop .inv) (c .before .before .before .loop-test .taken) _ (c .before .piece-ok .ensures) (c .if1 .left) in
     (search needs, (search needs, (search needs, (search needs, inside))))
 
-one-more-requires : tie.Need-one-more-requires Inv-loop μ-loop
-one-more-requires c κs = let L = c .before .before .before .before .before .before in w-small _ _ _ (L .before .before .before .pre .0) _ _ _ _ (L .loop .inv)
-
 loop-less : tie.Need-loop-less Inv-loop μ-loop
 loop-less c =
     let I = c .before .before .before .before .before in
@@ -51,6 +48,7 @@ walk-spec =
     tie.close
     (tie.spec Inv-loop μ-loop (λ c. search needs)
     (λ c. w-from _ _ _ (c .before .before .pre .0) _ (c .before .before .pre .1 .1 .0) (c .before .before .pre .1 .1 .1 .0) _ (c .before .before .pre .1 .1 .1 .1))
-    (λ c. search needs) (λ c κs. search needs) (λ c κs. search needs) returns object-links-requires returns-2 one-more-requires
+    (λ c. search needs) (λ c κs. search needs) (λ c κs. search needs) returns object-links-requires returns-2
+    (λ c κs. let L = c .before .before .before .before .before .before in w-small _ _ _ (L .before .before .before .pre .0) _ _ _ _ (L .loop .inv))
     (λ c κs. search needs) (λ c κs. search needs) (λ c. search needs) (λ c. search needs) loop-less loop-again (λ c κs. search needs)
     returns-3)

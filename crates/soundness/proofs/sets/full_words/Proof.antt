@@ -11,14 +11,11 @@ use Rattle.soundness.proofs.sets.full_words.Tie as tie
 abbrev Inv-loop : tie.InvT-loop
 Inv-loop set i₀ i = FullUpto width set i
 
-abbrev μ-loop : tie.MeasureT-loop
-μ-loop set i₀ i = length set - i
-
 pub full-words-spec : {M : Type 1} → statement M
 unfolding nth
 full-words-spec =
     tie.close
-    (tie.spec Inv-loop μ-loop (λ c. full-none _ _) (λ c. search needs) (λ c. search needs)
+    (tie.spec Inv-loop (λ set i₀ i. length set - i) (λ c. full-none _ _) (λ c. search needs) (λ c. search needs)
     (λ c. omega (arith, c .shared-slice-known .given (c .before .before .loop .i)))
     (λ c. search needs)
     (λ c. full-stop _ _ _ (c .before .before .before .loop .inv) (c .if1 .taken))

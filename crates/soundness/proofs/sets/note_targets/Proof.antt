@@ -20,12 +20,6 @@ loop-again : tie.Need-loop-again Inv-loop μ-loop
 unfolding put
 loop-again c = t-more _ _ _ (c .before .before .before .before .before .before .pre .0) _ _ _ _ (c .before .before .loop .inv) (c .before .before .before .least .ensures) (c .before .loop-test .taken) (c .start-word .ensures)
 
-slice-read-x : tie.Need-slice-read-x Inv-loop μ-loop
-slice-read-x c = t-place _ _ _ (c .before .before .before .before .before .before .pre .0) _ _ _ (c .before .before .loop .inv) (omega arith)
-
-slice-write-targets-2 : tie.Need-slice-write-targets-2 Inv-loop μ-loop
-slice-write-targets-2 c = t-place _ _ _ (c .before .before .before .before .before .before .before .pre .0) _ _ _ (c .before .before .before .loop .inv) (omega arith)
-
 same-length : tie.Need-same-length Inv-loop μ-loop
 unfolding put
 same-length c = t-same _ _ _ (c .before .before .before .before .before .before .before .pre .0) _ _ _ _ (c .before .before .before .loop .inv) (c .before .before .before .before .before .before .before .pre .1)
@@ -39,5 +33,8 @@ note-targets-spec =
     tie.close
     (tie.spec Inv-loop μ-loop (λ c. search needs) (λ c κs. search needs)
     (λ c. t-none _ _ _ (c .before .before .before .pre .0) _ (c .before .before .before .pre .1))
-    (λ c κs. search needs) (λ c. search needs) slice-write-targets (λ c. search needs) (λ c. search needs) loop-again slice-read-x
-    (λ c κs. search needs) slice-write-targets-2 same-length returns)
+    (λ c κs. search needs) (λ c. search needs) slice-write-targets (λ c. search needs) (λ c. search needs) loop-again
+    (λ c. t-place _ _ _ (c .before .before .before .before .before .before .pre .0) _ _ _ (c .before .before .loop .inv) (omega arith))
+    (λ c κs. search needs)
+    (λ c. t-place _ _ _ (c .before .before .before .before .before .before .before .pre .0) _ _ _ (c .before .before .before .loop .inv) (omega arith))
+    same-length returns)

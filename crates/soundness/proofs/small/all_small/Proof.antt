@@ -10,12 +10,10 @@ use Rattle.soundness.proofs.small.all_small.Tie as tie
 abbrev Inv-loop : tie.InvT-loop
 Inv-loop im k targets a e ok₀ g₀ ok g = CheckedFrom a e (smallAt (imageOf width k im)) ok g
 
-abbrev μ-loop : tie.MeasureT-loop
-μ-loop im k targets a e ok₀ g₀ ok g = e - g
-
 pub all-small-spec : {M : Type 1} → statement M
 all-small-spec =
     tie.close
-    (tie.spec Inv-loop μ-loop (λ c. from-none _ _ _) (λ c κs. search needs) (λ c. search needs) (λ c. search needs)
+    (tie.spec Inv-loop (λ im k targets a e ok₀ g₀ ok g. e - g) (λ c. from-none _ _ _) (λ c κs. search needs) (λ c. search needs)
+    (λ c. search needs)
     (λ c. from-more _ _ _ _ _ (c .before .before .loop .inv) _ (c .before .loop-test .taken) (c .is-small .ensures))
     (λ c. from-end _ _ _ _ _ (c .before .loop .inv) (c .loop-test .left)))

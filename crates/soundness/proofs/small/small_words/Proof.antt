@@ -22,9 +22,6 @@ mul-loop c = let S = c .before .before .before .before in omega (arith, full-ins
 is-small-word-requires : tie.Need-is-small-word-requires Inv-loop μ-loop
 is-small-word-requires c κs = let S = c .before .before .before .before .before in (S .pre .0, (S .pre .1 .0, (S .pre .1 .1 .0, omega (arith, S .pre .1 .1 .1, c .loop-test .taken))))
 
-add-g : tie.Need-add-g Inv-loop μ-loop
-add-g c = omega (arith, c .before .before .before .loop .inv .high, c .before .before .before .before .before .before .before .pre .0 .high)
-
 loop-again : tie.Need-loop-again Inv-loop μ-loop
 loop-again c = let S = c .before .before .before .before .before .before .before in upto-more width _ _ _ (S .pre .0) (S .pre .1 .0) _ (c .before .before .before .loop .inv) (omega (arith, S .pre .1 .1 .1, c .before .before .loop-test .taken)) (c .before .is-small-word .ensures (not-false _ (c .if1 .left)))
 
@@ -33,5 +30,6 @@ small-words-spec =
     tie.close
     (tie.spec Inv-loop μ-loop
     (λ c. let S = c .before .before .before in upto-none width _ _ _ (S .pre .0) (S .pre .1 .0))
-    mul-loop is-small-word-requires (λ c. c .before .before .before .loop .inv) (λ c. search needs) add-g (λ c. search needs)
-    loop-again (λ c. c .before .loop .inv))
+    mul-loop is-small-word-requires (λ c. c .before .before .before .loop .inv) (λ c. search needs)
+    (λ c. omega (arith, c .before .before .before .loop .inv .high, c .before .before .before .before .before .before .before .pre .0 .high))
+    (λ c. search needs) loop-again (λ c. c .before .loop .inv))
