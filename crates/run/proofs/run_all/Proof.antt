@@ -5,6 +5,7 @@
 --     loops        the loop, by `Sound/Loop.antt`'s `loop-rule`: the invariant is `Ran`, and the records left are the variant
 use mathlib.Core.Path.{_≡_, refl, sym, _∙_, ap, subst}
 use mathlib.Core.Bool.{Bool, true, false}
+use mathlib.Core.Logic.{inl, inr}
 use mathlib.Core.WellFounded.{InvImage·wf}
 use Prim.Native.Nat.{ℕ, _+_, _-_, _*_, _/_, _%_, _<_, _≤_, _^_, zero-le}
 use native.Mathlib.Omega.{arith}
@@ -51,9 +52,10 @@ use denote.Triple.Clauses.{ensured, Lasts, lasts}
 use denote.Triple.Entry.{Vals, onEntry}
 use denote.Triple.Spec.{Meets, tripleOf}
 use denote.Triple.Table.{entered, cited}
-use denote.Triple.Walked.{says, Stays, stay-none, stay-none-slice, stay-slice, walkOf, goes-none, goes-none-slice, goes-slice, Walks, ends-at, walked, walk-meets}
+use denote.Triple.Walked.{says, Stays, stay-none, stay-none-slice, stay-slice, walkOf, goes-none, goes-none-slice, goes-slice, ends-at, walked, walk-meets}
 use denote.Exit.{yes}
 use Rattle.model.specs.Image.{imageOf}
+use Rattle.model.proofs.Laws.{bool-cases}
 use Rattle.model.specs.Records.{recordBytes, records, stepOf}
 use Rattle.model.specs.Steps.{step, run as ranOf, after, answersOf}
 use Rattle.theory.specs.Lines.{Sound, Undamaged}
@@ -96,11 +98,6 @@ rowOf false = u32
 
 abbrev word : RattleType
 word = rowOf (ltb width 32)
-
--- ---- the numbers of a turn
--- how many records there are, as the reader says it at the start
-abbrev N : List ℕ → ℕ
-N bytes = (length bytes - recordLength * 0) / recordLength
 
 -- how far the loop has come
 record State (k : ℕ) (xs bytes ys : List ℕ) (n : ℕ) : Type 0 where
@@ -156,8 +153,9 @@ module _ {M : Type 1} (𝓤 : URA M) (H : Heap 𝓤) (A : Atoms 𝓤) (W : Given
     (κ₁ κ₂ κ₃ : Lft) (q₁ q₂ q₃ : Share) (b₁ o₁ : ℕ) (γ₁ : GName) (xs : List ℕ) (k : ℕ) (s : RefT (List ℕ)) (b₃ o₃ : ℕ) (γ₃ : GName) (ys : List ℕ)
     (sized : Sized width k xs) (undamaged : Undamaged (imageOf width k xs)) (lengths : (length (now s) % recordLength ≡ 0) × (length ys ≡ 2 * (length (now s) / recordLength)))
     (room₁ : Room word (length xs)) (k-fits : k < 2 ^ 64) (is₂ : Is (ShrSlice (named 1) κ₂ u8) s (sliceVal (s .ptr) (length (now s)) ∷ [])) (room₃ : Room word (length ys)) where
+  -- how many records there are, as the reader says it at the start
   abbrev n : ℕ
-  n = N (now s)
+  n = (length (now s) - recordLength * 0) / recordLength
 
   -- the image and the answers, under a name and at a list
   abbrev im : GName → List ℕ → RefT (List ℕ)
@@ -278,10 +276,7 @@ module _ {M : Type 1} (𝓤 : URA M) (H : Heap 𝓤) (A : Atoms 𝓤) (W : Given
   on i w e = let a : w .at ≡ recordLength * (i + 1) = omega (arith, e .1) in λ j. record { bytes = e .0 j; at = a j }
 
   all-long : length ys ≡ 2 * n
-  all-long = let e = lengths .1 in omega arith
-
-  two : (i : ℕ) (xs′ ys′ : List ℕ) → Now i xs′ ys′ → i < n → 2 * i + 2 ≤ length ys′
-  two i xs′ ys′ ran h = let a = ran .long in let e = all-long in omega arith
+  all-long = omega (arith, lengths .1)
 
   record-is : (i : ℕ) (r : Request) → requested r ≡ stepOf width (take (recordBytes width) (dropped (recordLength * i) (now s))) → requested r ≡ recordAt width (now s) i
   unfolding recordAt recordBytes
@@ -322,10 +317,10 @@ module _ {M : Type 1} (𝓤 : URA M) (H : Heap 𝓤) (A : Atoms 𝓤) (W : Given
     Out′ = afterBlock 𝓤 H (afterSeq 𝓤 H (Wp 𝓤 H C Λ En behind (atReturn 𝓤 H En Post)) (atReturn 𝓤 H En Post))
 
     -- the turn that leaves the loop, and the rest of the body
-    ends : (xs′ ys′ : List ℕ) (X : SProp 𝓤) → Now n xs′ ys′ → ltb n n ≡ false → ent 𝓤 (⋆ 𝓤 H A (At n xs′ ys′)) (Wp 𝓤 H C Λ En turn (afterTurn 𝓤 H X Out′))
+    ends : (i : ℕ) (xs′ ys′ : List ℕ) (X : SProp 𝓤) → Now n xs′ ys′ → ltb i n ≡ false → ent 𝓤 (⋆ 𝓤 H A (At i xs′ ys′)) (Wp 𝓤 H C Λ En turn (afterTurn 𝓤 H X Out′))
     unfolding afterTurn
-    ends xs′ ys′ X ran z =
-        qed W (At n xs′ ys′) ∵ exec ! C Λ En turn (anyQ (afterTurn 𝓤 H X Out′)) $
+    ends i xs′ ys′ X ran z =
+        qed W (At i xs′ ys′) ∵ exec ! C Λ En turn (anyQ (afterTurn 𝓤 H X Out′)) $
         assigns ! (bin ! (load ! (from ! (stop !)) (look ! 14 refl)) (load ! (from ! (stop !)) (look ! 13 refl)) tt) (from ! (stop !)) (init ! 17 refl (tt, tt)) $
         rewrite ! 17 (λ (t : Bool). ‵ (fat fullShare tyBool l₁₀ 0 (vbool t))) z refl $
         leaves-loop ! (load ! (from ! (stop !)) (look ! 17 refl)) $ exec ! C Λ En behind (atRet En Post) $
@@ -371,7 +366,7 @@ module _ {M : Type 1} (𝓤 : URA M) (H : Heap 𝓤) (A : Atoms 𝓤) (W : Given
         use2 W (later (some (λ (δ₁ : GName). ‵ (Im′ ν₁ δ₁ xs′) ⊛ ‵ (LentAgain word κ₁ (ν₁ ∷ []) q₁ γ₁ b₁ o₁ δ₁ xs′)))) (lends-again word κ₁ (ν₁ ∷ []) q₁ γ₁ b₁ o₁ 𝓤 H A W (named 0) (named 0) xs′) $ await ! tt $ pick ! (λ δ₁. split ! $ move ! (4 ∷ 5 ∷ []) $
         use2 W (later (some (λ (δ₃ : GName). ‵ (An′ ν₃ δ₃ ys′) ⊛ ‵ (LentAgain word κ₃ (ν₃ ∷ []) q₃ γ₃ b₃ o₃ δ₃ ys′)))) (lends-again word κ₃ (ν₃ ∷ []) q₃ γ₃ b₃ o₃ 𝓤 H A W (named 2) (named 1) ys′) $ await ! tt $ pick ! (λ δ₃. split ! $
         move ! (9 ∷ 0 ∷ []) $ join ! $ move ! (2 ∷ 0 ∷ []) $ join ! $ move ! (4 ∷ 3 ∷ 0 ∷ []) $
-        use3 W (raw (One 𝓤 H A at-mem run .pre (to-one ν₁ ν₃ δ₁ δ₃ i xs′ ys′ r u))) (goes-one ν₁ ν₃ δ₁ δ₃ i xs′ ys′ r u (omega arith) (ran .sized) (ran .undamaged .sound) (e .0 .1) (two i xs′ ys′ ran small)) $
+        use3 W (raw (One 𝓤 H A at-mem run .pre (to-one ν₁ ν₃ δ₁ δ₃ i xs′ ys′ r u))) (goes-one ν₁ ν₃ δ₁ δ₃ i xs′ ys′ r u (omega arith) (ran .sized) (ran .undamaged .sound) (e .0 .1) (omega (arith, ran .long, all-long))) $
         -- [what `one` asks; the loan of the answers; that of the image; the reader; the step bytes' token; the step bytes; room for _0; _1; …; _16; …]
         calls-at ! fm (One 𝓤 H A at-mem run) known-one (to-one ν₁ ν₃ δ₁ δ₃ i xs′ ys′ r u)
         (and-then ! (load ! (from ! (stop !)) (look ! 20 refl)) (and-then ! (load ! (from ! (stop !)) (look ! 8 refl)) (and-then ! (load ! (from ! (stop !)) (look ! 14 refl)) (and-then ! (load ! (from ! (stop !)) (look ! 22 refl)) (and-then ! (load ! (from ! (stop !)) (look ! 13 refl)) (no-more !)))))) (λ u₁.
@@ -399,21 +394,17 @@ module _ {M : Type 1} (𝓤 : URA M) (H : Heap 𝓤) (A : Atoms 𝓤) (W : Given
 
     -- a turn leaves the loop, or ends in the invariant with fewer records left
     turns : (t : State k xs (now s) ys n) → ent 𝓤 (Inv t) (Wp 𝓤 H C Λ En turn (afterTurn 𝓤 H (Below t) Out′))
-    turns t = go (ltb (t .i) n) refl
-      where
-        later-on : (zs ws : List ℕ) → t .i < n → Now (t .i + 1) zs ws → ent 𝓤 (⋆ 𝓤 H A (At (t .i + 1) zs ws)) (Below t)
-        later-on zs ws h ran =
+    turns t =
+        elim (bool-cases (ltb (t .i) n)) [
+          inl z ↦
+            let h : t .i < n = omega (arith, ltb-true (t .i) n z) in
+            more (t .i) (t .image) (t .answers) (Below t) (t .ran) h z (λ zs ws ran.
             let t′ : State k xs (now s) ys n = record { i = t .i + 1; image = zs; answers = ws; ran = ran } in
-            via 𝓤 (guard 𝓤 (n - t′ .i < n - t .i) (Inv t′)) (guardI 𝓤 (n - t′ .i < n - t .i) (Inv t′) (omega arith)) (exI 𝓤 (λ (t″ : State k xs (now s) ys n). guard 𝓤 (n - t″ .i < n - t .i) (Inv t″)) t′)
-
-        at-end : t .i ≡ n → ltb (t .i) n ≡ false → ent 𝓤 (Inv t) (Wp 𝓤 H C Λ En turn (afterTurn 𝓤 H (Below t) Out′))
-        at-end e z =
-            subst (λ (j : ℕ). Now j (t .image) (t .answers) → ltb j n ≡ false → ent 𝓤 (⋆ 𝓤 H A (At j (t .image) (t .answers))) (Wp 𝓤 H C Λ En turn (afterTurn 𝓤 H (Below t) Out′))) (sym e)
-            (λ ran z′. ends (t .image) (t .answers) (Below t) ran z′) (t .ran) z
-
-        go : (b : Bool) → ltb (t .i) n ≡ b → ent 𝓤 (Inv t) (Wp 𝓤 H C Λ En turn (afterTurn 𝓤 H (Below t) Out′))
-        go true z = let h : t .i < n = omega (arith, ltb-true (t .i) n z) in more (t .i) (t .image) (t .answers) (Below t) (t .ran) h z (λ zs ws ran. later-on zs ws h ran)
-        go false z = at-end (omega (arith, ltb-false (t .i) n z)) z
+            via 𝓤 _ (guardI 𝓤 (n - t′ .i < n - t .i) (Inv t′) (omega arith)) (exI 𝓤 (λ (t″ : State k xs (now s) ys n). guard 𝓤 (n - t″ .i < n - t .i) (Inv t″)) t′))
+        | inr z ↦
+            let e : t .i ≡ n = omega (arith, ltb-false (t .i) n z, t .ran .low) in
+            ends (t .i) (t .image) (t .answers) (Below t) (subst (λ (j : ℕ). Now j (t .image) (t .answers)) e (t .ran)) z
+        ]
 
     loops : ent 𝓤 (⋆ 𝓤 H A (At 0 xs ys)) (Wp 𝓤 H C Λ En (loop turn) Out′)
     loops =
@@ -460,16 +451,14 @@ module _ {M : Type 1} (𝓤 : URA M) (H : Heap 𝓤) (A : Atoms 𝓤) (W : Given
         spells u is = ap only (LL.tells (T.the-type (α 𝓤 H A W κ₂)) (T′.the-laws (α 𝓤 H A W κ₂)) (rd 0) (u ∷ []) is)
 
 module _ {M : Type 1} (𝓤 : URA M) (H : Heap 𝓤) (A : Atoms 𝓤) (W : Given 𝓤 H A) (at-mem : Memory → SProp 𝓤) (run : Routine → Fun 𝓤) (𝓣 : Tables 𝓤 H) (known-new : Triple 𝓤 (𝓣 .C new.Symbol.name) (New 𝓤 H A at-mem run)) (known-left : Triple 𝓤 (𝓣 .C left.Symbol.name) (Left 𝓤 H A at-mem run)) (known-next : Triple 𝓤 (𝓣 .C next.Symbol.name) (Next 𝓤 H A at-mem run)) (known-one : Triple 𝓤 (𝓣 .C one.Symbol.name) (One 𝓤 H A at-mem run)) where
-  run-all-walks : Walks 𝓤 H A run-all.ended stayed (WpFn 𝓤 H (𝓣 .C) (𝓣 .Λ) code.function) (run-all.clauses 𝓤 H A at-mem run)
-  run-all-walks = walked 𝓤 H A run-all.ended stayed (run-all.clauses 𝓤 H A at-mem run) (WpFn 𝓤 H (𝓣 .C) (𝓣 .Λ) code.function) (λ κs. (slice-vals, (uint-vals w64, (slice-vals, (slice-vals, tt))))) (λ κs. (mut-slice-tells (named 0) (κs .0) word, (uint-tells w64, (shr-slice-tells (named 1) (κs .1 .0) u8, (mut-slice-tells (named 2) (κs .1 .1 .0) word, tt)))))
-      (λ κs qs bounds a g are. needs3 𝓤 (Sized width (a .1 .0) (a .0 .now)) (Undamaged (imageOf width (a .1 .0) (a .0 .now))) ((length (now (a .1 .1 .0)) % recordLength ≡ 0) × (length (a .1 .1 .1 .0 .now) ≡ 2 * (length (now (a .1 .1 .0)) / recordLength))) _
-      (λ sized undamaged lengths. walk 𝓤 H A W at-mem run (κs .0) (κs .1 .0) (κs .1 .1 .0) (qs .0) (qs .1 .0) (qs .1 .1 .0) (a .0 .ptr .0) (a .0 .ptr .1) (a .0 .name) (a .0 .now) (a .1 .0) (a .1 .1 .0) (a .1 .1 .1 .0 .ptr .0) (a .1 .1 .1 .0 .ptr .1) (a .1 .1 .1 .0 .name) (a .1 .1 .1 .0 .now)
-      sized undamaged lengths (are .0 .0 .1) (are .1 .0 .1) (are .1 .1 .0) (are .1 .1 .1 .0 .0 .1) 𝓣 (fmOf 𝓤 H (W .laws) 𝓣) known-new known-left known-next known-one))
-
   run-all-meets : Meets 𝓤 H A run-all.signature (WpFn 𝓤 H (𝓣 .C) (𝓣 .Λ) code.function) (run-all.spec 𝓤 H A at-mem run)
   run-all-meets =
       walk-meets 𝓤 H A run-all.ended stayed W (goes-slice 𝓤 H A W 3 0 tt (plain (λ _. word)), (goes-none 𝓤 H A W 3 (λ _. usize) yes (λ κs x f. refl), (goes-none-slice 𝓤 H A W 3 (1 ∷ []) tt (plain (λ _. u8)) yes, (goes-slice 𝓤 H A W 3 2 tt (plain (λ _. word)), tt)))) (run-all.clauses 𝓤 H A at-mem run)
-      (WpFn 𝓤 H (𝓣 .C) (𝓣 .Λ) code.function) (WpFn-mono 𝓤 H (W .laws) 𝓣 code.function) run-all-walks
+      (WpFn 𝓤 H (𝓣 .C) (𝓣 .Λ) code.function) (WpFn-mono 𝓤 H (W .laws) 𝓣 code.function)
+      (walked 𝓤 H A run-all.ended stayed (run-all.clauses 𝓤 H A at-mem run) (WpFn 𝓤 H (𝓣 .C) (𝓣 .Λ) code.function) (λ κs. (slice-vals, (uint-vals w64, (slice-vals, (slice-vals, tt))))) (λ κs. (mut-slice-tells (named 0) (κs .0) word, (uint-tells w64, (shr-slice-tells (named 1) (κs .1 .0) u8, (mut-slice-tells (named 2) (κs .1 .1 .0) word, tt)))))
+      (λ κs qs bounds a g are. needs3 𝓤 (Sized width (a .1 .0) (a .0 .now)) (Undamaged (imageOf width (a .1 .0) (a .0 .now))) ((length (now (a .1 .1 .0)) % recordLength ≡ 0) × (length (a .1 .1 .1 .0 .now) ≡ 2 * (length (now (a .1 .1 .0)) / recordLength))) _
+      (λ sized undamaged lengths. walk 𝓤 H A W at-mem run (κs .0) (κs .1 .0) (κs .1 .1 .0) (qs .0) (qs .1 .0) (qs .1 .1 .0) (a .0 .ptr .0) (a .0 .ptr .1) (a .0 .name) (a .0 .now) (a .1 .0) (a .1 .1 .0) (a .1 .1 .1 .0 .ptr .0) (a .1 .1 .1 .0 .ptr .1) (a .1 .1 .1 .0 .name) (a .1 .1 .1 .0 .now)
+      sized undamaged lengths (are .0 .0 .1) (are .1 .0 .1) (are .1 .1 .0) (are .1 .1 .1 .0 .0 .1) 𝓣 (fmOf 𝓤 H (W .laws) 𝓣) known-new known-left known-next known-one)))
 
 pub run-all-spec : {M : Type 1} → run-all.Statement.statement M
 unfolding code.routine tablesOf
