@@ -396,14 +396,14 @@ module _ {M : Type 1} (𝓤 : URA M) (H : Heap 𝓤) (A : Atoms 𝓤) (W : Given
     turns : (t : State k xs (now s) ys n) → ent 𝓤 (Inv t) (Wp 𝓤 H C Λ En turn (afterTurn 𝓤 H (Below t) Out′))
     turns t =
         elim (bool-cases (ltb (t .i) n)) [
-          inl z ↦
-            let h : t .i < n = omega (arith, ltb-true (t .i) n z) in
-            more (t .i) (t .image) (t .answers) (Below t) (t .ran) h z (λ zs ws ran.
-            let t′ : State k xs (now s) ys n = record { i = t .i + 1; image = zs; answers = ws; ran = ran } in
-            via 𝓤 _ (guardI 𝓤 (n - t′ .i < n - t .i) (Inv t′) (omega arith)) (exI 𝓤 (λ (t″ : State k xs (now s) ys n). guard 𝓤 (n - t″ .i < n - t .i) (Inv t″)) t′))
-        | inr z ↦
-            let e : t .i ≡ n = omega (arith, ltb-false (t .i) n z, t .ran .low) in
-            ends (t .i) (t .image) (t .answers) (Below t) (subst (λ (j : ℕ). Now j (t .image) (t .answers)) e (t .ran)) z
+          | inl z ↦
+              let h : t .i < n = omega (arith, ltb-true (t .i) n z) in
+              more (t .i) (t .image) (t .answers) (Below t) (t .ran) h z (λ zs ws ran.
+              let t′ : State k xs (now s) ys n = record { i = t .i + 1; image = zs; answers = ws; ran = ran } in
+              via 𝓤 _ (guardI 𝓤 (n - t′ .i < n - t .i) (Inv t′) (omega arith)) (exI 𝓤 (λ (t″ : State k xs (now s) ys n). guard 𝓤 (n - t″ .i < n - t .i) (Inv t″)) t′))
+          | inr z ↦
+              let e : t .i ≡ n = omega (arith, ltb-false (t .i) n z, t .ran .low) in
+              ends (t .i) (t .image) (t .answers) (Below t) (subst (λ (j : ℕ). Now j (t .image) (t .answers)) e (t .ran)) z
         ]
 
     loops : ent 𝓤 (⋆ 𝓤 H A (At 0 xs ys)) (Wp 𝓤 H C Λ En (loop turn) Out′)
