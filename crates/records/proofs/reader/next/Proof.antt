@@ -145,11 +145,11 @@ module _ {M : Type 1} (𝓤 : URA M) (H : Heap 𝓤) (A : Atoms 𝓤) (W : Given
         use1 W (‵ (fat fullShare (T′.mir erased) b o (T′.lowered h))) (W .laws .raw-at fullShare (T′.mir erased) b o (T′.lowered h)) $
         move ! (1 ∷ []) $ peeks ! (B κ′) (Is (B κ′)) (shows 𝓤 H A (B κ′)) h (T′.lowered h ∷ []) (λ g. move ! (1 ∷ 0 ∷ []) $
         -- [the struct's cell; what a Reader owns; the open borrow; obs; auth; 'a's token; true; _4; …; _3; …; _2; …; _1; …; room for _0; …]
-        assigns ! (of-opd ! (load ! (from ! (hop ! (look ! 13 refl) (fld ! refl (stop !)))) (look-in ! 0 (sub ! 1 refl (whole !))))) (from ! (stop !)) (init ! 11 refl (tt, record { fits = at-fits g })) $
+        assigns ! (of-opd ! (load ! (from ! (hop ! (look ! 13 refl) (fld ! refl (stop !)))) (look-in ! 0 (sub ! 1 refl (whole !))))) (from ! (stop !)) (init ! 11 refl (tt, typed g .1 .1 .0)) $
         assigns ! (bin ! (load ! (from ! (stop !)) (look ! 11 refl)) (lit ! tt) (record { fits = moved-fits g })) (from ! (stop !)) (init ! 9 refl (tt, record { fits = moved-fits g })) $
         assigns ! (of-opd ! (load ! (from ! (stop !)) (look ! 9 refl))) (from ! (hop ! (look ! 13 refl) (fld ! refl (stop !)))) (store-in ! 0 (sub ! 1 refl (whole !)) (tt, record { fits = moved-fits g })) $
         assigns ! (of-opd ! (load ! (from ! (hop ! (look ! 13 refl) (fld ! refl (stop !)))) (look-in ! 0 (sub ! 0 refl (whole !))))) (from ! (stop !)) (init ! 7 refl (tt, typed g .1 .0)) $
-        move ! (1 ∷ 5 ∷ []) $ use2 W (raw (RecordAt 𝓤 H A at-mem run .pre to) ⊛ ‵ (Own h)) (apart (at-fits g)) $ split ! $
+        move ! (1 ∷ 5 ∷ []) $ use2 W (raw (RecordAt 𝓤 H A at-mem run .pre to) ⊛ ‵ (Own h)) (apart (typed g .1 .1 .0 .fits)) $ split ! $
         -- [what the callee asks; what the struct owns; its cell; the open borrow; obs; auth; true; _4; …; _3; …; _2; …; _1; …; room for _0; …]
         calls-at ! fm (RecordAt 𝓤 H A at-mem run) known to (and-then ! (load ! (from ! (stop !)) (look ! 7 refl)) (and-then ! (load ! (from ! (stop !)) (look ! 11 refl)) (no-more !))) (λ u.
         use1 W (later (some (λ (r : Request). ((‵ (flft κ′ q′) ⊛ ‵ ftrue) ⊛ ‵ (S.the-row .own r (u ∷ []))) ⊛ raw (ensured 𝓤 H A record-at.ended (record-at.clauses 𝓤 H A at-mem run) (κ′, tt) (h .bytes, (h .at, tt)) tt r)))) (id⊢ 𝓤 _) $ await ! tt $ pick ! (λ r.
@@ -163,9 +163,6 @@ module _ {M : Type 1} (𝓤 : URA M) (H : Heap 𝓤) (A : Atoms 𝓤) (W : Given
       where
         typed : Is (B κ′) h (T′.lowered h ∷ []) → Holds (hasTy (T′.mir erased) (T′.lowered h)) × WT (T′.lowered h)
         typed g = LL.lawful (T.the-type (record { mir = erased; lft = κ′ })) (T′.the-laws (record { mir = erased; lft = κ′ })) 𝓤 H A W .typed h _ g .0
-
-        at-fits : Is (B κ′) h (T′.lowered h ∷ []) → h .at < 2 ^ 64
-        at-fits g = typed g .1 .1 .0 .fits
 
         moved-fits : Is (B κ′) h (T′.lowered h ∷ []) → h .at + recordLength < 2 ^ 64
         moved-fits g = lt-of-le-of-lt within (typed g .1 .0 .1 .0 .fits)
