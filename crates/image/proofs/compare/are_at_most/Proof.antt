@@ -15,6 +15,4 @@ unfolding nth atMost
 are-at-most-spec =
     tie.close
     (tie.spec Inv-loop (λ s top bad₀ i₀ bad i. length s - i) (λ c. bad-none) (λ c. search needs) (λ c. search needs)
-    (λ c. search needs) (λ c. search needs)
-    (λ c. most-more _ _ _ (search needs) _ (c .before .before .loop .inv))
-    (λ c. bad-end (c .before .loop .inv) (search needs)))
+    (λ c. search needs) (λ c. search needs) (λ c. search most-more) (λ c. search bad-end))

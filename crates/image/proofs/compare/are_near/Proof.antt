@@ -15,6 +15,4 @@ unfolding nth near
 are-near-spec =
     tie.close
     (tie.spec Inv-loop (λ s from end bad₀ i₀ bad i. length s - i) (λ c. bad-none) (λ c. search needs) (λ c. search needs)
-    (λ c. search needs) (λ c. search needs)
-    (λ c. near-more _ _ _ (search needs) _ _ (c .before .before .loop .inv))
-    (λ c. bad-end (c .before .loop .inv) (search needs)))
+    (λ c. search needs) (λ c. search needs) (λ c. search near-more) (λ c. search bad-end))

@@ -16,6 +16,4 @@ are-within-spec =
     tie.close
     (tie.spec Inv-loop (λ s low high bad₀ i₀ bad i. length s - i) (λ c. bad-none) (λ c. search needs) (λ c. search needs)
     (λ c. search needs) (λ c. search needs) (λ c. search needs) (λ c. search needs) (λ c. search needs) (λ c. search needs)
-    (λ c. search needs) (λ c. search needs)
-    (λ c. within-more _ _ _ (search needs) _ _ (c .before .before .before .before .before .loop .inv))
-    (λ c. bad-end (c .before .loop .inv) (search needs)))
+    (λ c. search needs) (λ c. search needs) (λ c. search within-more) (λ c. search bad-end))

@@ -2,7 +2,7 @@ use Rattle.image_laws.specs.Parts.{isZero}
 use Rattle.image_laws.proofs.Parts.{Gathered, g-none, g-more, g-end, zeroes-all}
 use Rattle.model.specs.Base.{nth}
 use Prim.Native.Nat.{_-_}
-use mathlib.Core.Path.{refl, _∙_}
+use mathlib.Core.Path.{_∙_}
 use borrow.Author.Needs.{needs}
 use lib.ListN.{length}
 use Rattle.image.proofs.parts.few_zeros.Statement.{statement}
@@ -16,6 +16,5 @@ unfolding isZero nth
 few-zeros-spec =
     tie.close
     (tie.spec Inv-loop (λ s bad₀ i₀ bad i. length s - i) (λ c. g-none) (λ c. search needs) (λ c. search needs) (λ c. search needs)
-    (λ c. search needs)
-    (λ c. g-more _ _ _ _ _ (c .before .before .loop .inv) (search needs) refl)
+    (λ c. search needs) (λ c. search g-more)
     (λ c. g-end (c .before .loop .inv) (search needs) ∙ zeroes-all _))

@@ -9,4 +9,4 @@ first-links-spec =
     (tie.spec
     (λ c κs. let P = c .before .before .pre in (P .0, (P .1 .0, omega arith)))
     (λ c κs. let P = c .before .before .before .pre in (P .0, (P .1 .0, omega arith)))
-    (λ c. first-two _ _ _ _ (c .before .link-ok .ensures) (c .link-ok2 .ensures)))
+    (λ c. search first-two))

@@ -11,7 +11,5 @@ walk-requires c κs =
 pub heap-ok-spec : {M : Type 1} → statement M
 heap-ok-spec =
     tie.close
-    (tie.spec (λ c κs. search needs)
-    (λ c. heap-no _ _ _ _ (c .before .first-unused .ensures) (c .if1 .taken))
-    (λ c κs. search needs) (λ c κs. search needs) (λ c. search needs) walk-requires
-    (λ c. heap-yes _ _ _ _ (c .before .before .before .before .first-unused .ensures) _ (c .before .before .before .if1 .left) (c .walk .ensures)))
+    (tie.spec (λ c κs. search needs) (λ c. search heap-no) (λ c κs. search needs) (λ c κs. search needs) (λ c. search needs)
+    walk-requires (λ c. search heap-yes))

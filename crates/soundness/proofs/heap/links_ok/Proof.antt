@@ -13,8 +13,5 @@ Inv-loop im k names g n ok₀ i₀ ok i = Checked n (linkOk (imageOf width k im)
 pub links-ok-spec : {M : Type 1} → statement M
 links-ok-spec =
     tie.close
-    (tie.spec Inv-loop (λ im k names g n ok₀ i₀ ok i. n - i) (λ c κs. search needs) (λ c κs. search needs)
-    (λ c. after-two _ _ _ _ (c .least .ensures) (c .before .first-links .ensures))
-    (λ c κs. search needs) (λ c. search needs) (λ c. search needs)
-    (λ c. checked-more _ _ _ _ _ (c .before .before .loop .inv) (c .before .loop-test .taken) (c .link-ok .ensures))
-    (λ c. checked-end _ _ _ _ (c .before .loop .inv) (c .loop-test .left)))
+    (tie.spec Inv-loop (λ im k names g n ok₀ i₀ ok i. n - i) (λ c κs. search needs) (λ c κs. search needs) (λ c. search after-two)
+    (λ c κs. search needs) (λ c. search needs) (λ c. search needs) (λ c. search checked-more) (λ c. search checked-end))

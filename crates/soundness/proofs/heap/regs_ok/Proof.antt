@@ -17,6 +17,5 @@ regs-ok-spec =
     tie.close
     (tie.spec Inv-loop (λ im k targets ok₀ i₀ ok i. 256 - i) (λ c κs. search needs)
     (λ c. let S = c .before .before .before .before in low-regs width _ _ (S .pre .0) _ (S .pre .1) (sym (c .if1 .taken) ∙ c .before .low-regs .ensures))
-    (λ c. checked-none) (λ c κs. search needs) (λ c. search needs) (λ c. search needs)
-    (λ c. checked-more _ _ _ _ _ (c .before .before .loop .inv) (c .before .loop-test .taken) (c .reg-ok .ensures))
-    (λ c. checked-end _ _ _ _ (c .before .loop .inv) (c .loop-test .left)))
+    (λ c. checked-none) (λ c κs. search needs) (λ c. search needs) (λ c. search needs) (λ c. search checked-more)
+    (λ c. search checked-end))

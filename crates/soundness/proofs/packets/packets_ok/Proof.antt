@@ -14,5 +14,4 @@ pub packets-ok-spec : {M : Type 1} → statement M
 packets-ok-spec =
     tie.close
     (tie.spec Inv-loop (λ im k ok₀ i₀ ok i. 32 - i) (λ c. checked-none) (λ c κs. search needs) (λ c. search needs) (λ c. search needs)
-    (λ c. checked-more _ _ _ _ _ (c .before .before .loop .inv) (c .before .loop-test .taken) (c .packet-ok .ensures))
-    (λ c. checked-end _ _ _ _ (c .before .loop .inv) (c .loop-test .left)))
+    (λ c. search checked-more) (λ c. search checked-end))

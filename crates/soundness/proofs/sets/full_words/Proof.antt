@@ -15,10 +15,6 @@ pub full-words-spec : {M : Type 1} → statement M
 unfolding nth
 full-words-spec =
     tie.close
-    (tie.spec Inv-loop (λ set i₀ i. length set - i) (λ c. full-none _ _) (λ c. search needs) (λ c. search needs)
+    (tie.spec Inv-loop (λ set i₀ i. length set - i) (λ c. search full-none) (λ c. search needs) (λ c. search needs)
     (λ c. omega (arith, c .shared-slice-known .given (c .before .before .loop .i)))
-    (λ c. search needs)
-    (λ c. full-stop _ _ _ (c .before .before .before .loop .inv) (c .if1 .taken))
-    (λ c. search needs) (λ c. search needs)
-    (λ c. full-more _ _ _ (c .before .before .before .loop .inv) (omega arith) (omega arith))
-    (λ c. full-end _ _ _ (c .before .loop .inv) (omega arith)))
+    (λ c. search needs) (λ c. search full-stop) (λ c. search needs) (λ c. search needs) (λ c. search full-more) (λ c. search full-end))

@@ -18,6 +18,5 @@ small-words-requires c κs =
 pub after-small-spec : {M : Type 1} → statement M
 after-small-spec =
     tie.close
-    (tie.spec (λ c κs. search needs)
-    (λ c. let S = c .before .before .before .before in upto-none width _ _ _ (S .pre .0) (S .pre .1))
-    (λ c. search needs) last-full-requires (λ c κs. search needs) (λ c. search needs) small-words-requires (λ c. search needs))
+    (tie.spec (λ c κs. search needs) (λ c. search upto-none) (λ c. search needs) last-full-requires (λ c κs. search needs)
+    (λ c. search needs) small-words-requires (λ c. search needs))

@@ -13,7 +13,5 @@ Inv-loop im k targets a e ok₀ g₀ ok g = CheckedFrom a e (smallAt (imageOf wi
 pub all-small-spec : {M : Type 1} → statement M
 all-small-spec =
     tie.close
-    (tie.spec Inv-loop (λ im k targets a e ok₀ g₀ ok g. e - g) (λ c. from-none _ _ _) (λ c κs. search needs) (λ c. search needs)
-    (λ c. search needs)
-    (λ c. from-more _ _ _ _ _ (c .before .before .loop .inv) _ (c .before .loop-test .taken) (c .is-small .ensures))
-    (λ c. from-end _ _ _ _ _ (c .before .loop .inv) (c .loop-test .left)))
+    (tie.spec Inv-loop (λ im k targets a e ok₀ g₀ ok g. e - g) (λ c. search from-none) (λ c κs. search needs) (λ c. search needs)
+    (λ c. search needs) (λ c. search from-more) (λ c. search from-end))

@@ -4,7 +4,4 @@ use Rattle.soundness.proofs.small.is_small.Statement.{statement}
 use Rattle.soundness.proofs.small.is_small.Tie as tie
 
 pub is-small-spec : {M : Type 1} → statement M
-is-small-spec =
-    tie.close
-    (tie.spec (λ c κs. search needs) (λ c κs. search needs) (λ c κs. search needs)
-    (λ c. small-is _ _ _ _ _ (c .before .before .word .ensures) (c .before .links .ensures) (c .first-links .ensures)))
+is-small-spec = tie.close (tie.spec (λ c κs. search needs) (λ c κs. search needs) (λ c κs. search needs) (λ c. search small-is))

@@ -25,5 +25,4 @@ is-small-word-spec =
     (λ c. let S = c .before .before .before in omega (arith, full-inside width _ _ (S .pre .0) _ (S .pre .1 .0), S .pre .0 .high))
     (λ c. search needs) (λ c. search needs) (λ c. search needs) (λ c. search needs) (λ c. search needs) (λ c. search needs)
     (λ c. search needs) (λ c. search needs) (λ c. search needs) (λ c. search needs) (λ c. search needs) (λ c. search needs)
-    heap-within-requires returns all-small-requires
-    (λ c. all-small _ _ _ _ (c .all-small .ensures)))
+    heap-within-requires returns all-small-requires (λ c. search all-small))

@@ -24,8 +24,8 @@ loop-again c = rw (c .before .before .put-four2 .ensures, c .before .before .bef
 pub note-bounds-spec : {M : Type 1} → statement M
 note-bounds-spec =
     tie.close
-    (tie.spec Inv-loop μ-loop (λ c. bounds-none _ _ _ (c .before .pre)) (λ c. search needs)
+    (tie.spec Inv-loop μ-loop (λ c. search bounds-none) (λ c. search needs)
     (λ c κs. omega (arith, c .before .before .loop .inv .long))
     (λ c. search needs) (λ c. search needs) (λ c. search needs) put-four-requires-2 (λ c. search needs) (λ c. search needs) loop-again
     (λ c. c .before .loop .inv .long ∙ sym (c .before .before .before .pre))
-    (λ c. bounds-end _ _ _ _ (c .before .loop .inv) (omega arith)))
+    (λ c. search bounds-end))

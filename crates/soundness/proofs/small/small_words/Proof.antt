@@ -28,8 +28,7 @@ loop-again c = let S = c .before .before .before .before .before .before .before
 pub small-words-spec : {M : Type 1} → statement M
 small-words-spec =
     tie.close
-    (tie.spec Inv-loop μ-loop
-    (λ c. let S = c .before .before .before in upto-none width _ _ _ (S .pre .0) (S .pre .1 .0))
-    mul-loop is-small-word-requires (λ c. c .before .before .before .loop .inv) (λ c. search needs)
+    (tie.spec Inv-loop μ-loop (λ c. search upto-none) mul-loop is-small-word-requires (λ c. c .before .before .before .loop .inv)
+    (λ c. search needs)
     (λ c. omega (arith, c .before .before .before .loop .inv .high, c .before .before .before .before .before .before .before .pre .0 .high))
     (λ c. search needs) loop-again (λ c. c .before .loop .inv))

@@ -13,10 +13,8 @@ Inv-loop im k n₀ i₀ n i = StartsCounted width k im n i
 pub count-starts-spec : {M : Type 1} → statement M
 count-starts-spec =
     tie.close
-    (tie.spec Inv-loop (λ im k n₀ i₀ n i. 64 * k / width - i) (λ c. c-none _ _ _) (λ c. search needs) (λ c κs. search needs)
+    (tie.spec Inv-loop (λ im k n₀ i₀ n i. 64 * k / width - i) (λ c. search c-none) (λ c. search needs) (λ c κs. search needs)
     (λ c. search needs)
     (λ c. omega (arith, ones-le width (c .start-word .result) (omega arith)))
     (λ c. omega (arith, ones-le width (c .start-word .result) (omega arith), c-small _ _ _ _ _ (c .before .before .loop .inv)))
-    (λ c. search needs) (λ c. search needs)
-    (λ c. c-more _ _ _ _ _ _ (c .before .before .loop .inv) (c .before .loop-test .taken) (c .start-word .ensures) (omega arith))
-    (λ c. c-end _ _ _ _ _ (c .before .before .before .pre) (c .before .loop .inv) (c .loop-test .left)))
+    (λ c. search needs) (λ c. search needs) (λ c. search c-more) (λ c. search c-end))

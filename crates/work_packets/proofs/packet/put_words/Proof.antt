@@ -28,4 +28,4 @@ put-words-spec =
     (λ c. search needs) (λ c. search needs) (λ c. search needs) (λ c. search needs) (λ c. search needs) (λ c. search needs)
     (λ c. search needs) loop-again
     (λ c. c .before .loop .inv .2 ∙ sym (c .before .before .before .pre .0))
-    (λ c. let L = c .before .loop in headed-done _ _ _ (L .s) (L .j) (L .inv .1) (search needs) (L .inv .3) (search needs)))
+    (λ c. search headed-done))
