@@ -29,5 +29,4 @@ find-room-spec =
     (λ c. walk-here _ _ _ _ (c .before .before .before .loop .inv) (c .before .before .loop-test .taken) (omega arith))
     next-run-requires
     (λ c. rw (c .next-run .ensures) (walk-less _ _ _ _ (c .before .before .before .before .loop .inv) (c .before .before .before .loop-test .taken)))
-    loop-again
-    (λ c. walk-end _ _ _ _ (c .before .loop .inv) (c .loop-test .left)))
+    loop-again (λ c. search walk-end))

@@ -37,5 +37,4 @@ free-granules-spec =
     (tie.spec Inv-loop μ-loop (λ c κs. search needs) (λ c. search needs) (λ c. search count-first) word-requires (λ c. search needs)
     add-total next-run-requires
     (λ c. rw (c .next-run .ensures) (count-less _ _ _ (c .before .before .before .loop .inv) (c .before .before .loop-test .taken)))
-    loop-again
-    (λ c. count-end _ _ _ (c .before .loop .inv) (c .loop-test .left)))
+    loop-again (λ c. search count-end))
