@@ -12,12 +12,6 @@ Inv-loop im k targets from first g₀ next₀ run₀ seen₀ g next run seen = H
 abbrev μ-loop : tie.MeasureT-loop
 μ-loop im k targets from first g₀ next₀ run₀ seen₀ g next run seen = 64 * k - g
 
-object-links-requires : tie.Need-object-links-requires Inv-loop μ-loop
-object-links-requires c κs =
-    let L = c .before .before .before .before in
-    let inside = w-room _ _ _ (L .before .before .before .pre .0) _ _ _ _ (L .loop .inv) (c .before .before .before .loop-test .taken) _ (c .before .piece-ok .ensures) (c .if1 .left) in
-    (search needs, (search needs, (search needs, (search needs, inside))))
-
 loop-less : tie.Need-loop-less Inv-loop μ-loop
 loop-less c =
     let I = c .before .before .before .before .before in
@@ -34,7 +28,9 @@ pub walk-spec : {M : Type 1} → statement M
 walk-spec =
     tie.close
     (tie.spec Inv-loop μ-loop (λ c. search needs) (λ c. search w-from) (λ c. search needs) (λ c κs. search needs)
-    (λ c κs. search needs) (λ c. search w-stop) object-links-requires (λ c. search w-link)
+    (λ c κs. search needs) (λ c. search w-stop)
+    (λ c κs. (search needs, (search needs, (search needs, (search needs, search w-room)))))
+    (λ c. search w-link)
     (λ c κs. let L = c .before .before .before .before .before .before in w-small _ _ _ (L .before .before .before .pre .0) _ _ _ _ (L .loop .inv))
     (λ c κs. search needs) (λ c κs. search needs) (λ c. search needs) (λ c. search needs) loop-less loop-again (λ c κs. search needs)
     (λ c. search w-end))
