@@ -7,7 +7,7 @@ use Rattle.short_sections.proofs.is_idle.Tie as tie
 
 returns : tie.Need-returns
 unfolding idle every
-returns c = simp (← (c .before .before .before .zero-marks .ensures), ← (c .before .before .zero-packets .ensures), ← (c .before .zero-tracers .ensures), ← (c .all-unscanned .ensures), and-assoc, and-true)
+returns c = simp (and-assoc, and-true) (cc)
 
 pub is-idle-spec : {M : Type 1} → statement M
 is-idle-spec = tie.close (tie.spec (λ c κs. search needs) (λ c κs. search needs) (λ c κs. search needs) (λ c κs. search needs) returns)

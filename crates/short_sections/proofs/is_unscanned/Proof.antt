@@ -4,9 +4,6 @@ use Rattle.soundness_laws.specs.Tests.{notScanned}
 use Rattle.short_sections.proofs.is_unscanned.Statement.{statement}
 use Rattle.short_sections.proofs.is_unscanned.Tie as tie
 
-returns : tie.Need-returns
-unfolding notScanned
-returns c = rw (c .scanned .ensures) refl
-
 pub is-unscanned-spec : {M : Type 1} → statement M
-is-unscanned-spec = tie.close (tie.spec (λ c κs. search needs) returns)
+unfolding notScanned
+is-unscanned-spec = tie.close (tie.spec (λ c κs. search needs) (λ c. rw (c .scanned .ensures) refl))

@@ -3,9 +3,6 @@ use Rattle.model.specs.Batch.{freshOf}
 use Rattle.show_store.proofs.fresh.Statement.{statement}
 use Rattle.show_store.proofs.fresh.Tie as tie
 
-returns : tie.Need-returns
-unfolding freshOf
-returns c = search needs
-
 pub fresh-spec : {M : Type 1} → statement M
-fresh-spec = tie.close (tie.spec (λ c κs. search needs) (λ c. search needs) returns)
+unfolding freshOf
+fresh-spec = tie.close (tie.spec (λ c κs. search needs) (λ c. search needs) (λ c. search needs))

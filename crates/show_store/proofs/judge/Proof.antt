@@ -3,9 +3,6 @@ use Rattle.model.specs.Batch.{judgeOf}
 use Rattle.show_store.proofs.judge.Statement.{statement}
 use Rattle.show_store.proofs.judge.Tie as tie
 
-returns : tie.Need-returns
-unfolding judgeOf
-returns c = search needs
-
 pub judge-spec : {M : Type 1} → statement M
-judge-spec = tie.close (tie.spec (λ c κs. search needs) returns)
+unfolding judgeOf
+judge-spec = tie.close (tie.spec (λ c κs. search needs) (λ c. search needs))

@@ -3,11 +3,8 @@ use Rattle.soundness_laws.proofs.Lines.{cycle-no, cycle-yes, cycle-packed}
 use Rattle.soundness.proofs.cycle_ok.Statement.{statement}
 use Rattle.soundness.proofs.cycle_ok.Tie as tie
 
-once-ok-requires : tie.Need-once-ok-requires
-once-ok-requires c κs = (search needs, search cycle-packed)
-
 pub cycle-ok-spec : {M : Type 1} → statement M
 cycle-ok-spec =
     tie.close
-    (tie.spec (λ c κs. search needs) (λ c. search cycle-no) (λ c κs. search needs) once-ok-requires (λ c κs. search needs)
-    (λ c κs. search needs) (λ c. search cycle-yes))
+    (tie.spec (λ c κs. search needs) (λ c. search cycle-no) (λ c κs. search needs) (λ c κs. (search needs, search cycle-packed))
+    (λ c κs. search needs) (λ c κs. search needs) (λ c. search cycle-yes))

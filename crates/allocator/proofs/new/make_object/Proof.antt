@@ -3,11 +3,8 @@ use Rattle.mutator_laws.proofs.New.{object-made}
 use Rattle.allocator.proofs.new.make_object.Statement.{statement}
 use Rattle.allocator.proofs.new.make_object.Tie as tie
 
-returns : tie.Need-returns
-returns c = search object-made
-
 pub make-object-spec : {M : Type 1} → statement M
 make-object-spec =
     tie.close
     (tie.spec (λ c. search needs) (λ c κs. search needs) (λ c. search needs) (λ c κs. search needs) (λ c κs. search needs)
-    (λ c. search needs) (λ c κs. search needs) (λ c. search needs) returns)
+    (λ c. search needs) (λ c κs. search needs) (λ c. search needs) (λ c. search object-made))

@@ -3,10 +3,8 @@ use Rattle.image_laws.proofs.Bits.{start-cleared}
 use Rattle.image.proofs.bits.clear_start.Statement.{statement}
 use Rattle.image.proofs.bits.clear_start.Tie as tie
 
-returns : tie.Need-returns
-returns c = search start-cleared
-
 pub clear-start-spec : {M : Type 1} → statement M
 clear-start-spec =
     tie.close
-    (tie.spec (λ c κs. search needs) (λ c. search needs) (λ c κs. search needs) (λ c κs. search needs) (λ c. search needs) returns)
+    (tie.spec (λ c κs. search needs) (λ c. search needs) (λ c κs. search needs) (λ c κs. search needs) (λ c. search needs)
+    (λ c. search start-cleared))

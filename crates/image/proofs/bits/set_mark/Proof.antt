@@ -3,10 +3,8 @@ use Rattle.image_laws.proofs.Bits.{mark-set}
 use Rattle.image.proofs.bits.set_mark.Statement.{statement}
 use Rattle.image.proofs.bits.set_mark.Tie as tie
 
-returns : tie.Need-returns
-returns c = search mark-set
-
 pub set-mark-spec : {M : Type 1} → statement M
 set-mark-spec =
     tie.close
-    (tie.spec (λ c κs. search needs) (λ c. search needs) (λ c κs. search needs) (λ c κs. search needs) (λ c. search needs) returns)
+    (tie.spec (λ c κs. search needs) (λ c. search needs) (λ c κs. search needs) (λ c κs. search needs) (λ c. search needs)
+    (λ c. search mark-set))

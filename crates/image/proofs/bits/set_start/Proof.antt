@@ -3,10 +3,8 @@ use Rattle.image_laws.proofs.Bits.{start-set}
 use Rattle.image.proofs.bits.set_start.Statement.{statement}
 use Rattle.image.proofs.bits.set_start.Tie as tie
 
-returns : tie.Need-returns
-returns c = search start-set
-
 pub set-start-spec : {M : Type 1} → statement M
 set-start-spec =
     tie.close
-    (tie.spec (λ c κs. search needs) (λ c. search needs) (λ c κs. search needs) (λ c κs. search needs) (λ c. search needs) returns)
+    (tie.spec (λ c κs. search needs) (λ c. search needs) (λ c κs. search needs) (λ c κs. search needs) (λ c. search needs)
+    (λ c. search start-set))

@@ -4,8 +4,8 @@ use Rattle.image_laws.proofs.Masks.{one-shl, and-not-pow}
 use Rattle.image.proofs.bits.without_bit.Statement.{statement}
 use Rattle.image.proofs.bits.without_bit.Tie as tie
 
-returns : tie.Need-returns
-returns c = rw (one-shl width (c .args .j) (c .pre)) (and-not-pow width (c .args .w) (c .args .j) (c .fits .w .fits) (c .pre))
-
 pub without-bit-spec : {M : Type 1} → statement M
-without-bit-spec = tie.close (tie.spec (λ c. search needs) returns)
+without-bit-spec =
+    tie.close
+    (tie.spec (λ c. search needs)
+    (λ c. rw (one-shl width (c .args .j) (c .pre)) (and-not-pow width (c .args .w) (c .args .j) (c .fits .w .fits) (c .pre))))

@@ -3,8 +3,7 @@ use Rattle.image_laws.proofs.Cards.{card-dirtied}
 use Rattle.image.proofs.cards.dirty_card.Statement.{statement}
 use Rattle.image.proofs.cards.dirty_card.Tie as tie
 
-returns : tie.Need-returns
-returns c = search card-dirtied
-
 pub dirty-card-spec : {M : Type 1} → statement M
-dirty-card-spec = tie.close (tie.spec (λ c κs. search needs) (λ c κs. search needs) (λ c κs. search needs) (λ c. search needs) returns)
+dirty-card-spec =
+    tie.close
+    (tie.spec (λ c κs. search needs) (λ c κs. search needs) (λ c κs. search needs) (λ c. search needs) (λ c. search card-dirtied))

@@ -1,15 +1,14 @@
 use borrow.Author.Needs.{needs}
 use Prim.Native.Nat.{_*_}
 use Rattle.image.specs.Layout.{width, marksFrom, cardsFrom}
-use native.Mathlib.Omega.{arith}
-use Rattle.model.specs.Image.{marksAt, imageOf, image, lengths, split, withMarks}
+use Rattle.model.specs.Image.{marksAt, imageOf, image, split, withMarks}
 use Rattle.image_laws.proofs.Clearing.{zero-whole}
 use Rattle.image.proofs.clearing.clear_marks.Statement.{statement}
 use Rattle.image.proofs.clearing.clear_marks.Tie as tie
 
 returns : tie.Need-returns
 unfolding imageOf image split withMarks
-returns c = let A = c .before .before .before .before .before .args in zero-whole width (A .k) (A .im .now) marksAt (marksFrom * A .k) (cardsFrom * A .k) (omega arith) (omega arith) (omega arith) (c .before .before .clear .last .0) (c .before .before .clear .ensures)
+returns c = let A = c .before .before .before .before .before .args in zero-whole width (A .k) (A .im .now) marksAt (marksFrom * A .k) (cardsFrom * A .k) (search needs) (search needs) (search needs) (c .before .before .clear .last .0) (c .before .before .clear .ensures)
 
 pub clear-marks-spec : {M : Type 1} → statement M
 clear-marks-spec =

@@ -1,15 +1,14 @@
 use borrow.Author.Needs.{needs}
 use Prim.Native.Nat.{_+_, _*_}
 use Rattle.image.specs.Layout.{width, perCard, packetsFrom, tracersFrom}
-use native.Mathlib.Omega.{arith}
-use Rattle.model.specs.Image.{packetsAt, imageOf, image, lengths, split, withPackets}
+use Rattle.model.specs.Image.{packetsAt, imageOf, image, split, withPackets}
 use Rattle.image_laws.proofs.Clearing.{zero-whole}
 use Rattle.image.proofs.clearing.clear_packets.Statement.{statement}
 use Rattle.image.proofs.clearing.clear_packets.Tie as tie
 
 returns : tie.Need-returns
 unfolding imageOf image split withPackets
-returns c = let A = c .before .before .before .before .before .args in zero-whole width (A .k) (A .im .now) packetsAt (perCard * A .k + packetsFrom) (perCard * A .k + tracersFrom) (omega arith) (omega arith) (omega arith) (c .before .before .clear .last .0) (c .before .before .clear .ensures)
+returns c = let A = c .before .before .before .before .before .args in zero-whole width (A .k) (A .im .now) packetsAt (perCard * A .k + packetsFrom) (perCard * A .k + tracersFrom) (search needs) (search needs) (search needs) (c .before .before .clear .last .0) (c .before .before .clear .ensures)
 
 pub clear-packets-spec : {M : Type 1} → statement M
 clear-packets-spec =

@@ -5,15 +5,12 @@ use Rattle.image_laws.specs.Compare.{within}
 use Rattle.image_laws.proofs.Compare.{part-words}
 use Prim.Native.Nat.{_-_}
 use mathlib.Core.Path.{ap, _∙_}
-use native.Mathlib.Omega.{arith}
 use Rattle.image.proofs.compare.heap_within.Statement.{statement}
 use Rattle.image.proofs.compare.heap_within.Tie as tie
 
 returns : tie.Need-returns
 unfolding imageOf image split
-returns c = let A = c .before .before .before .before .before .args in c .are-within .ensures ∙ ap (within (A .low .now) (A .high .now)) (part-words width (A .k) (A .im .now) heapAt (A .a) (A .e - A .a) (A .a) (A .e) (omega arith) (omega arith) (omega arith))
+returns c = let A = c .before .before .before .before .before .args in c .are-within .ensures ∙ ap (within (A .low .now) (A .high .now)) (part-words width (A .k) (A .im .now) heapAt (A .a) (A .e - A .a) (A .a) (A .e) (search needs) (search needs) (search needs))
 
 pub heap-within-spec : {M : Type 1} → statement M
-heap-within-spec =
-    tie.close
-    (tie.spec (λ c. search needs) (λ c. search needs) (λ c. search needs) (λ c. search needs) (λ c κs. search needs) returns)
+heap-within-spec = tie.close (tie.spec (λ c. search needs) (λ c. search needs) (λ c. search needs) (λ c. search needs) (λ c κs. search needs) returns)

@@ -2,8 +2,7 @@ use Rattle.image_laws.specs.Parts.{isZero}
 use Rattle.image_laws.proofs.Parts.{Gathered, g-none, g-more, g-end, zeroes-all}
 use Rattle.model.specs.Base.{nth}
 use Prim.Native.Nat.{_-_}
-use mathlib.Core.Path.{refl, _∙_}
-use native.Mathlib.Omega.{arith}
+use mathlib.Core.Path.{_∙_}
 use borrow.Author.Needs.{needs}
 use lib.ListN.{length}
 use Rattle.image.proofs.parts.few_zeros.Statement.{statement}
@@ -12,20 +11,10 @@ use Rattle.image.proofs.parts.few_zeros.Tie as tie
 abbrev Inv-loop : tie.InvT-loop
 Inv-loop s bad₀ i₀ bad i = Gathered (length s) (isZero s) bad i
 
-abbrev μ-loop : tie.MeasureT-loop
-μ-loop s bad₀ i₀ bad i = length s - i
-
-loop-holds : tie.Need-loop-holds Inv-loop μ-loop
-loop-holds c = g-none
-
-loop-again : tie.Need-loop-again Inv-loop μ-loop
-unfolding isZero nth
-loop-again c = g-more _ _ _ _ _ (c .before .before .loop .inv) (omega arith) refl
-
-returns : tie.Need-returns Inv-loop μ-loop
-returns c = g-end (c .before .loop .inv) (omega arith) ∙ zeroes-all _
-
 pub few-zeros-spec : {M : Type 1} → statement M
+unfolding isZero nth
 few-zeros-spec =
     tie.close
-    (tie.spec Inv-loop μ-loop loop-holds (λ c. search needs) (λ c. search needs) (λ c. search needs) (λ c. search needs) loop-again returns)
+    (tie.spec Inv-loop (λ s bad₀ i₀ bad i. length s - i) (λ c. g-none) (λ c. search needs) (λ c. search needs) (λ c. search needs)
+    (λ c. search needs) (λ c. search g-more)
+    (λ c. g-end (c .before .loop .inv) (search needs) ∙ zeroes-all _))

@@ -3,7 +3,6 @@ use Rattle.image_laws.specs.Parts.{bothZero}
 use Rattle.image_laws.proofs.Parts.{Gathered, g-none, g-more, g-end, or-both, zeroes-both}
 use Prim.Native.Nat.{_-_}
 use mathlib.Core.Path.{_∙_}
-use native.Mathlib.Omega.{arith}
 use borrow.Author.Needs.{needs}
 use Rattle.image.proofs.parts.many_zeros.Statement.{statement}
 use Rattle.image.proofs.parts.many_zeros.Tie as tie
@@ -11,20 +10,11 @@ use Rattle.image.proofs.parts.many_zeros.Tie as tie
 abbrev Inv-loop : tie.InvT-loop
 Inv-loop s h n bad₀ i₀ bad i = Gathered n (bothZero s h) bad i
 
-abbrev μ-loop : tie.MeasureT-loop
-μ-loop s h n bad₀ i₀ bad i = n - i
-
-loop-holds : tie.Need-loop-holds Inv-loop μ-loop
-loop-holds c = g-none
-
-loop-again : tie.Need-loop-again Inv-loop μ-loop
-unfolding nth
-loop-again c = g-more _ _ _ _ _ (c .before .before .before .loop .inv) (omega arith) (or-both _ _ _)
-
-returns : tie.Need-returns Inv-loop μ-loop
-returns c = g-end (c .before .loop .inv) (omega arith) ∙ zeroes-both _ _ _ (omega arith) (omega arith)
-
 pub many-zeros-spec : {M : Type 1} → statement M
+unfolding nth
 many-zeros-spec =
     tie.close
-    (tie.spec Inv-loop μ-loop (λ c. search needs) loop-holds (λ c. search needs) (λ c. search needs) (λ c. search needs) (λ c. search needs) (λ c. search needs) (λ c. search needs) (λ c. search needs) loop-again returns)
+    (tie.spec Inv-loop (λ s h n bad₀ i₀ bad i. n - i) (λ c. search needs) (λ c. g-none) (λ c. search needs) (λ c. search needs)
+    (λ c. search needs) (λ c. search needs) (λ c. search needs) (λ c. search needs) (λ c. search needs)
+    (λ c. g-more _ _ _ _ _ (c .before .before .before .loop .inv) (search needs) (or-both _ _ _))
+    (λ c. g-end (c .before .loop .inv) (search needs) ∙ zeroes-both _ _ _ (search needs) (search needs)))

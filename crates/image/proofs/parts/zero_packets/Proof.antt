@@ -1,15 +1,14 @@
 use borrow.Author.Needs.{needs}
 use Prim.Native.Nat.{_+_, _*_}
 use Rattle.image.specs.Layout.{width, perCard, packetsFrom, tracersFrom}
-use native.Mathlib.Omega.{arith}
-use Rattle.model.specs.Image.{packetsAt, imageOf, image, lengths, split}
+use Rattle.model.specs.Image.{packetsAt, imageOf, image, split}
 use Rattle.image_laws.proofs.Parts.{section-zero}
 use Rattle.image.proofs.parts.zero_packets.Statement.{statement}
 use Rattle.image.proofs.parts.zero_packets.Tie as tie
 
 returns : tie.Need-returns
 unfolding imageOf image split
-returns c = let A = c .before .before .before .args in section-zero width (A .k) (A .im .now) _ packetsAt (perCard * A .k + packetsFrom) (perCard * A .k + tracersFrom) (omega arith) (omega arith) (omega arith) (c .zeros .ensures)
+returns c = let A = c .before .before .before .args in section-zero width (A .k) (A .im .now) _ packetsAt (perCard * A .k + packetsFrom) (perCard * A .k + tracersFrom) (search needs) (search needs) (search needs) (c .zeros .ensures)
 
 pub zero-packets-spec : {M : Type 1} → statement M
 zero-packets-spec =

@@ -1,6 +1,5 @@
 use borrow.Author.Needs.{needs}
 use Prim.Native.Nat.{_+_, _*_}
-use native.Mathlib.Omega.{arith}
 use Rattle.model.specs.Image.{generalAt, imageOf, image, split}
 use Rattle.image_laws.proofs.Parts.{part-zero}
 use Rattle.image.specs.Layout.{width, perCard, behind}
@@ -9,7 +8,7 @@ use Rattle.image.proofs.parts.zero_spares.Tie as tie
 
 returns : tie.Need-returns
 unfolding imageOf image split
-returns c = let A = c .before .before .before .args in part-zero width (A .k) (A .im .now) _ generalAt 2 6 _ (perCard * A .k + behind) (omega arith) (omega arith) (omega arith) (c .zeros .ensures)
+returns c = let A = c .before .before .before .args in part-zero width (A .k) (A .im .now) _ generalAt 2 6 _ (perCard * A .k + behind) (search needs) (search needs) (search needs) (c .zeros .ensures)
 
 pub zero-spares-spec : {M : Type 1} → statement M
 zero-spares-spec =

@@ -1,15 +1,14 @@
 use borrow.Author.Needs.{needs}
 use Prim.Native.Nat.{_+_, _*_}
 use Rattle.image.specs.Layout.{width, perCard, tracersFrom, playersFrom}
-use native.Mathlib.Omega.{arith}
-use Rattle.model.specs.Image.{tracersAt, imageOf, image, lengths, split}
+use Rattle.model.specs.Image.{tracersAt, imageOf, image, split}
 use Rattle.image_laws.proofs.Parts.{section-zero}
 use Rattle.image.proofs.parts.zero_tracers.Statement.{statement}
 use Rattle.image.proofs.parts.zero_tracers.Tie as tie
 
 returns : tie.Need-returns
 unfolding imageOf image split
-returns c = let A = c .before .before .before .args in section-zero width (A .k) (A .im .now) _ tracersAt (perCard * A .k + tracersFrom) (perCard * A .k + playersFrom) (omega arith) (omega arith) (omega arith) (c .zeros .ensures)
+returns c = let A = c .before .before .before .args in section-zero width (A .k) (A .im .now) _ tracersAt (perCard * A .k + tracersFrom) (perCard * A .k + playersFrom) (search needs) (search needs) (search needs) (c .zeros .ensures)
 
 pub zero-tracers-spec : {M : Type 1} → statement M
 zero-tracers-spec =

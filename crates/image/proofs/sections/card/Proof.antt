@@ -2,14 +2,13 @@ use borrow.Author.Needs.{needs}
 use Rattle.image.specs.Layout.{width}
 use Rattle.image_laws.proofs.Sections.{get-section}
 use Rattle.model.specs.Base.{nth}
-use Rattle.model.specs.Image.{cardsAt, state, imageOf, image, lengths, split}
-use native.Mathlib.Omega.{arith}
+use Rattle.model.specs.Image.{cardsAt, state, imageOf, image, split}
 use Rattle.image.proofs.sections.card.Statement.{statement}
 use Rattle.image.proofs.sections.card.Tie as tie
 
-returns : tie.Need-returns
-unfolding state nth imageOf image split
-returns c = let A = c .before .args in get-section width (A .k) (A .im .now) cardsAt _ _ (omega arith) (omega arith)
-
 pub card-spec : {M : Type 1} → statement M
-card-spec = tie.close (tie.spec (λ c. search needs) (λ c. search needs) (λ c. search needs) (λ c. search needs) returns)
+unfolding state nth imageOf image split
+card-spec =
+    tie.close
+    (tie.spec (λ c. search needs) (λ c. search needs) (λ c. search needs) (λ c. search needs)
+    (λ c. get-section width (c .before .args .k) _ cardsAt _ _ (search needs) (search needs)))

@@ -1,15 +1,14 @@
 use borrow.Author.Needs.{needs}
 use Rattle.image.specs.Layout.{width}
 use Rattle.image_laws.proofs.Sections.{get-section}
-use Rattle.model.specs.Image.{marksAt, imageOf, image, lengths, split}
+use Rattle.model.specs.Image.{marksAt, imageOf, image, split}
 use Rattle.model.specs.Base.{nth}
-use native.Mathlib.Omega.{arith}
 use Rattle.image.proofs.sections.mark_word.Statement.{statement}
 use Rattle.image.proofs.sections.mark_word.Tie as tie
 
-returns : tie.Need-returns
-unfolding nth imageOf image split
-returns c = let A = c .before .args in get-section width (A .k) (A .im .now) marksAt _ _ (omega arith) (omega arith)
-
 pub mark-word-spec : {M : Type 1} → statement M
-mark-word-spec = tie.close (tie.spec (λ c. search needs) (λ c. search needs) (λ c. search needs) (λ c. search needs) returns)
+unfolding nth imageOf image split
+mark-word-spec =
+    tie.close
+    (tie.spec (λ c. search needs) (λ c. search needs) (λ c. search needs) (λ c. search needs)
+    (λ c. get-section width (c .before .args .k) _ marksAt _ _ (search needs) (search needs)))

@@ -3,9 +3,6 @@ use Rattle.model.specs.Image.{owed}
 use Rattle.image.proofs.sections.owed.Statement.{statement}
 use Rattle.image.proofs.sections.owed.Tie as tie
 
-returns : tie.Need-returns
-unfolding owed
-returns c = search needs
-
 pub owed-spec : {M : Type 1} → statement M
-owed-spec = tie.close (tie.spec (λ c. search needs) (λ c κs. search needs) returns)
+unfolding owed
+owed-spec = tie.close (tie.spec (λ c. search needs) (λ c κs. search needs) (λ c. search needs))

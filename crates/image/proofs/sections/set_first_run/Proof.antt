@@ -3,9 +3,6 @@ use Rattle.model.specs.Image.{setFirstRun}
 use Rattle.image.proofs.sections.set_first_run.Statement.{statement}
 use Rattle.image.proofs.sections.set_first_run.Tie as tie
 
-returns : tie.Need-returns
-unfolding setFirstRun
-returns c = search needs
-
 pub set-first-run-spec : {M : Type 1} → statement M
-set-first-run-spec = tie.close (tie.spec (λ c κs. search needs) (λ c. search needs) returns)
+unfolding setFirstRun
+set-first-run-spec = tie.close (tie.spec (λ c κs. search needs) (λ c. search needs) (λ c. search needs))

@@ -1,17 +1,13 @@
 use borrow.Author.Needs.{needs}
-use Rattle.image.specs.Layout.{width}
 use Rattle.image_laws.proofs.Sections.{put-section}
-use Rattle.model.specs.Image.{marksAt, imageOf, image, lengths, split, withMarks}
+use Rattle.model.specs.Image.{marksAt, imageOf, image, split, withMarks}
 use Rattle.model.specs.Base.{put}
-use native.Mathlib.Omega.{arith}
 use Rattle.image.proofs.sections.set_mark_word.Statement.{statement}
 use Rattle.image.proofs.sections.set_mark_word.Tie as tie
 
-returns : tie.Need-returns
-unfolding put imageOf image split withMarks
-returns c = let A = c .args in put-section width (A .k) (A .im .now) marksAt _ _ (omega arith) (omega arith) (A .v)
-
 pub set-mark-word-spec : {M : Type 1} → statement M
+unfolding put imageOf image split withMarks
 set-mark-word-spec =
     tie.close
-    (tie.spec (λ c. search needs) (λ c. search needs) (λ c. search needs) (λ c. search needs) (λ c. search needs) returns)
+    (tie.spec (λ c. search needs) (λ c. search needs) (λ c. search needs) (λ c. search needs) (λ c. search needs)
+    (λ c. put-section _ _ (c .args .im .now) marksAt _ _ (search needs) (search needs) _))

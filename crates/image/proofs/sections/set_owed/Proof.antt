@@ -3,9 +3,6 @@ use Rattle.model.specs.Image.{setOwed}
 use Rattle.image.proofs.sections.set_owed.Statement.{statement}
 use Rattle.image.proofs.sections.set_owed.Tie as tie
 
-returns : tie.Need-returns
-unfolding setOwed
-returns c = search needs
-
 pub set-owed-spec : {M : Type 1} → statement M
-set-owed-spec = tie.close (tie.spec (λ c. search needs) (λ c κs. search needs) (λ c. search needs) returns)
+unfolding setOwed
+set-owed-spec = tie.close (tie.spec (λ c. search needs) (λ c κs. search needs) (λ c. search needs) (λ c. search needs))

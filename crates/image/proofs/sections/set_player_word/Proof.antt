@@ -1,18 +1,13 @@
 use borrow.Author.Needs.{needs}
-use Rattle.image.specs.Layout.{width}
 use Rattle.image_laws.proofs.Sections.{put-section}
-use Rattle.model.specs.Image.{playersAt, imageOf, image, lengths, split, withPlayers}
+use Rattle.model.specs.Image.{playersAt, imageOf, image, split, withPlayers}
 use Rattle.model.specs.Base.{put}
-use native.Mathlib.Omega.{arith}
 use Rattle.image.proofs.sections.set_player_word.Statement.{statement}
 use Rattle.image.proofs.sections.set_player_word.Tie as tie
 
-returns : tie.Need-returns
-unfolding put imageOf image split withPlayers
-returns c = let A = c .args in put-section width (A .k) (A .im .now) playersAt _ _ (omega arith) (omega arith) (A .v)
-
 pub set-player-word-spec : {M : Type 1} → statement M
+unfolding put imageOf image split withPlayers
 set-player-word-spec =
     tie.close
     (tie.spec (λ c. search needs) (λ c. search needs) (λ c. search needs) (λ c. search needs) (λ c. search needs) (λ c. search needs)
-    returns)
+    (λ c. put-section _ _ (c .args .im .now) playersAt _ _ (search needs) (search needs) _))

@@ -3,9 +3,6 @@ use Rattle.model.specs.Image.{setTracer}
 use Rattle.image.proofs.sections.set_tracer.Statement.{statement}
 use Rattle.image.proofs.sections.set_tracer.Tie as tie
 
-returns : tie.Need-returns
-unfolding setTracer
-returns c = search needs
-
 pub set-tracer-spec : {M : Type 1} → statement M
-set-tracer-spec = tie.close (tie.spec (λ c. search needs) (λ c. search needs) (λ c κs. search needs) (λ c. search needs) returns)
+unfolding setTracer
+set-tracer-spec = tie.close (tie.spec (λ c. search needs) (λ c. search needs) (λ c κs. search needs) (λ c. search needs) (λ c. search needs))

@@ -1,18 +1,13 @@
 use borrow.Author.Needs.{needs}
-use Rattle.image.specs.Layout.{width}
 use Rattle.image_laws.proofs.Sections.{put-section}
-use Rattle.model.specs.Image.{tracersAt, imageOf, image, lengths, split, withTracers}
+use Rattle.model.specs.Image.{tracersAt, imageOf, image, split, withTracers}
 use Rattle.model.specs.Base.{put}
-use native.Mathlib.Omega.{arith}
 use Rattle.image.proofs.sections.set_tracer_word.Statement.{statement}
 use Rattle.image.proofs.sections.set_tracer_word.Tie as tie
 
-returns : tie.Need-returns
-unfolding put imageOf image split withTracers
-returns c = let A = c .args in put-section width (A .k) (A .im .now) tracersAt _ _ (omega arith) (omega arith) (A .v)
-
 pub set-tracer-word-spec : {M : Type 1} → statement M
+unfolding put imageOf image split withTracers
 set-tracer-word-spec =
     tie.close
     (tie.spec (λ c. search needs) (λ c. search needs) (λ c. search needs) (λ c. search needs) (λ c. search needs) (λ c. search needs)
-    returns)
+    (λ c. put-section _ _ (c .args .im .now) tracersAt _ _ (search needs) (search needs) _))

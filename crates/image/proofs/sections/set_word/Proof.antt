@@ -3,9 +3,6 @@ use Rattle.model.specs.Image.{setWord}
 use Rattle.image.proofs.sections.set_word.Statement.{statement}
 use Rattle.image.proofs.sections.set_word.Tie as tie
 
-returns : tie.Need-returns
-unfolding setWord
-returns c = search needs
-
 pub set-word-spec : {M : Type 1} → statement M
-set-word-spec = tie.close (tie.spec (λ c. search needs) (λ c. search needs) (λ c κs. search needs) (λ c. search needs) returns)
+unfolding setWord
+set-word-spec = tie.close (tie.spec (λ c. search needs) (λ c. search needs) (λ c κs. search needs) (λ c. search needs) (λ c. search needs))

@@ -1,17 +1,14 @@
 use borrow.Author.Needs.{needs}
 use Rattle.image.specs.Layout.{width}
 use Rattle.image_laws.proofs.Sections.{get-section}
-use Rattle.model.specs.Image.{tracersAt, imageOf, image, lengths, split}
+use Rattle.model.specs.Image.{tracersAt, imageOf, image, split}
 use Rattle.model.specs.Base.{nth}
-use native.Mathlib.Omega.{arith}
 use Rattle.image.proofs.sections.tracer_word.Statement.{statement}
 use Rattle.image.proofs.sections.tracer_word.Tie as tie
 
-returns : tie.Need-returns
-unfolding nth imageOf image split
-returns c = let A = c .before .args in get-section width (A .k) (A .im .now) tracersAt _ _ (omega arith) (omega arith)
-
 pub tracer-word-spec : {M : Type 1} → statement M
+unfolding nth imageOf image split
 tracer-word-spec =
     tie.close
-    (tie.spec (λ c. search needs) (λ c. search needs) (λ c. search needs) (λ c. search needs) (λ c. search needs) returns)
+    (tie.spec (λ c. search needs) (λ c. search needs) (λ c. search needs) (λ c. search needs) (λ c. search needs)
+    (λ c. get-section width (c .before .args .k) _ tracersAt _ _ (search needs) (search needs)))

@@ -3,9 +3,6 @@ use Rattle.model.specs.Image.{word}
 use Rattle.image.proofs.sections.word.Statement.{statement}
 use Rattle.image.proofs.sections.word.Tie as tie
 
-returns : tie.Need-returns
-unfolding word
-returns c = search needs
-
 pub word-spec : {M : Type 1} → statement M
-word-spec = tie.close (tie.spec (λ c. search needs) (λ c. search needs) (λ c κs. search needs) returns)
+unfolding word
+word-spec = tie.close (tie.spec (λ c. search needs) (λ c. search needs) (λ c κs. search needs) (λ c. search needs))

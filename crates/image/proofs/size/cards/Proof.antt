@@ -1,22 +1,17 @@
 use borrow.Author.Needs.{needs}
 use Rattle.image.specs.Layout.{width, most, perCard, behind}
 use mathlib.Core.Path.{refl}
-use native.Mathlib.Omega.{arith}
 use Rattle.image_laws.proofs.Size.{cards-few, cards-many, cards-odd, cards-fit}
 use Rattle.image.proofs.size.cards.Statement.{statement}
 use Rattle.image.proofs.size.cards.Tie as tie
 
-returns : tie.Need-returns
-returns c = cards-few width perCard behind most _ (λ k. omega arith) refl (omega arith) (omega arith)
-
-returns-2 : tie.Need-returns-2
-returns-2 c = cards-many width perCard behind most _ (λ k. omega arith) refl (omega arith) (omega arith)
-
-returns-3 : tie.Need-returns-3
-returns-3 c = cards-odd width perCard behind most _ (λ k. omega arith) refl (omega arith) (omega arith) (omega arith) (search needs)
-
-returns-4 : tie.Need-returns-4
-returns-4 c = cards-fit width perCard behind most _ (λ k. omega arith) refl (omega arith) (omega arith) (omega arith) (search needs)
-
 pub cards-spec : {M : Type 1} → statement M
-cards-spec = tie.close (tie.spec returns (λ c. search needs) returns-2 (λ c. search needs) (λ c. search needs) returns-3 returns-4)
+cards-spec =
+    tie.close
+    (tie.spec
+    (λ c. cards-few width perCard behind most _ (λ k. search needs) refl (search needs) (search needs))
+    (λ c. search needs)
+    (λ c. cards-many width perCard behind most _ (λ k. search needs) refl (search needs) (search needs))
+    (λ c. search needs) (λ c. search needs)
+    (λ c. cards-odd width perCard behind most _ (λ k. search needs) refl (search needs) (search needs) (search needs) (search needs))
+    (λ c. cards-fit width perCard behind most _ (λ k. search needs) refl (search needs) (search needs) (search needs) (search needs)))

@@ -4,27 +4,14 @@ use native.Mathlib.Omega.{arith}
 use Rattle.marking.proofs.cleaning.clean_card.Statement.{statement}
 use Rattle.marking.proofs.cleaning.clean_card.Tie as tie
 
-next-marked-requires : tie.Need-next-marked-requires
-next-marked-requires c κs = (search needs, (search card-in, search card-from))
-
-returns : tie.Need-returns
-returns c = search card-let-go
-
-cast-object : tie.Need-cast-object
-cast-object c = let R = c .before .before .before .before .before .before .pre in omega (arith, next-in _ _ _ (R .1 .0) _ (R .1 .1 .0) _ (R .1 .1 .1) (R .1 .1 .2) _ (c .before .next-marked .ensures), R .0)
-
-granule-moves-on-requires : tie.Need-granule-moves-on-requires
-granule-moves-on-requires c κs = let R = c .before .before .before .before .before .before .pre in omega (arith, next-in _ _ _ (R .1 .0) _ (R .1 .1 .0) _ (R .1 .1 .1) (R .1 .1 .2) _ (c .before .next-marked .ensures), R .0)
-
-take-object-requires : tie.Need-take-object-requires
-take-object-requires c κs = (search needs, (search needs, search next-object))
-
-returns-2 : tie.Need-returns-2
-returns-2 c = search card-object
-
 pub clean-card-spec : {M : Type 1} → statement M
 clean-card-spec =
     tie.close
-    (tie.spec (λ c. search needs) (λ c. search needs) next-marked-requires (λ c κs. search needs) (λ c κs. search needs)
-    (λ c. search needs) returns (λ c. search needs) cast-object granule-moves-on-requires (λ c κs. search needs) take-object-requires
-    (λ c. search needs) returns-2)
+    (tie.spec (λ c. search needs) (λ c. search needs)
+    (λ c κs. (search needs, (search card-in, search card-from)))
+    (λ c κs. search needs) (λ c κs. search needs) (λ c. search needs) (λ c. search card-let-go) (λ c. search needs)
+    (λ c. let R = c .before .before .before .before .before .before .pre .1 in omega (arith, next-in _ _ _ (R .0) _ (R .1 .0) _ (R .1 .1) (R .1 .2) _ (c .before .next-marked .ensures)))
+    (λ c κs. let R = c .before .before .before .before .before .before .pre .1 in omega (arith, next-in _ _ _ (R .0) _ (R .1 .0) _ (R .1 .1) (R .1 .2) _ (c .before .next-marked .ensures)))
+    (λ c κs. search needs)
+    (λ c κs. (search needs, (search needs, search next-object)))
+    (λ c. search needs) (λ c. search card-object))

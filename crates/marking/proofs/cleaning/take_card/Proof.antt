@@ -3,11 +3,8 @@ use Rattle.collector_laws.proofs.Cleaning.{card-taken}
 use Rattle.marking.proofs.cleaning.take_card.Statement.{statement}
 use Rattle.marking.proofs.cleaning.take_card.Tie as tie
 
-returns : tie.Need-returns
-returns c = search card-taken
-
 pub take-card-spec : {M : Type 1} → statement M
 take-card-spec =
     tie.close
     (tie.spec (λ c κs. search needs) (λ c κs. search needs) (λ c. search needs) (λ c κs. search needs) (λ c κs. search needs)
-    (λ c. search needs) returns)
+    (λ c. search needs) (λ c. search card-taken))

@@ -3,11 +3,9 @@ use Rattle.collector_laws.proofs.Hands.{read-link, moved-on}
 use Rattle.marking.proofs.hands.advance.Statement.{statement}
 use Rattle.marking.proofs.hands.advance.Tie as tie
 
-link-done-requires : tie.Need-link-done-requires
-link-done-requires c κs = read-link _ _ _ _ (c .read-tracer .ensures) (c .before .before .before .pre .1 .1)
-
-returns : tie.Need-returns
-returns c = search moved-on
-
 pub advance-spec : {M : Type 1} → statement M
-advance-spec = tie.close (tie.spec (λ c κs. search needs) link-done-requires (λ c κs. search needs) (λ c. search needs) returns)
+advance-spec =
+    tie.close
+    (tie.spec (λ c κs. search needs)
+    (λ c κs. read-link _ _ _ _ (c .read-tracer .ensures) (c .before .before .before .pre .1 .1))
+    (λ c κs. search needs) (λ c. search needs) (λ c. search moved-on))

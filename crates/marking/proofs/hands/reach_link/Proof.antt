@@ -4,17 +4,11 @@ use native.Mathlib.Omega.{arith}
 use Rattle.marking.proofs.hands.reach_link.Statement.{statement}
 use Rattle.marking.proofs.hands.reach_link.Tie as tie
 
-add-word : tie.Need-add-word
-add-word c = let S = c .before .before in omega (arith, link-in _ _ _ (S .pre .1 .0) _ (S .pre .1 .1 .0) _ (S .pre .1 .1 .1 .1), S .pre .0)
-
-word-requires : tie.Need-word-requires
-word-requires c κs = (search needs, search link-in)
-
-reach-requires : tie.Need-reach-requires
-reach-requires c κs = (search needs, (search needs, (search link-ok, search needs)))
-
-returns : tie.Need-returns
-returns c = search link-reached
-
 pub reach-link-spec : {M : Type 1} → statement M
-reach-link-spec = tie.close (tie.spec add-word word-requires reach-requires (λ c. search needs) returns)
+reach-link-spec =
+    tie.close
+    (tie.spec
+    (λ c. let S = c .before .before in omega (arith, link-in _ _ _ (S .pre .1 .0) _ (S .pre .1 .1 .0) _ (S .pre .1 .1 .1 .1), S .pre .0))
+    (λ c κs. (search needs, search link-in))
+    (λ c κs. (search needs, (search needs, (search link-ok, search needs))))
+    (λ c. search needs) (λ c. search link-reached))

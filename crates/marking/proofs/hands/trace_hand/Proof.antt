@@ -3,15 +3,6 @@ use Rattle.collector_laws.proofs.Hands.{hand-start, hand-below, hand-link, hand
 use Rattle.marking.proofs.hands.trace_hand.Statement.{statement}
 use Rattle.marking.proofs.hands.trace_hand.Tie as tie
 
-word-requires : tie.Need-word-requires
-word-requires c κs = (search needs, search hand-below)
-
-reach-link-requires : tie.Need-reach-link-requires
-reach-link-requires c κs = (search needs, (search needs, (search hand-start, (search needs, search hand-link))))
-
-advance-requires : tie.Need-advance-requires
-advance-requires c κs = (search needs, (search needs, search hand-next))
-
 returns : tie.Need-returns
 returns c =
     let a = c .before .before in
@@ -24,5 +15,8 @@ returns c =
 pub trace-hand-spec : {M : Type 1} → statement M
 trace-hand-spec =
     tie.close
-    (tie.spec (λ c κs. search needs) (λ c. search needs) word-requires (λ c. search needs) (λ c. search needs) reach-link-requires
-    advance-requires (λ c. search needs) returns)
+    (tie.spec (λ c κs. search needs) (λ c. search needs) (λ c κs. (search needs, search hand-below)) (λ c. search needs)
+    (λ c. search needs)
+    (λ c κs. (search needs, (search needs, (search hand-start, (search needs, search hand-link)))))
+    (λ c κs. (search needs, (search needs, search hand-next)))
+    (λ c. search needs) returns)

@@ -26,30 +26,15 @@ returns : tie.Need-returns
 unfolding asked rows-open
 returns c = let p = c .before .before .before .pre in object-nil (read-passed _ _ _ (p .1 .1 .1) (p .1 .1 .0) _) (means-level (c .before .reg .ensures) refl refl) (c .if1 .taken)
 
-levels-requires : tie.Need-levels-requires
-levels-requires c κs = (search needs, object c)
-
 returns-2 : tie.Need-returns-2
 unfolding asked rows-open
 returns-2 c = let p = c .before .before .before .before .before .pre in word-past (read-passed _ _ _ (p .1 .1 .1) (p .1 .1 .0) _) (means-level (c .before .before .before .reg .ensures) (c .before .levels .ensures) refl) (c .before .before .if1 .left) (c .if2 .taken)
 
-links-requires : tie.Need-links-requires
-links-requires c κs = (search needs, object-below _ _ _ (object (c .before .before)))
-
-add-word : tie.Need-add-word
-add-word c = omega (arith, place c)
-
-add-word-2 : tie.Need-add-word-2
-add-word-2 c = omega (arith, place c)
-
-word-requires : tie.Need-word-requires
-word-requires c κs = (search needs, omega (arith, place c))
-
-returns-3 : tie.Need-returns-3
-returns-3 c = search read-done
-
 pub read-spec : {M : Type 1} → statement M
 read-spec =
     tie.close
-    (tie.spec (λ c κs. search needs) (λ c. search needs) returns levels-requires returns-2 links-requires add-word add-word-2 word-requires
-    returns-3)
+    (tie.spec (λ c κs. search needs) (λ c. search needs) returns (λ c κs. (search needs, object c)) returns-2
+    (λ c κs. (search needs, object-below _ _ _ (object (c .before .before))))
+    (λ c. omega (arith, place c)) (λ c. omega (arith, place c))
+    (λ c κs. (search needs, omega (arith, place c)))
+    (λ c. search read-done))

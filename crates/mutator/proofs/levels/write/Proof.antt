@@ -26,30 +26,15 @@ returns : tie.Need-returns
 unfolding asked rows-open
 returns c = let p = c .before .before .before .before .pre in object-nil (write-passed _ _ _ (p .1 .1 .1 .0) (p .1 .1 .0) _ _) (means-level (c .before .reg .ensures) refl refl) (c .if1 .taken)
 
-levels-requires : tie.Need-levels-requires
-levels-requires c κs = (search needs, object (c .before))
-
 returns-2 : tie.Need-returns-2
 unfolding asked rows-open
 returns-2 c = let p = c .before .before .before .before .before .before .before .pre in word-past (write-passed _ _ _ (p .1 .1 .1 .0) (p .1 .1 .0) _ _) (means-level (c .before .before .before .before .reg .ensures) (c .before .levels .ensures) refl) (c .before .before .before .if1 .left) (c .if2 .taken)
 
-links-requires : tie.Need-links-requires
-links-requires c κs = (search needs, object-below _ _ _ (object (c .before .before .before .before)))
-
-add-set-word : tie.Need-add-set-word
-add-set-word c = omega (arith, place c)
-
-add-set-word-2 : tie.Need-add-set-word-2
-add-set-word-2 c = omega (arith, place c)
-
-set-word-requires : tie.Need-set-word-requires
-set-word-requires c κs = (search needs, place c)
-
-returns-3 : tie.Need-returns-3
-returns-3 c = search write-done
-
 pub write-spec : {M : Type 1} → statement M
 write-spec =
     tie.close
-    (tie.spec (λ c κs. search needs) (λ c. search needs) (λ c. search needs) returns levels-requires (λ c. search needs) returns-2
-    links-requires add-set-word add-set-word-2 (λ c. search needs) set-word-requires (λ c. search needs) returns-3)
+    (tie.spec (λ c κs. search needs) (λ c. search needs) (λ c. search needs) returns (λ c κs. (search needs, object (c .before)))
+    (λ c. search needs) returns-2
+    (λ c κs. (search needs, object-below _ _ _ (object (c .before .before .before .before))))
+    (λ c. omega (arith, place c)) (λ c. omega (arith, place c)) (λ c. search needs) (λ c κs. (search needs, place c))
+    (λ c. search needs) (λ c. search write-done))

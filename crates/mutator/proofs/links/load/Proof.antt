@@ -26,24 +26,14 @@ returns : tie.Need-returns
 unfolding asked rows-open
 returns c = let p = c .before .before .before .before .pre in object-nil (load-passed _ _ _ (p .1 .1 .1) _ _ (p .1 .1 .0)) (means-link (c .before .reg .ensures) refl refl) (c .if1 .taken)
 
-links-requires : tie.Need-links-requires
-links-requires c κs = (search needs, object-below _ _ _ (object (c .before)))
-
 returns-2 : tie.Need-returns-2
 unfolding asked rows-open
 returns-2 c = let p = c .before .before .before .before .before .before .before .pre in word-past (load-passed _ _ _ (p .1 .1 .1) _ _ (p .1 .1 .0)) (means-link (c .before .before .before .before .reg .ensures) (c .before .links .ensures) refl) (c .before .before .before .if1 .left) (c .if2 .taken)
 
-add-word : tie.Need-add-word
-add-word c = omega (arith, place c)
-
-word-requires : tie.Need-word-requires
-word-requires c κs = (search needs, place c)
-
-returns-3 : tie.Need-returns-3
-returns-3 c = search load-done
-
 pub load-spec : {M : Type 1} → statement M
 load-spec =
     tie.close
-    (tie.spec (λ c κs. search needs) (λ c. search needs) (λ c. search needs) returns links-requires (λ c. search needs) returns-2 add-word
-    word-requires (λ c κs. search needs) (λ c. search needs) returns-3)
+    (tie.spec (λ c κs. search needs) (λ c. search needs) (λ c. search needs) returns
+    (λ c κs. (search needs, object-below _ _ _ (object (c .before))))
+    (λ c. search needs) returns-2 (λ c. omega (arith, place c)) (λ c κs. (search needs, place c)) (λ c κs. search needs)
+    (λ c. search needs) (λ c. search load-done))

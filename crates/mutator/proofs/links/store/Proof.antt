@@ -26,25 +26,14 @@ returns : tie.Need-returns
 unfolding asked rows-open
 returns c = let p = c .before .before .before .before .pre in object-nil (store-passed _ _ _ (p .1 .1 .1) _ _ (p .1 .1 .0)) (means-link (c .before .reg .ensures) refl refl) (c .if1 .taken)
 
-links-requires : tie.Need-links-requires
-links-requires c κs = (search needs, object-below _ _ _ (object (c .before)))
-
 returns-2 : tie.Need-returns-2
 unfolding asked rows-open
 returns-2 c = let p = c .before .before .before .before .before .before .before .pre in word-past (store-passed _ _ _ (p .1 .1 .1) _ _ (p .1 .1 .0)) (means-link (c .before .before .before .before .reg .ensures) (c .before .links .ensures) refl) (c .before .before .before .if1 .left) (c .if2 .taken)
 
-add-set-word : tie.Need-add-set-word
-add-set-word c = omega (arith, place c)
-
-set-word-requires : tie.Need-set-word-requires
-set-word-requires c κs = (search needs, place c)
-
-returns-3 : tie.Need-returns-3
-returns-3 c = search store-done
-
 pub store-spec : {M : Type 1} → statement M
 store-spec =
     tie.close
-    (tie.spec (λ c κs. search needs) (λ c. search needs) (λ c. search needs) returns links-requires (λ c. search needs) returns-2
-    (λ c κs. search needs) add-set-word set-word-requires (λ c. search needs) (λ c. search needs) (λ c κs. search needs)
-    (λ c. search needs) returns-3)
+    (tie.spec (λ c κs. search needs) (λ c. search needs) (λ c. search needs) returns
+    (λ c κs. (search needs, object-below _ _ _ (object (c .before))))
+    (λ c. search needs) returns-2 (λ c κs. search needs) (λ c. omega (arith, place c)) (λ c κs. (search needs, place c))
+    (λ c. search needs) (λ c. search needs) (λ c κs. search needs) (λ c. search needs) (λ c. search store-done))

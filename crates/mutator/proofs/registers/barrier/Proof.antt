@@ -4,17 +4,9 @@ use native.Mathlib.Omega.{arith}
 use Rattle.mutator.proofs.registers.barrier.Statement.{statement}
 use Rattle.mutator.proofs.registers.barrier.Tie as tie
 
-returns : tie.Need-returns
-returns c = search barrier-idle
-
-dirty-card-requires : tie.Need-dirty-card-requires
-dirty-card-requires c κs = (search needs, omega (arith, owed-card _ _ _ (c .before .before .before .before .before .pre .1 .0) _ _ (c .before .before .owed .ensures)))
-
-returns-2 : tie.Need-returns-2
-returns-2 c = search barrier-done
-
 pub barrier-spec : {M : Type 1} → statement M
 barrier-spec =
     tie.close
-    (tie.spec (λ c κs. search needs) (λ c. search needs) (λ c. search needs) returns (λ c. search needs) dirty-card-requires
-    (λ c κs. search needs) (λ c. search needs) returns-2)
+    (tie.spec (λ c κs. search needs) (λ c. search needs) (λ c. search needs) (λ c. search barrier-idle) (λ c. search needs)
+    (λ c κs. (search needs, omega (arith, owed-card _ _ _ (c .before .before .before .before .before .pre .1 .0) _ _ (c .before .before .owed .ensures))))
+    (λ c κs. search needs) (λ c. search needs) (λ c. search barrier-done))

@@ -3,8 +3,5 @@ use Rattle.mutator_laws.proofs.Registers.{drop-done}
 use Rattle.mutator.proofs.registers.drop.Statement.{statement}
 use Rattle.mutator.proofs.registers.drop.Tie as tie
 
-returns : tie.Need-returns
-returns c = search drop-done
-
 pub drop-spec : {M : Type 1} → statement M
-drop-spec = tie.close (tie.spec (λ c κs. search needs) (λ c. search needs) returns)
+drop-spec = tie.close (tie.spec (λ c κs. search needs) (λ c. search needs) (λ c. search drop-done))

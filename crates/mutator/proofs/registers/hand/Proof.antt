@@ -3,8 +3,5 @@ use Rattle.mutator_laws.proofs.Registers.{hand-done}
 use Rattle.mutator.proofs.registers.hand.Statement.{statement}
 use Rattle.mutator.proofs.registers.hand.Tie as tie
 
-returns : tie.Need-returns
-returns c = search hand-done
-
 pub hand-spec : {M : Type 1} → statement M
-hand-spec = tie.close (tie.spec (λ c κs. search needs) (λ c κs. search needs) (λ c. search needs) returns)
+hand-spec = tie.close (tie.spec (λ c κs. search needs) (λ c κs. search needs) (λ c. search needs) (λ c. search hand-done))

@@ -3,9 +3,6 @@ use Rattle.model.specs.Image.{count}
 use Rattle.reach.proofs.pool.count.Statement.{statement}
 use Rattle.reach.proofs.pool.count.Tie as tie
 
-returns : tie.Need-returns
-unfolding count
-returns c = search needs
-
 pub count-spec : {M : Type 1} → statement M
-count-spec = tie.close (tie.spec (λ c. search needs) (λ c κs. search needs) (λ c. search needs) returns)
+unfolding count
+count-spec = tie.close (tie.spec (λ c. search needs) (λ c κs. search needs) (λ c. search needs) (λ c. search needs))

@@ -1,33 +1,21 @@
 use borrow.Author.Needs.{needs}
 use Rattle.collector_laws.specs.Pool.{choice}
 use Rattle.collector_laws.proofs.Pool.{unheld, greater, choice-more, in-pool, fullest-choice}
-use Rattle.model.specs.Image.{count}
+use Rattle.model.specs.Image.{count, imageOf}
 use Rattle.image.specs.Layout.{width}
-use Rattle.model.specs.Image.{imageOf}
 use Prim.Native.Nat.{_-_, _≤_}
 use mathlib.Core.Path.{_≡_, refl}
-use native.Mathlib.Omega.{arith}
 use Rattle.reach.proofs.pool.fullest.Statement.{statement}
 use Rattle.reach.proofs.pool.fullest.Tie as tie
 
 abbrev Inv-loop : tie.InvT-loop
 Inv-loop im k held c₀ p₀ c p = (p ≤ 32) × (c ≡ choice greater (count (imageOf width k im)) (unheld (imageOf width k im)) 0 p)
 
-abbrev μ-loop : tie.MeasureT-loop
-μ-loop im k held c₀ p₀ c p = 32 - p
-
-loop-holds : tie.Need-loop-holds Inv-loop μ-loop
-unfolding choice
-loop-holds c = (omega arith, refl)
-
-loop-again : tie.Need-loop-again Inv-loop μ-loop
-loop-again c = (omega arith, search (choice-more, in-pool))
-
-returns : tie.Need-returns Inv-loop μ-loop
-returns c = search fullest-choice
-
 pub fullest-spec : {M : Type 1} → statement M
+unfolding choice
 fullest-spec =
     tie.close
-    (tie.spec Inv-loop μ-loop (λ c κs. search needs) loop-holds (λ c κs. search needs) (λ c. search needs) (λ c κs. search needs)
-    (λ c κs. search needs) (λ c. search needs) (λ c. search needs) loop-again returns)
+    (tie.spec Inv-loop (λ im k held c₀ p₀ c p. 32 - p) (λ c κs. search needs) (λ c. (search needs, refl)) (λ c κs. search needs)
+    (λ c. search needs) (λ c κs. search needs) (λ c κs. search needs) (λ c. search needs) (λ c. search needs)
+    (λ c. (search needs, search (choice-more, in-pool)))
+    (λ c. search fullest-choice))

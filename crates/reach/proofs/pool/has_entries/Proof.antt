@@ -3,11 +3,5 @@ use Rattle.collector_laws.proofs.Pool.{no-entries, some-entries}
 use Rattle.reach.proofs.pool.has_entries.Statement.{statement}
 use Rattle.reach.proofs.pool.has_entries.Tie as tie
 
-returns : tie.Need-returns
-returns c = search no-entries
-
-returns-2 : tie.Need-returns-2
-returns-2 c = search some-entries
-
 pub has-entries-spec : {M : Type 1} → statement M
-has-entries-spec = tie.close (tie.spec returns (λ c. search needs) (λ c κs. search needs) returns-2)
+has-entries-spec = tie.close (tie.spec (λ c. search no-entries) (λ c. search needs) (λ c κs. search needs) (λ c. search some-entries))

@@ -5,9 +5,6 @@ use lib.Bits.{and-mask}
 use Rattle.reach.proofs.pool.in_pool.Statement.{statement}
 use Rattle.reach.proofs.pool.in_pool.Tie as tie
 
-returns : tie.Need-returns
-unfolding testBit
-returns c = rw (and-mask (c .args .s / 2 ^ c .args .p) 1)
-
 pub in-pool-spec : {M : Type 1} → statement M
-in-pool-spec = tie.close (tie.spec (λ c. search needs) returns)
+unfolding testBit
+in-pool-spec = tie.close (tie.spec (λ c. search needs) (λ c. rw (and-mask (c .args .s / 2 ^ c .args .p) 1)))

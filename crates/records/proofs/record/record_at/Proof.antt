@@ -1,13 +1,8 @@
 use borrow.Author.Needs.{needs}
 use Rattle.model.specs.Records.{recordBytes}
 use Rattle.show_store_laws.proofs.Record.{record-is}
-use native.Mathlib.Omega.{arith}
 use Rattle.records.proofs.record.record_at.Statement.{statement}
 use Rattle.records.proofs.record.record_at.Tie as tie
-use Rattle.records.proofs.record.record_at.Reads as reads
-use Rattle.records.proofs.record.record_at.Lts as lts
-use Rattle.records.proofs.record.field.Reads as field-reads
-use Rattle.records.proofs.record.wide.Reads as wide-reads
 
 returns : tie.Need-returns
 unfolding recordBytes
@@ -18,7 +13,7 @@ returns c =
     let a = c .before .before .field .ensures in
     let b = c .before .field2 .ensures in
     let d = c .field3 .ensures in
-    record-is (A .steps .now) (A .at) (omega arith) _ _ _ _ _ (x .0) (y .0) (a .0) (b .0) (d .0) (x .1) (y .1) (a .1) (b .1) (d .1)
+    record-is (A .steps .now) (A .at) (search needs) _ _ _ _ _ (x .0) (y .0) (a .0) (b .0) (d .0) (x .1) (y .1) (a .1) (b .1) (d .1)
 
 pub record-at-spec : {M : Type 1} → statement M
 record-at-spec =

@@ -5,9 +5,6 @@ use Rattle.model.specs.Base.{testBit}
 use Rattle.request.proofs.fields.has_kind.Statement.{statement}
 use Rattle.request.proofs.fields.has_kind.Tie as tie
 
-returns : tie.Need-returns
-unfolding testBit
-returns c = rw (and-mask (c .args .t / 2 ^ c .args .n) 1)
-
 pub has-kind-spec : {M : Type 1} → statement M
-has-kind-spec = tie.close (tie.spec (λ c. search needs) returns)
+unfolding testBit
+has-kind-spec = tie.close (tie.spec (λ c. search needs) (λ c. rw (and-mask (c .args .t / 2 ^ c .args .n) 1)))

@@ -7,18 +7,6 @@ use Rattle.request_laws.proofs.Tables.{limit-unused, limit-desk, limit-tracer, 
 use Rattle.request.proofs.fields.limit_by.Statement.{statement}
 use Rattle.request.proofs.fields.limit_by.Tie as tie
 
-returns : tie.Need-returns
-unfolding roleDigit
-returns c = limit-unused width _ (rw (and-mask (c .before .args .t / 2 ^ (2 * c .before .args .n)) 2) at (c .match .keys1))
-
-returns-2 : tie.Need-returns-2
-unfolding roleDigit
-returns-2 c = limit-desk width _ (rw (and-mask (c .before .args .t / 2 ^ (2 * c .before .args .n)) 2) at (c .match .keys2))
-
-returns-3 : tie.Need-returns-3
-unfolding roleDigit
-returns-3 c = limit-tracer width _ (rw (and-mask (c .before .args .t / 2 ^ (2 * c .before .args .n)) 2) at (c .match .keys3))
-
 returns-4 : tie.Need-returns-4
 unfolding roleDigit
 returns-4 c =
@@ -26,4 +14,11 @@ returns-4 c =
     limit-number width _ (rw e at (c .match .rest .0 .0 .1)) (rw e at (c .match .rest .0 .1)) (rw e at (c .match .rest .1))
 
 pub limit-by-spec : {M : Type 1} → statement M
-limit-by-spec = tie.close (tie.spec (λ c. search needs) (λ c. search needs) returns returns-2 returns-3 returns-4)
+unfolding roleDigit
+limit-by-spec =
+    tie.close
+    (tie.spec (λ c. search needs) (λ c. search needs)
+    (λ c. limit-unused width _ (rw (and-mask (c .before .args .t / 2 ^ (2 * c .before .args .n)) 2) at (c .match .keys1)))
+    (λ c. limit-desk width _ (rw (and-mask (c .before .args .t / 2 ^ (2 * c .before .args .n)) 2) at (c .match .keys2)))
+    (λ c. limit-tracer width _ (rw (and-mask (c .before .args .t / 2 ^ (2 * c .before .args .n)) 2) at (c .match .keys3)))
+    returns-4)

@@ -1,32 +1,17 @@
 use Rattle.request_laws.proofs.Fields.{owing-found, debtor-below}
 use Rattle.theory.specs.Fields.{fieldAt}
-use Rattle.image.specs.Layout.{width}
 use Rattle.request_laws.specs.Request.{requested}
 use native.Mathlib.Omega.{arith}
 use Rattle.request.proofs.fields.some_owing.Statement.{statement}
 use Rattle.request.proofs.fields.some_owing.Tie as tie
-use Rattle.request.proofs.fields.some_owing.Reads as reads
-use Rattle.request.proofs.fields.some_owing.Lts as lts
-use Rattle.request.proofs.fields.owes.Reads as owes-reads
-
-owes-requires : tie.Need-owes-requires
-unfolding requested fieldAt
-owes-requires c κs = let q = c .before in (q .pre .0, ((q .pre .1 .1 .0, omega arith), debtor-below width (q .args .k) (q .args .r) (q .pre .1 .0) (q .pre .1 .1 .1) 0 (omega arith)))
-
-owes-requires-2 : tie.Need-owes-requires-2
-unfolding requested fieldAt
-owes-requires-2 c κs = let q = c .before .before in (q .pre .0, ((q .pre .1 .1 .0, omega arith), debtor-below width (q .args .k) (q .args .r) (q .pre .1 .0) (q .pre .1 .1 .1) 1 (omega arith)))
-
-owes-requires-3 : tie.Need-owes-requires-3
-unfolding requested fieldAt
-owes-requires-3 c κs = let q = c .before .before .before in (q .pre .0, ((q .pre .1 .1 .0, omega arith), debtor-below width (q .args .k) (q .args .r) (q .pre .1 .0) (q .pre .1 .1 .1) 2 (omega arith)))
-
-owes-requires-4 : tie.Need-owes-requires-4
-unfolding requested fieldAt
-owes-requires-4 c κs = let q = c .before .before .before .before in (q .pre .0, ((q .pre .1 .1 .0, omega arith), debtor-below width (q .args .k) (q .args .r) (q .pre .1 .0) (q .pre .1 .1 .1) 3 (omega arith)))
-
-returns : tie.Need-returns
-returns c = search owing-found
 
 pub some-owing-spec : {M : Type 1} → statement M
-some-owing-spec = tie.close (tie.spec owes-requires owes-requires-2 owes-requires-3 owes-requires-4 returns)
+unfolding requested fieldAt
+some-owing-spec =
+    tie.close
+    (tie.spec
+    (λ c κs. let q = c .before .pre in (q .0, ((q .1 .1 .0, omega arith), debtor-below _ _ _ (q .1 .0) (q .1 .1 .1) 0 (omega arith))))
+    (λ c κs. let q = c .before .before .pre in (q .0, ((q .1 .1 .0, omega arith), debtor-below _ _ _ (q .1 .0) (q .1 .1 .1) 1 (omega arith))))
+    (λ c κs. let q = c .before .before .before .pre in (q .0, ((q .1 .1 .0, omega arith), debtor-below _ _ _ (q .1 .0) (q .1 .1 .1) 2 (omega arith))))
+    (λ c κs. let q = c .before .before .before .before .pre in (q .0, ((q .1 .1 .0, omega arith), debtor-below _ _ _ (q .1 .0) (q .1 .1 .1) 3 (omega arith))))
+    (λ c. search owing-found))

@@ -5,30 +5,19 @@ use Prim.Native.Nat.{_-_, _≤_}
 use mathlib.Core.Path.{_≡_, refl}
 use borrow.Author.Needs.{needs}
 use lib.ListN.{length}
-use native.Mathlib.Omega.{arith}
 use Rattle.roots.proofs.scanning.reach_registers.Statement.{statement}
 use Rattle.roots.proofs.scanning.reach_registers.Tie as tie
 
 abbrev Inv-loop : tie.InvT-loop
 Inv-loop im₀ k t p r₀ im r = (r ≤ 16) × (length im ≡ length im₀) × Scanning (imageOf width k im₀) t p r (imageOf width k im)
 
-abbrev μ-loop : tie.MeasureT-loop
-μ-loop im₀ k t p r₀ im r = 16 - r
-
-loop-holds : tie.Need-loop-holds Inv-loop μ-loop
-loop-holds c = (omega arith, refl, scan-first _ _ _ (c .before .pre .1 .0))
-
-reach-requires : tie.Need-reach-requires Inv-loop μ-loop
-reach-requires c κs = (search needs, (search needs, (search scan-reg, search needs)))
-
-loop-again : tie.Need-loop-again Inv-loop μ-loop
-loop-again c = (omega arith, search needs, search scan-more)
-
-returns : tie.Need-returns Inv-loop μ-loop
-returns c = search scan-end
-
 pub reach-registers-spec : {M : Type 1} → statement M
 reach-registers-spec =
     tie.close
-    (tie.spec Inv-loop μ-loop loop-holds (λ c κs. search needs) reach-requires (λ c. search needs) (λ c. search needs) loop-again
-    (λ c. search needs) returns)
+    (tie.spec Inv-loop (λ im₀ k t p r₀ im r. 16 - r)
+    (λ c. (search needs, refl, scan-first _ _ _ (c .before .pre .1 .0)))
+    (λ c κs. search needs)
+    (λ c κs. (search needs, (search needs, (search scan-reg, search needs))))
+    (λ c. search needs) (λ c. search needs)
+    (λ c. (search needs, search needs, search scan-more))
+    (λ c. search needs) (λ c. search scan-end))

@@ -3,14 +3,8 @@ use Rattle.collector_laws.proofs.Scanning.{scanned-already, scanned-now}
 use Rattle.roots.proofs.scanning.scan_player.Statement.{statement}
 use Rattle.roots.proofs.scanning.scan_player.Tie as tie
 
-returns : tie.Need-returns
-returns c = search scanned-already
-
-returns-2 : tie.Need-returns-2
-returns-2 c = search scanned-now
-
 pub scan-player-spec : {M : Type 1} → statement M
 scan-player-spec =
     tie.close
-    (tie.spec (λ c κs. search needs) (λ c. search needs) returns (λ c κs. search needs) (λ c κs. search needs) (λ c. search needs)
-    returns-2)
+    (tie.spec (λ c κs. search needs) (λ c. search needs) (λ c. search scanned-already) (λ c κs. search needs) (λ c κs. search needs)
+    (λ c. search needs) (λ c. search scanned-now))

@@ -1,8 +1,7 @@
 use Rattle.image.specs.Layout.{width}
 use Rattle.runs_laws.proofs.Chain.{Walk, chain-measure, walk-first, walk-end, walk-in, walk-here, walk-next, walk-less}
-use Rattle.model.specs.Image.{granules, imageOf}
+use Rattle.model.specs.Image.{granules, imageOf, image}
 use borrow.Author.Needs.{needs}
-use Rattle.image_laws.proofs.Sections.{granules-image}
 use native.Mathlib.Omega.{arith}
 use Rattle.runs.proofs.chain.find_room.Statement.{statement}
 use Rattle.runs.proofs.chain.find_room.Tie as tie
@@ -10,32 +9,16 @@ use Rattle.runs.proofs.chain.find_room.Tie as tie
 abbrev Inv-loop : tie.InvT-loop
 Inv-loop im k b before₀ g₀ before g = Walk (imageOf width k im) b before g
 
-abbrev μ-loop : tie.MeasureT-loop
-μ-loop im k b before₀ g₀ before g = chain-measure (granules (imageOf width k im)) g
-
-loop-holds : tie.Need-loop-holds Inv-loop μ-loop
-loop-holds c = search walk-first
-
-run-length-requires : tie.Need-run-length-requires Inv-loop μ-loop
-run-length-requires c κs = let A = c .before .before .before .before .args in (search needs, omega (arith, walk-in _ _ _ _ (c .before .loop .inv) (c .loop-test .taken), granules-image width (A .k) (A .im .now)))
-
-returns : tie.Need-returns Inv-loop μ-loop
-returns c = walk-here _ _ _ _ (c .before .before .before .loop .inv) (c .before .before .loop-test .taken) (omega arith)
-
-next-run-requires : tie.Need-next-run-requires Inv-loop μ-loop
-next-run-requires c κs = let A = c .before .before .before .before .before .before .args in (search needs, omega (arith, walk-in _ _ _ _ (c .before .before .before .loop .inv) (c .before .before .loop-test .taken), granules-image width (A .k) (A .im .now)))
-
-loop-less : tie.Need-loop-less Inv-loop μ-loop
-loop-less c = rw (c .next-run .ensures) (walk-less _ _ _ _ (c .before .before .before .before .loop .inv) (c .before .before .before .loop-test .taken))
-
-loop-again : tie.Need-loop-again Inv-loop μ-loop
-loop-again c = rw (c .next-run .ensures) (walk-next _ _ _ _ (c .before .before .before .before .loop .inv) (c .before .before .before .loop-test .taken) (omega arith))
-
-returns-2 : tie.Need-returns-2 Inv-loop μ-loop
-returns-2 c = walk-end _ _ _ _ (c .before .loop .inv) (c .loop-test .left)
-
 pub find-room-spec : {M : Type 1} → statement M
+unfolding granules imageOf image
 find-room-spec =
     tie.close
-    (tie.spec Inv-loop μ-loop (λ c κs. search needs) (λ c. search needs) loop-holds run-length-requires returns next-run-requires loop-less
-    loop-again returns-2)
+    (tie.spec Inv-loop
+    (λ im k b before₀ g₀ before g. chain-measure (granules (imageOf width k im)) g)
+    (λ c κs. search needs) (λ c. search needs) (λ c. search walk-first)
+    (λ c κs. (search needs, omega (arith, walk-in _ _ _ _ (c .before .loop .inv) (c .loop-test .taken))))
+    (λ c. walk-here _ _ _ _ (c .before .before .before .loop .inv) (c .before .before .loop-test .taken) (omega arith))
+    (λ c κs. (search needs, omega (arith, walk-in _ _ _ _ (c .before .before .before .loop .inv) (c .before .before .loop-test .taken))))
+    (λ c. rw (c .next-run .ensures) (search walk-less))
+    (λ c. rw (c .next-run .ensures) (walk-next _ _ _ _ (c .before .before .before .before .loop .inv) (c .before .before .before .loop-test .taken) (omega arith)))
+    (λ c. search walk-end))

@@ -10,11 +10,8 @@ use Rattle.short_sections.proofs.hands.all_apart.Tie as tie
 abbrev Inv-loop : tie.InvT-loop
 Inv-loop im k x ok₀ i₀ ok i = Checked x (apart (imageOf width k im) x) ok i
 
-abbrev μ-loop : tie.MeasureT-loop
-μ-loop im k x ok₀ i₀ ok i = x - i
-
 pub all-apart-spec : {M : Type 1} → statement M
 all-apart-spec =
     tie.close
-    (tie.spec Inv-loop μ-loop (λ c. checked-none) (λ c κs. search needs) (λ c. search needs) (λ c. search needs) (λ c. search checked-more)
-    (λ c. search checked-end))
+    (tie.spec Inv-loop (λ im k x ok₀ i₀ ok i. x - i) (λ c. checked-none) (λ c κs. search needs) (λ c. search needs)
+    (λ c. search needs) (λ c. search checked-more) (λ c. search checked-end))

@@ -3,9 +3,6 @@ use Rattle.model.specs.Undamaged.{heldAt}
 use Rattle.short_sections.proofs.hands.held_at.Statement.{statement}
 use Rattle.short_sections.proofs.hands.held_at.Tie as tie
 
-returns : tie.Need-returns
-unfolding heldAt
-returns c = search needs
-
 pub held-at-spec : {M : Type 1} → statement M
-held-at-spec = tie.close (tie.spec (λ c. search needs) (λ c. search needs) (λ c κs. search needs) returns)
+unfolding heldAt
+held-at-spec = tie.close (tie.spec (λ c. search needs) (λ c. search needs) (λ c κs. search needs) (λ c. search needs))

@@ -4,9 +4,6 @@ use Rattle.soundness_laws.specs.Tests.{apart}
 use Rattle.short_sections.proofs.hands.is_apart.Statement.{statement}
 use Rattle.short_sections.proofs.hands.is_apart.Tie as tie
 
-returns : tie.Need-returns
-unfolding apart
-returns c = rw (c .held-at2 .ensures, c .before .held-at .ensures) refl
-
 pub is-apart-spec : {M : Type 1} → statement M
-is-apart-spec = tie.close (tie.spec (λ c κs. search needs) (λ c κs. search needs) returns)
+unfolding apart
+is-apart-spec = tie.close (tie.spec (λ c κs. search needs) (λ c κs. search needs) (λ c. rw (c .held-at2 .ensures, c .before .held-at .ensures) refl))

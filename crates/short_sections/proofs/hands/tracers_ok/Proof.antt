@@ -10,11 +10,8 @@ use Rattle.short_sections.proofs.hands.tracers_ok.Tie as tie
 abbrev Inv-loop : tie.InvT-loop
 Inv-loop im k ok₀ i₀ ok i = Checked 8 (tracerOk (imageOf width k im)) ok i
 
-abbrev μ-loop : tie.MeasureT-loop
-μ-loop im k ok₀ i₀ ok i = 8 - i
-
 pub tracers-ok-spec : {M : Type 1} → statement M
 tracers-ok-spec =
     tie.close
-    (tie.spec Inv-loop μ-loop (λ c. checked-none) (λ c κs. search needs) (λ c. search needs) (λ c. search needs) (λ c. search checked-more)
-    (λ c. search checked-end))
+    (tie.spec Inv-loop (λ im k ok₀ i₀ ok i. 8 - i) (λ c. checked-none) (λ c κs. search needs) (λ c. search needs) (λ c. search needs)
+    (λ c. search checked-more) (λ c. search checked-end))

@@ -2,8 +2,8 @@ use borrow.Author.Needs.{needs}
 use Rattle.show_store.proofs.calls.batch.Statement.{statement}
 use Rattle.show_store.proofs.calls.batch.Tie as tie
 
-returns : tie.Need-returns
-returns c = rw (c .result .ensures) (c .before .before .before .before .before .verdict .ensures)
-
 pub batch-spec : {M : Type 1} → statement M
-batch-spec = tie.close (tie.spec (λ c κs. search needs) (λ c κs. search needs) (λ c. search needs) (λ c. search needs) returns)
+batch-spec =
+    tie.close
+    (tie.spec (λ c κs. search needs) (λ c κs. search needs) (λ c. search needs) (λ c. search needs)
+    (λ c. rw (c .result .ensures) (c .before .before .before .before .before .verdict .ensures)))

@@ -3,41 +3,16 @@ use Rattle.show_store_laws.proofs.Batch.{batch-part, batch-answers, batch-misfi
 use Rattle.image.specs.Layout.{width}
 use Rattle.model.specs.Records.{recordBytes}
 use Rattle.image_laws.proofs.Size.{cards-sized}
-use native.Mathlib.Omega.{arith}
 use Rattle.show_store.proofs.calls.verdict.Statement.{statement}
 use Rattle.show_store.proofs.calls.verdict.Tie as tie
 
-returns : tie.Need-returns
-unfolding recordBytes
-returns c = search batch-part
-
-returns-2 : tie.Need-returns-2
-unfolding recordBytes
-returns-2 c = search batch-answers
-
-is-undamaged-requires : tie.Need-is-undamaged-requires
-is-undamaged-requires c κs = search cards-sized
-
 run-all-requires : tie.Need-run-all-requires
-run-all-requires c κs = (search cards-sized, (judged-undamaged width _ _ _ _ (c .before .before .before .before .before .before .before .before .before .before .cards .ensures) (c .before .before .before .before .before .before .before .before .s .given .1) (c .before .before .before .is-undamaged .ensures) (c .before .before .if3 .taken), (omega arith, omega arith)))
-
-returns-3 : tie.Need-returns-3
-unfolding recordBytes
-returns-3 c =
-    let R = c .before .before .before .before in
-    let J = R .before .before .before .before in
-    let S = J .before .before .before .before .before in
-    batch-run width _ _ _ _ (S .before .before .cards .ensures) _ (S .s .given .1) (omega arith) (omega arith) _ (J .is-undamaged .ensures) (R .before .before .before .if3 .taken) _ _ (omega arith) (R .run-all .ensures .0) (R .run-all .ensures .1)
-
-returns-4 : tie.Need-returns-4
-returns-4 c = search batch-misfit
-
-returns-5 : tie.Need-returns-5
-unfolding recordBytes
-returns-5 c = search batch-damaged
+run-all-requires c κs = (search cards-sized, (judged-undamaged width _ _ _ _ (c .before .before .before .before .before .before .before .before .before .before .cards .ensures) (c .before .before .before .before .before .before .before .before .s .given .1) (c .before .before .before .is-undamaged .ensures) (c .before .before .if3 .taken), (search needs, search needs)))
 
 pub verdict-spec : {M : Type 1} → statement M
+unfolding recordBytes
 verdict-spec =
     tie.close
-    (tie.spec (λ c κs. search needs) (λ c. search needs) (λ c. search needs) returns (λ c. search needs) returns-2 is-undamaged-requires
-    run-all-requires (λ c. search needs) (λ c. search needs) returns-3 returns-4 (λ c. search needs) returns-5)
+    (tie.spec (λ c κs. search needs) (λ c. search needs) (λ c. search needs) (λ c. search batch-part) (λ c. search needs)
+    (λ c. search batch-answers) (λ c κs. search cards-sized) run-all-requires (λ c. search needs) (λ c. search needs)
+    (λ c. search batch-run) (λ c. search batch-misfit) (λ c. search needs) (λ c. search batch-damaged))

@@ -5,9 +5,6 @@ use Rattle.soundness_laws.proofs.Sets.{target-word}
 use Rattle.soundness.proofs.heap.link_ok.Statement.{statement}
 use Rattle.soundness.proofs.heap.link_ok.Tie as tie
 
-returns : tie.Need-returns
-unfolding linkOk link
-returns c = search target-word
-
 pub link-ok-spec : {M : Type 1} → statement M
-link-ok-spec = tie.close (tie.spec (λ c. search needs) (λ c κs. search needs) (λ c. search needs) (λ c κs. search needs) returns)
+unfolding linkOk link
+link-ok-spec = tie.close (tie.spec (λ c. search needs) (λ c κs. search needs) (λ c. search needs) (λ c κs. search needs) (λ c. search target-word))

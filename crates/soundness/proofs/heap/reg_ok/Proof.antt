@@ -4,9 +4,6 @@ use Rattle.soundness_laws.proofs.Sets.{target-word}
 use Rattle.soundness.proofs.heap.reg_ok.Statement.{statement}
 use Rattle.soundness.proofs.heap.reg_ok.Tie as tie
 
-returns : tie.Need-returns
-unfolding regOk
-returns c = search target-word
-
 pub reg-ok-spec : {M : Type 1} → statement M
-reg-ok-spec = tie.close (tie.spec (λ c κs. search needs) (λ c. search needs) (λ c κs. search needs) returns)
+unfolding regOk
+reg-ok-spec = tie.close (tie.spec (λ c κs. search needs) (λ c. search needs) (λ c κs. search needs) (λ c. search target-word))

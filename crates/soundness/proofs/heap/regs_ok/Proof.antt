@@ -12,23 +12,10 @@ use Rattle.soundness.proofs.heap.regs_ok.Tie as tie
 abbrev Inv-loop : tie.InvT-loop
 Inv-loop im k targets ok₀ i₀ ok i = Checked 256 (regOk (imageOf width k im)) ok i
 
-abbrev μ-loop : tie.MeasureT-loop
-μ-loop im k targets ok₀ i₀ ok i = 256 - i
-
-returns : tie.Need-returns Inv-loop μ-loop
-returns c = let S = c .before .before .before .before in low-regs width _ _ (S .pre .0) _ (S .pre .1) (sym (c .if1 .taken) ∙ c .before .low-regs .ensures)
-
-loop-holds : tie.Need-loop-holds Inv-loop μ-loop
-loop-holds c = checked-none
-
-loop-again : tie.Need-loop-again Inv-loop μ-loop
-loop-again c = checked-more _ _ _ _ _ (c .before .before .loop .inv) (c .before .loop-test .taken) (c .reg-ok .ensures)
-
-returns-2 : tie.Need-returns-2 Inv-loop μ-loop
-returns-2 c = checked-end _ _ _ _ (c .before .loop .inv) (c .loop-test .left)
-
 pub regs-ok-spec : {M : Type 1} → statement M
 regs-ok-spec =
     tie.close
-    (tie.spec Inv-loop μ-loop (λ c κs. search needs) returns loop-holds (λ c κs. search needs) (λ c. search needs) (λ c. search needs)
-    loop-again returns-2)
+    (tie.spec Inv-loop (λ im k targets ok₀ i₀ ok i. 256 - i) (λ c κs. search needs)
+    (λ c. let S = c .before .before .before .before in low-regs width _ _ (S .pre .0) _ (S .pre .1) (sym (c .if1 .taken) ∙ c .before .low-regs .ensures))
+    (λ c. checked-none) (λ c κs. search needs) (λ c. search needs) (λ c. search needs) (λ c. search checked-more)
+    (λ c. search checked-end))

@@ -10,5 +10,6 @@ zero-heap-requires c κs = let A = c .before .before .before .args in (search ne
 pub run-ok-spec : {M : Type 1} → statement M
 run-ok-spec =
     tie.close
-    (tie.spec (λ c κs. search needs) (λ c. search needs) (λ c. search needs) (λ c. search needs) (λ c. search run-no) (λ c. search needs)
-    (λ c. search needs) (λ c. search needs) (λ c. search needs) (λ c. search needs) zero-heap-requires (λ c. search run-yes))
+    (tie.spec (λ c κs. search needs) (λ c. search needs) (λ c. search needs) (λ c. search needs) (λ c. search run-no)
+    (λ c. search needs) (λ c. search needs) (λ c. search needs) (λ c. search needs) (λ c. search needs) zero-heap-requires
+    (λ c. search run-yes))

@@ -12,15 +12,6 @@ Inv-loop im k targets from first g₀ next₀ run₀ seen₀ g next run seen = H
 abbrev μ-loop : tie.MeasureT-loop
 μ-loop im k targets from first g₀ next₀ run₀ seen₀ g next run seen = 64 * k - g
 
-object-links-requires : tie.Need-object-links-requires Inv-loop μ-loop
-object-links-requires c κs =
-    let L = c .before .before .before .before in
-    let inside = w-room _ _ _ (L .before .before .before .pre .0) _ _ _ _ (L .loop .inv) (c .before .before .before .loop-test .taken) _ (c .before .piece-ok .ensures) (c .if1 .left) in
-    (search needs, (search needs, (search needs, (search needs, inside))))
-
-one-more-requires : tie.Need-one-more-requires Inv-loop μ-loop
-one-more-requires c κs = let L = c .before .before .before .before .before .before in w-small _ _ _ (L .before .before .before .pre .0) _ _ _ _ (L .loop .inv)
-
 loop-less : tie.Need-loop-less Inv-loop μ-loop
 loop-less c =
     let I = c .before .before .before .before .before in
@@ -33,23 +24,13 @@ loop-again c =
     let L = I .before .before .before .before in
     w-more _ _ _ (L .before .before .before .pre .0) _ _ _ _ (L .loop .inv) (I .before .before .before .loop-test .taken) _ (I .before .piece-ok .ensures) (I .if1 .left) _ _ _ _ _ (I .before .before .is-start .ensures) (c .before .before .before .before .object-links .ensures) (c .before .before .before .if2 .left) (c .before .before .one-more .ensures) (c .before .next-run .ensures) (c .word .ensures)
 
-returns : tie.Need-returns Inv-loop μ-loop
-returns c =
-    let L = c .before .before .before .before in
-    w-stop _ _ _ (L .before .before .before .pre .0) _ _ _ _ (L .loop .inv) (c .before .before .before .loop-test .taken) _ (c .before .piece-ok .ensures) (c .if1 .taken)
-
-returns-2 : tie.Need-returns-2 Inv-loop μ-loop
-returns-2 c =
-    let L = c .before .before .before .before .before .before in
-    w-link _ _ _ (L .before .before .before .pre .0) _ _ _ _ (L .loop .inv) (c .before .before .before .before .before .loop-test .taken) _ (c .before .object-links .ensures) (c .if2 .taken)
-
-returns-3 : tie.Need-returns-3 Inv-loop μ-loop
-returns-3 c = let L = c .before .before in w-end _ _ _ (L .before .before .before .pre .0) _ _ _ _ (L .loop .inv) (c .before .loop-test .left) _ (c .count-starts .ensures)
-
 pub walk-spec : {M : Type 1} → statement M
 walk-spec =
     tie.close
-    (tie.spec Inv-loop μ-loop (λ c. search needs)
-    (λ c. w-from _ _ _ (c .before .before .pre .0) _ (c .before .before .pre .1 .1 .0) (c .before .before .pre .1 .1 .1 .0) _ (c .before .before .pre .1 .1 .1 .1))
-    (λ c. search needs) (λ c κs. search needs) (λ c κs. search needs) returns object-links-requires returns-2 one-more-requires
-    (λ c κs. search needs) (λ c κs. search needs) (λ c. search needs) (λ c. search needs) loop-less loop-again (λ c κs. search needs) returns-3)
+    (tie.spec Inv-loop μ-loop (λ c. search needs) (λ c. search w-from) (λ c. search needs) (λ c κs. search needs)
+    (λ c κs. search needs) (λ c. search w-stop)
+    (λ c κs. (search needs, (search needs, (search needs, (search needs, search w-room)))))
+    (λ c. search w-link)
+    (λ c κs. let L = c .before .before .before .before .before .before in w-small _ _ _ (L .before .before .before .pre .0) _ _ _ _ (L .loop .inv))
+    (λ c κs. search needs) (λ c κs. search needs) (λ c. search needs) (λ c. search needs) loop-less loop-again (λ c κs. search needs)
+    (λ c. search w-end))

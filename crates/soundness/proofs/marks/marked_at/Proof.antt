@@ -7,4 +7,4 @@ pub marked-at-spec : {M : Type 1} → statement M
 marked-at-spec =
     tie.close
     (tie.spec (λ c. search needs) (λ c. search needs) (λ c κs. search needs) (λ c. search needs) (λ c κs. search needs)
-    (λ c. mark-at _ _ _ (c .before .before .before .pre) _ _ _ (c .before .least .ensures) (c .is-marked .ensures)))
+    (λ c. search mark-at))

@@ -19,11 +19,9 @@ abbrev μ-loop : tie.MeasureT-loop
 loop-again : tie.Need-loop-again Inv-loop μ-loop
 loop-again c = g-more _ _ _ _ _ (c .before .before .before .loop .inv) (omega arith) (mark-word width _ _ _ _ _ (c .before .mark-word .ensures) (c .start-word .ensures) (omega (arith, c .before .mark-word .ok)) (omega (arith, c .start-word .ok)))
 
-returns : tie.Need-returns Inv-loop μ-loop
-returns c = by-words width _ _ _ _ (c .before .before .before .pre) (g-end (c .before .loop .inv) (omega arith))
-
 pub marks-ok-spec : {M : Type 1} → statement M
 marks-ok-spec =
     tie.close
     (tie.spec Inv-loop μ-loop (λ c. g-none) (λ c. search needs) (λ c κs. search needs) (λ c κs. search needs) (λ c. search needs)
-    (λ c. search needs) loop-again returns)
+    (λ c. search needs) loop-again
+    (λ c. by-words width _ _ _ _ (c .before .before .before .pre) (g-end (c .before .loop .inv) (omega arith))))

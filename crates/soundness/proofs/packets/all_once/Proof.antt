@@ -8,11 +8,8 @@ use Rattle.soundness.proofs.packets.all_once.Tie as tie
 abbrev Inv-loop : tie.InvT-loop
 Inv-loop im k seen₀ ok₀ p₀ seen ok p = PacketsSearched width k im seen₀ ok p seen
 
-abbrev μ-loop : tie.MeasureT-loop
-μ-loop im k seen₀ ok₀ p₀ seen ok p = 32 - p
-
 pub all-once-spec : {M : Type 1} → statement M
 all-once-spec =
     tie.close
-    (tie.spec Inv-loop μ-loop (λ c. search p-none) (λ c κs. search needs) (λ c. search needs) (λ c. search needs) (λ c. search p-more)
-    (λ c. search needs) (λ c. search p-end))
+    (tie.spec Inv-loop (λ im k seen₀ ok₀ p₀ seen ok p. 32 - p) (λ c. search p-none) (λ c κs. search needs) (λ c. search needs)
+    (λ c. search needs) (λ c. search p-more) (λ c. search needs) (λ c. search p-end))

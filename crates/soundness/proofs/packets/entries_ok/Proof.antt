@@ -10,12 +10,8 @@ use Rattle.soundness.proofs.packets.entries_ok.Tie as tie
 abbrev Inv-loop : tie.InvT-loop
 Inv-loop im k p n ok₀ i₀ ok i = Checked n (entryMarked (imageOf width k im) p) ok i
 
-abbrev μ-loop : tie.MeasureT-loop
-μ-loop im k p n ok₀ i₀ ok i = n - i
-
 pub entries-ok-spec : {M : Type 1} → statement M
 entries-ok-spec =
     tie.close
-    (tie.spec Inv-loop μ-loop (λ c. checked-none) (λ c κs. search needs) (λ c. search needs) (λ c. search needs)
-    (λ c. checked-more _ _ _ _ _ (c .before .before .loop .inv) (c .before .loop-test .taken) (c .entry-ok .ensures))
-    (λ c. checked-end _ _ _ _ (c .before .loop .inv) (c .loop-test .left)))
+    (tie.spec Inv-loop (λ im k p n ok₀ i₀ ok i. n - i) (λ c. checked-none) (λ c κs. search needs) (λ c. search needs)
+    (λ c. search needs) (λ c. search checked-more) (λ c. search checked-end))

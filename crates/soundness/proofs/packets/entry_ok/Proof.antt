@@ -6,5 +6,5 @@ use Rattle.soundness.proofs.packets.entry_ok.Tie as tie
 pub entry-ok-spec : {M : Type 1} → statement M
 entry-ok-spec =
     tie.close
-    (tie.spec (λ c. search needs) (λ c. search needs) (λ c. search needs) (λ c κs. search needs) (λ c. search needs) (λ c κs. search needs)
-    (λ c. search entry-marked))
+    (tie.spec (λ c. search needs) (λ c. search needs) (λ c. search needs) (λ c κs. search needs) (λ c. search needs)
+    (λ c κs. search needs) (λ c. search entry-marked))

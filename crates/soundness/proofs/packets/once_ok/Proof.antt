@@ -1,12 +1,7 @@
 use borrow.Author.Needs.{needs}
 use Rattle.soundness_laws.proofs.Sets.{once-end}
-use Rattle.image.specs.Layout.{width}
-use Rattle.soundness_laws.specs.Sets.{setWords}
 use Rattle.soundness.proofs.packets.once_ok.Statement.{statement}
 use Rattle.soundness.proofs.packets.once_ok.Tie as tie
 
-returns : tie.Need-returns
-returns c = once-end width (setWords width) (c .before .all-once .ensures)
-
 pub once-ok-spec : {M : Type 1} → statement M
-once-ok-spec = tie.close (tie.spec (λ c. search needs) (λ c κs. search needs) returns)
+once-ok-spec = tie.close (tie.spec (λ c. search needs) (λ c κs. search needs) (λ c. search once-end))

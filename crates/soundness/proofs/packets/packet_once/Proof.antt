@@ -19,15 +19,9 @@ packet-word-requires-2 c κs =
     let P = c .before .before .before .before .before .pre in
     (search needs, omega (arith, few _ _ _ (P .0) (P .1 .0) _ (P .1 .1 .0) _ (c .before .before .packet-word .ensures)))
 
-loop-again : tie.Need-loop-again Inv-loop μ-loop
-loop-again c =
-    let L = c .before .before .before .before .before .before in
-    let P = L .before .before .before .before .pre in
-    a-more _ _ _ (P .0) (P .1 .0) _ (P .1 .1 .0) _ _ _ _ _ _ (L .loop .inv) (c .before .before .before .before .before .loop-test .taken) (L .before .packet-word .ensures) (c .before .before .before .before .packet-word2 .ensures) _ _ (c .before .before .first-time .ensures .0) (c .before .before .first-time .ensures .1)
-
 pub packet-once-spec : {M : Type 1} → statement M
 packet-once-spec =
     tie.close
     (tie.spec Inv-loop μ-loop (λ c. search needs) (λ c κs. search needs) (λ c. search needs) (λ c. search a-none) (λ c. search needs)
     (λ c. search needs) (λ c. search needs) packet-word-requires-2 (λ c. search needs) (λ c κs. search a-place) (λ c. search needs)
-    (λ c. search needs) loop-again (λ c. search needs) (λ c. search a-end))
+    (λ c. search needs) (λ c. search a-more) (λ c. search needs) (λ c. search a-end))

@@ -10,12 +10,8 @@ use Rattle.soundness.proofs.packets.packets_ok.Tie as tie
 abbrev Inv-loop : tie.InvT-loop
 Inv-loop im k ok₀ i₀ ok i = Checked 32 (packetOkAt (imageOf width k im)) ok i
 
-abbrev μ-loop : tie.MeasureT-loop
-μ-loop im k ok₀ i₀ ok i = 32 - i
-
 pub packets-ok-spec : {M : Type 1} → statement M
 packets-ok-spec =
     tie.close
-    (tie.spec Inv-loop μ-loop (λ c. checked-none) (λ c κs. search needs) (λ c. search needs) (λ c. search needs)
-    (λ c. checked-more _ _ _ _ _ (c .before .before .loop .inv) (c .before .loop-test .taken) (c .packet-ok .ensures))
-    (λ c. checked-end _ _ _ _ (c .before .loop .inv) (c .loop-test .left)))
+    (tie.spec Inv-loop (λ im k ok₀ i₀ ok i. 32 - i) (λ c. checked-none) (λ c κs. search needs) (λ c. search needs) (λ c. search needs)
+    (λ c. search checked-more) (λ c. search checked-end))

@@ -5,12 +5,10 @@ use mathlib.Core.Bool.{not}
 use Rattle.soundness.proofs.sets.first_time.Statement.{statement}
 use Rattle.soundness.proofs.sets.first_time.Tie as tie
 
-returns : tie.Need-returns
-unfolding bit setBit nth put
-returns c = (ap not (c .has-bit .ensures), rw (c .before .with-bit .ensures) refl)
-
 pub first-time-spec : {M : Type 1} → statement M
+unfolding bit setBit nth put
 first-time-spec =
     tie.close
-    (tie.spec (λ c. search needs) (λ c. search needs) (λ c. search needs) (λ c κs. search needs) (λ c. search needs) (λ c. search needs)
-    (λ c κs. search needs) (λ c. search needs) returns)
+    (tie.spec (λ c. search needs) (λ c. search needs) (λ c. search needs) (λ c κs. search needs) (λ c. search needs)
+    (λ c. search needs) (λ c κs. search needs) (λ c. search needs)
+    (λ c. (ap not (c .has-bit .ensures), rw (c .before .with-bit .ensures) refl)))

@@ -3,9 +3,6 @@ use Rattle.model.specs.Base.{nth, bit}
 use Rattle.soundness.proofs.sets.in_set.Statement.{statement}
 use Rattle.soundness.proofs.sets.in_set.Tie as tie
 
-returns : tie.Need-returns
-unfolding bit nth
-returns c = search needs
-
 pub in-set-spec : {M : Type 1} → statement M
-in-set-spec = tie.close (tie.spec (λ c. search needs) (λ c. search needs) (λ c. search needs) (λ c κs. search needs) returns)
+unfolding bit nth
+in-set-spec = tie.close (tie.spec (λ c. search needs) (λ c. search needs) (λ c. search needs) (λ c κs. search needs) (λ c. search needs))

@@ -16,28 +16,13 @@ abbrev μ-loop : tie.MeasureT-loop
 slice-write-targets : tie.Need-slice-write-targets Inv-loop μ-loop
 slice-write-targets c = t-place _ _ _ (c .before .before .before .before .before .before .pre .0) _ _ _ (c .before .before .loop .inv) (omega (arith, c .before .before .before .least .ensures))
 
-loop-again : tie.Need-loop-again Inv-loop μ-loop
-unfolding put
-loop-again c = t-more _ _ _ (c .before .before .before .before .before .before .pre .0) _ _ _ _ (c .before .before .loop .inv) (c .before .before .before .least .ensures) (c .before .loop-test .taken) (c .start-word .ensures)
-
-slice-read-x : tie.Need-slice-read-x Inv-loop μ-loop
-slice-read-x c = t-place _ _ _ (c .before .before .before .before .before .before .pre .0) _ _ _ (c .before .before .loop .inv) (omega arith)
-
-slice-write-targets-2 : tie.Need-slice-write-targets-2 Inv-loop μ-loop
-slice-write-targets-2 c = t-place _ _ _ (c .before .before .before .before .before .before .before .pre .0) _ _ _ (c .before .before .before .loop .inv) (omega arith)
-
-same-length : tie.Need-same-length Inv-loop μ-loop
-unfolding put
-same-length c = t-same _ _ _ (c .before .before .before .before .before .before .before .pre .0) _ _ _ _ (c .before .before .before .loop .inv) (c .before .before .before .before .before .before .before .pre .1)
-
-returns : tie.Need-returns Inv-loop μ-loop
-unfolding put nth
-returns c = t-end _ _ _ (c .before .before .before .before .before .before .before .pre .0) _ _ _ _ (c .before .before .before .loop .inv) (c .before .before .before .before .least .ensures) (c .before .before .loop-test .left) (c .with-bit .ensures)
-
 pub note-targets-spec : {M : Type 1} → statement M
+unfolding put nth
 note-targets-spec =
     tie.close
-    (tie.spec Inv-loop μ-loop (λ c. search needs) (λ c κs. search needs)
-    (λ c. t-none _ _ _ (c .before .before .before .pre .0) _ (c .before .before .before .pre .1)) (λ c κs. search needs) (λ c. search needs)
-    slice-write-targets (λ c. search needs) (λ c. search needs) loop-again slice-read-x (λ c κs. search needs) slice-write-targets-2
-    same-length returns)
+    (tie.spec Inv-loop μ-loop (λ c. search needs) (λ c κs. search needs) (λ c. search t-none) (λ c κs. search needs)
+    (λ c. search needs) slice-write-targets (λ c. search needs) (λ c. search needs) (λ c. search t-more)
+    (λ c. t-place _ _ _ (c .before .before .before .before .before .before .pre .0) _ _ _ (c .before .before .loop .inv) (omega arith))
+    (λ c κs. search needs)
+    (λ c. t-place _ _ _ (c .before .before .before .before .before .before .before .pre .0) _ _ _ (c .before .before .before .loop .inv) (omega arith))
+    (λ c. search t-same) (λ c. search t-end))

@@ -6,19 +6,13 @@ use native.Mathlib.Omega.{arith}
 use Rattle.soundness.proofs.small.after_small.Statement.{statement}
 use Rattle.soundness.proofs.small.after_small.Tie as tie
 
-returns : tie.Need-returns
-returns c = let S = c .before .before .before .before in upto-none width _ _ _ (S .pre .0) (S .pre .1)
-
 last-full-requires : tie.Need-last-full-requires
 last-full-requires c κs = omega (arith, full-few width (c .before .before .before .before .before .args .targets .now), c .before .before .before .before .before .pre .1 .long, c .before .before .full-words .ensures)
-
-small-words-requires : tie.Need-small-words-requires
-small-words-requires c κs =
-    let S = c .before .before .before .before .before .before .before .before .before in
-    let n = c .before .before .before .before .before .before .full-words .ensures in
-    (S .pre .0, (S .pre .1, (bounds-full width _ _ _ _ n (c .before .before .before .last-full .ensures) (c .before .before .note-bounds .ensures), n)))
 
 pub after-small-spec : {M : Type 1} → statement M
 after-small-spec =
     tie.close
-    (tie.spec (λ c κs. search needs) returns (λ c. search needs) last-full-requires (λ c κs. search needs) (λ c. search needs) small-words-requires (λ c. search needs))
+    (tie.spec (λ c κs. search needs) (λ c. search upto-none) (λ c. search needs) last-full-requires (λ c κs. search needs)
+    (λ c. search needs)
+    (λ c κs. (search needs, (search needs, (search bounds-full, search needs))))
+    (λ c. search needs))

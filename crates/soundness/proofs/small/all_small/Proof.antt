@@ -10,19 +10,8 @@ use Rattle.soundness.proofs.small.all_small.Tie as tie
 abbrev Inv-loop : tie.InvT-loop
 Inv-loop im k targets a e ok₀ g₀ ok g = CheckedFrom a e (smallAt (imageOf width k im)) ok g
 
-abbrev μ-loop : tie.MeasureT-loop
-μ-loop im k targets a e ok₀ g₀ ok g = e - g
-
-loop-holds : tie.Need-loop-holds Inv-loop μ-loop
-loop-holds c = from-none _ _ _
-
-loop-again : tie.Need-loop-again Inv-loop μ-loop
-loop-again c = from-more _ _ _ _ _ (c .before .before .loop .inv) _ (c .before .loop-test .taken) (c .is-small .ensures)
-
-returns : tie.Need-returns Inv-loop μ-loop
-returns c = from-end _ _ _ _ _ (c .before .loop .inv) (c .loop-test .left)
-
 pub all-small-spec : {M : Type 1} → statement M
 all-small-spec =
     tie.close
-    (tie.spec Inv-loop μ-loop loop-holds (λ c κs. search needs) (λ c. search needs) (λ c. search needs) loop-again returns)
+    (tie.spec Inv-loop (λ im k targets a e ok₀ g₀ ok g. e - g) (λ c. search from-none) (λ c κs. search needs) (λ c. search needs)
+    (λ c. search needs) (λ c. search from-more) (λ c. search from-end))

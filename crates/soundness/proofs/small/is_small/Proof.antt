@@ -3,8 +3,5 @@ use Rattle.soundness_laws.proofs.Small.{small-is}
 use Rattle.soundness.proofs.small.is_small.Statement.{statement}
 use Rattle.soundness.proofs.small.is_small.Tie as tie
 
-returns : tie.Need-returns
-returns c = small-is _ _ _ _ _ (c .before .before .word .ensures) (c .before .links .ensures) (c .first-links .ensures)
-
 pub is-small-spec : {M : Type 1} → statement M
-is-small-spec = tie.close (tie.spec (λ c κs. search needs) (λ c κs. search needs) (λ c κs. search needs) returns)
+is-small-spec = tie.close (tie.spec (λ c κs. search needs) (λ c κs. search needs) (λ c κs. search needs) (λ c. search small-is))

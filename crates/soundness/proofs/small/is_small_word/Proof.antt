@@ -7,15 +7,6 @@ use native.Mathlib.Omega.{arith}
 use Rattle.soundness.proofs.small.is_small_word.Statement.{statement}
 use Rattle.soundness.proofs.small.is_small_word.Tie as tie
 
-add-e : tie.Need-add-e
-add-e c = let S = c .before .before .before in omega (arith, full-inside width _ _ (S .pre .0) _ (S .pre .1 .0), S .pre .0 .high)
-
-mul-heap-within : tie.Need-mul-heap-within
-mul-heap-within c = let S = c .before .before .before in omega (arith, full-inside width _ _ (S .pre .0) _ (S .pre .1 .0), S .pre .0 .high)
-
-mul-heap-within-2 : tie.Need-mul-heap-within-2
-mul-heap-within-2 c = let S = c .before .before .before in omega (arith, full-inside width _ _ (S .pre .0) _ (S .pre .1 .0), S .pre .0 .high)
-
 heap-within-requires : tie.Need-heap-within-requires
 heap-within-requires c κs = let S = c .before .before .before .before .before in (S .pre .0, ((omega arith, omega (arith, full-inside width _ _ (S .pre .0) _ (S .pre .1 .0))), word-fits width _ _ _ _ (S .pre .0) (S .pre .1 .0) (S .pre .1 .1 .0) (S .args .a) (S .args .a % width) (omega arith) (omega arith) (omega (arith, full-inside width _ _ (S .pre .0) _ (S .pre .1 .0)))))
 
@@ -25,13 +16,13 @@ returns c = let S = c .before .before .before .before .before .before .before in
 all-small-requires : tie.Need-all-small-requires
 all-small-requires c κs = let S = c .before .before .before .before .before .before .before in (S .pre .0, (S .pre .1 .0, omega (arith, full-inside width _ _ (S .pre .0) _ (S .pre .1 .0))))
 
-returns-2 : tie.Need-returns-2
-returns-2 c = all-small _ _ _ _ (c .all-small .ensures)
-
 pub is-small-word-spec : {M : Type 1} → statement M
 is-small-word-spec =
     tie.close
-    (tie.spec (λ c. search needs) (λ c. search needs) add-e mul-heap-within mul-heap-within-2 (λ c. search needs) (λ c. search needs)
+    (tie.spec (λ c. search needs) (λ c. search needs)
+    (λ c. let S = c .before .before .before in omega (arith, full-inside width _ _ (S .pre .0) _ (S .pre .1 .0), S .pre .0 .high))
+    (λ c. let S = c .before .before .before in omega (arith, full-inside width _ _ (S .pre .0) _ (S .pre .1 .0), S .pre .0 .high))
+    (λ c. let S = c .before .before .before in omega (arith, full-inside width _ _ (S .pre .0) _ (S .pre .1 .0), S .pre .0 .high))
     (λ c. search needs) (λ c. search needs) (λ c. search needs) (λ c. search needs) (λ c. search needs) (λ c. search needs)
-    (λ c. search needs) (λ c. search needs) (λ c. search needs) (λ c. search needs) heap-within-requires returns all-small-requires
-    returns-2)
+    (λ c. search needs) (λ c. search needs) (λ c. search needs) (λ c. search needs) (λ c. search needs) (λ c. search needs)
+    heap-within-requires returns all-small-requires (λ c. search all-small))

@@ -23,6 +23,4 @@ returns-2 c =
     c .regs-at-most .ensures ∙ ap (λ (n : ℕ). atMost n (imageOf width (S .args .k) (S .args .im .now) .regs)) (omega (arith, c .before .before .before .last-full .ensures, c .before .before .before .before .full-words .ensures))
 
 pub low-regs-spec : {M : Type 1} → statement M
-low-regs-spec =
-    tie.close
-    (tie.spec (λ c κs. search needs) last-full-requires (λ c κs. search needs) returns (λ c κs. search needs) returns-2)
+low-regs-spec = tie.close (tie.spec (λ c κs. search needs) last-full-requires (λ c κs. search needs) returns (λ c κs. search needs) returns-2)

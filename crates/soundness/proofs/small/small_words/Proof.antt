@@ -16,29 +16,19 @@ Inv-loop im k targets bounds n g₀ g = SmallUpto k (imageOf width k im) g
 abbrev μ-loop : tie.MeasureT-loop
 μ-loop im k targets bounds n g₀ g = width * n - g
 
-loop-holds : tie.Need-loop-holds Inv-loop μ-loop
-loop-holds c = let S = c .before .before .before in upto-none width _ _ _ (S .pre .0) (S .pre .1 .0)
-
 mul-loop : tie.Need-mul-loop Inv-loop μ-loop
 mul-loop c = let S = c .before .before .before .before in omega (arith, full-inside width _ _ (S .pre .0) _ (S .pre .1 .0), S .pre .0 .high, S .pre .1 .1 .1)
 
 is-small-word-requires : tie.Need-is-small-word-requires Inv-loop μ-loop
 is-small-word-requires c κs = let S = c .before .before .before .before .before in (S .pre .0, (S .pre .1 .0, (S .pre .1 .1 .0, omega (arith, S .pre .1 .1 .1, c .loop-test .taken))))
 
-returns : tie.Need-returns Inv-loop μ-loop
-returns c = c .before .before .before .loop .inv
-
-add-g : tie.Need-add-g Inv-loop μ-loop
-add-g c = omega (arith, c .before .before .before .loop .inv .high, c .before .before .before .before .before .before .before .pre .0 .high)
-
 loop-again : tie.Need-loop-again Inv-loop μ-loop
 loop-again c = let S = c .before .before .before .before .before .before .before in upto-more width _ _ _ (S .pre .0) (S .pre .1 .0) _ (c .before .before .before .loop .inv) (omega (arith, S .pre .1 .1 .1, c .before .before .loop-test .taken)) (c .before .is-small-word .ensures (not-false _ (c .if1 .left)))
-
-returns-2 : tie.Need-returns-2 Inv-loop μ-loop
-returns-2 c = c .before .loop .inv
 
 pub small-words-spec : {M : Type 1} → statement M
 small-words-spec =
     tie.close
-    (tie.spec Inv-loop μ-loop loop-holds mul-loop is-small-word-requires returns (λ c. search needs) add-g (λ c. search needs) loop-again
-    returns-2)
+    (tie.spec Inv-loop μ-loop (λ c. search upto-none) mul-loop is-small-word-requires (λ c. c .before .before .before .loop .inv)
+    (λ c. search needs)
+    (λ c. omega (arith, c .before .before .before .loop .inv .high, c .before .before .before .before .before .before .before .pre .0 .high))
+    (λ c. search needs) loop-again (λ c. c .before .loop .inv))

@@ -10,23 +10,11 @@ use Rattle.soundness.proofs.starts.count_starts.Tie as tie
 abbrev Inv-loop : tie.InvT-loop
 Inv-loop im k n₀ i₀ n i = StartsCounted width k im n i
 
-abbrev μ-loop : tie.MeasureT-loop
-μ-loop im k n₀ i₀ n i = 64 * k / width - i
-
-loop-holds : tie.Need-loop-holds Inv-loop μ-loop
-loop-holds c = c-none _ _ _
-
-cast-n-2 : tie.Need-cast-n-2 Inv-loop μ-loop
-cast-n-2 c = omega (arith, ones-le width (c .start-word .result) (omega arith))
-
-add-n : tie.Need-add-n Inv-loop μ-loop
-add-n c = omega (arith, ones-le width (c .start-word .result) (omega arith), c-small _ _ _ _ _ (c .before .before .loop .inv))
-
-loop-again : tie.Need-loop-again Inv-loop μ-loop
-loop-again c = c-more _ _ _ _ _ _ (c .before .before .loop .inv) (c .before .loop-test .taken) (c .start-word .ensures) (omega arith)
-
 pub count-starts-spec : {M : Type 1} → statement M
 count-starts-spec =
     tie.close
-    (tie.spec Inv-loop μ-loop loop-holds (λ c. search needs) (λ c κs. search needs) (λ c. search needs) cast-n-2 add-n (λ c. search needs)
-    (λ c. search needs) loop-again (λ c. c-end _ _ _ _ _ (c .before .before .before .pre) (c .before .loop .inv) (c .loop-test .left)))
+    (tie.spec Inv-loop (λ im k n₀ i₀ n i. 64 * k / width - i) (λ c. search c-none) (λ c. search needs) (λ c κs. search needs)
+    (λ c. search needs)
+    (λ c. omega (arith, ones-le width (c .start-word .result) (omega arith)))
+    (λ c. omega (arith, ones-le width (c .start-word .result) (omega arith), c-small _ _ _ _ _ (c .before .before .loop .inv)))
+    (λ c. search needs) (λ c. search needs) (λ c. search c-more) (λ c. search c-end))

@@ -2,7 +2,6 @@ use Rattle.model.specs.Image.{imageOf}
 use Rattle.image.specs.Layout.{width}
 use Rattle.tracers_laws.proofs.Marks.{MarksBelow, marks-none, marks-all, marks-more}
 use Prim.Native.Nat.{_-_, _/_, _≤_}
-use native.Mathlib.Omega.{arith}
 use borrow.Author.Needs.{needs}
 use Rattle.tracers.proofs.marks.card_marks.Statement.{statement}
 use Rattle.tracers.proofs.marks.card_marks.Tie as tie
@@ -10,20 +9,9 @@ use Rattle.tracers.proofs.marks.card_marks.Tie as tie
 abbrev Inv-loop : tie.InvT-loop
 Inv-loop im k c marks₀ i₀ marks i = (i ≤ 64 / width) × MarksBelow width (imageOf width k im) c i marks
 
-abbrev μ-loop : tie.MeasureT-loop
-μ-loop im k c marks₀ i₀ marks i = 64 / width - i
-
-loop-holds : tie.Need-loop-holds Inv-loop μ-loop
-loop-holds c = (omega arith, marks-none _ _ _)
-
-loop-again : tie.Need-loop-again Inv-loop μ-loop
-loop-again c = (omega arith, search marks-more)
-
-returns : tie.Need-returns Inv-loop μ-loop
-returns c = search marks-all
-
 pub card-marks-spec : {M : Type 1} → statement M
 card-marks-spec =
     tie.close
-    (tie.spec Inv-loop μ-loop loop-holds (λ c. search needs) (λ c. search needs) (λ c κs. search needs) (λ c. search needs)
-    (λ c. search needs) (λ c. search needs) (λ c. search needs) (λ c. search needs) loop-again returns)
+    (tie.spec Inv-loop (λ im k c marks₀ i₀ marks i. 64 / width - i) (λ c. (search needs, marks-none _ _ _)) (λ c. search needs)
+    (λ c. search needs) (λ c κs. search needs) (λ c. search needs) (λ c. search needs) (λ c. search needs) (λ c. search needs)
+    (λ c. search needs) (λ c. (search needs, search marks-more)) (λ c. search marks-all))

@@ -7,25 +7,14 @@ use lib.Count.{trailing-le}
 use Rattle.tracers.proofs.marks.next_marked.Statement.{statement}
 use Rattle.tracers.proofs.marks.next_marked.Tie as tie
 
-returns : tie.Need-returns
-returns c = search next-past
-
-returns-2 : tie.Need-returns-2
-returns-2 c = let A = c .before .before .before .before .args in next-none _ _ (A .from) _ _ (omega arith) (omega arith) (c .before .card-marks .ensures) refl (c .if2 .taken)
-
-cast-t : tie.Need-cast-t
-cast-t c = omega (arith, trailing-le 64 (c .before .card-marks .result / 2 ^ (c .before .before .before .before .args .from % 64)))
-
-add-result : tie.Need-add-result
-add-result c = omega (arith, trailing-le 64 (c .before .card-marks .result / 2 ^ (c .before .before .before .before .args .from % 64)))
-
-add-result-2 : tie.Need-add-result-2
-add-result-2 c = omega (arith, trailing-le 64 (c .before .card-marks .result / 2 ^ (c .before .before .before .before .args .from % 64)))
-
 returns-3 : tie.Need-returns-3
 returns-3 c = let A = c .before .before .before .before .args in next-found _ _ (A .from) _ _ (omega arith) (omega arith) (c .before .card-marks .ensures) refl _ (omega arith) (c .if2 .left) refl
 
 pub next-marked-spec : {M : Type 1} → statement M
 next-marked-spec =
     tie.close
-    (tie.spec (λ c. search needs) returns (λ c κs. search needs) (λ c. search needs) returns-2 cast-t add-result add-result-2 returns-3)
+    (tie.spec (λ c. search needs) (λ c. search next-past) (λ c κs. search needs) (λ c. search needs) (λ c. search next-none)
+    (λ c. omega (arith, trailing-le 64 (c .before .card-marks .result / 2 ^ (c .before .before .before .before .args .from % 64))))
+    (λ c. omega (arith, trailing-le 64 (c .before .card-marks .result / 2 ^ (c .before .before .before .before .args .from % 64))))
+    (λ c. omega (arith, trailing-le 64 (c .before .card-marks .result / 2 ^ (c .before .before .before .before .args .from % 64))))
+    returns-3)

@@ -3,12 +3,10 @@ use Rattle.tracers_laws.proofs.Tracer.{tracer-read}
 use Rattle.tracers.proofs.tracer.read_tracer.Statement.{statement}
 use Rattle.tracers.proofs.tracer.read_tracer.Tie as tie
 
-returns : tie.Need-returns
-returns c = search tracer-read
-
 pub read-tracer-spec : {M : Type 1} → statement M
 read-tracer-spec =
     tie.close
-    (tie.spec (λ c. search needs) (λ c κs. search needs) (λ c. search needs) (λ c. search needs) (λ c κs. search needs) (λ c. search needs)
-    (λ c. search needs) (λ c κs. search needs) (λ c. search needs) (λ c. search needs) (λ c κs. search needs) (λ c. search needs)
-    (λ c. search needs) (λ c κs. search needs) (λ c. search needs) (λ c. search needs) (λ c κs. search needs) returns)
+    (tie.spec (λ c. search needs) (λ c κs. search needs) (λ c. search needs) (λ c. search needs) (λ c κs. search needs)
+    (λ c. search needs) (λ c. search needs) (λ c κs. search needs) (λ c. search needs) (λ c. search needs) (λ c κs. search needs)
+    (λ c. search needs) (λ c. search needs) (λ c κs. search needs) (λ c. search needs) (λ c. search needs) (λ c κs. search needs)
+    (λ c. search tracer-read))

@@ -4,14 +4,12 @@ use native.Mathlib.Omega.{arith}
 use Rattle.work_packets.proofs.packet.append_entry.Statement.{statement}
 use Rattle.work_packets.proofs.packet.append_entry.Tie as tie
 
-push-requires : tie.Need-push-requires
-push-requires c κs = omega (arith, packet-count _ _ _ (c .read-packet .ensures))
-
 write-packet-requires : tie.Need-write-packet-requires
 write-packet-requires c κs = (search needs, (omega arith, omega (arith, pushed-count _ _ _ (c .before .push .ensures), packet-count _ _ _ (c .before .before .read-packet .ensures))))
 
-returns : tie.Need-returns
-returns c = search append-done
-
 pub append-entry-spec : {M : Type 1} → statement M
-append-entry-spec = tie.close (tie.spec (λ c κs. search needs) push-requires write-packet-requires (λ c. search needs) returns)
+append-entry-spec =
+    tie.close
+    (tie.spec (λ c κs. search needs)
+    (λ c κs. omega (arith, packet-count _ _ _ (c .read-packet .ensures)))
+    write-packet-requires (λ c. search needs) (λ c. search append-done))

@@ -1,7 +1,6 @@
 use mathlib.Core.Path.{_≡_, sym, _∙_}
 use mathlib.Core.List.{_∷_}
 use Prim.Native.Nat.{_+_, _-_, _≤_}
-use native.Mathlib.Omega.{arith}
 use borrow.Author.Needs.{needs}
 use lib.ListN.{length, take, length-set}
 use Rattle.tracers_laws.specs.Packet.{wordsOf}
@@ -15,28 +14,18 @@ Inv-loop s₀ n e j₀ s j = (j ≤ 30) × (take (j + 2) s ≡ n ∷ 0 ∷ take 
 abbrev μ-loop : tie.MeasureT-loop
 μ-loop s₀ n e j₀ s j = 30 - j
 
-slice-write-s-2 : tie.Need-slice-write-s-2 Inv-loop μ-loop
-slice-write-s-2 c = simp length-set (omega arith)
-
-loop-holds : tie.Need-loop-holds Inv-loop μ-loop
-loop-holds c = (omega arith, headed-first _ _ (c .before .args .s .now) (c .before .pre .0), simp length-set (c .before .pre .0), search needs)
-
 loop-again : tie.Need-loop-again Inv-loop μ-loop
 loop-again c =
     let L = c .before .loop in
-    (omega arith, headed-more _ _ _ (L .s) (L .j) (L .inv .1) (omega arith) (omega arith), simp length-set (L .inv .2), L .inv .3)
-
-same-length : tie.Need-same-length Inv-loop μ-loop
-same-length c = c .before .loop .inv .2 ∙ sym (c .before .before .before .pre .0)
-
-returns : tie.Need-returns Inv-loop μ-loop
-unfolding wordsOf
-returns c =
-    let L = c .before .loop in
-    headed-done _ _ _ (L .s) (L .j) (L .inv .1) (omega arith) (L .inv .3) (omega arith)
+    (search needs, headed-more _ _ _ (L .s) (L .j) (L .inv .1) (search needs) (search needs), simp length-set (L .inv .2), L .inv .3)
 
 pub put-words-spec : {M : Type 1} → statement M
+unfolding wordsOf
 put-words-spec =
     tie.close
-    (tie.spec Inv-loop μ-loop (λ c. search needs) (λ c. search needs) slice-write-s-2 loop-holds (λ c. search needs) (λ c. search needs)
-    (λ c. search needs) (λ c. search needs) (λ c. search needs) (λ c. search needs) (λ c. search needs) loop-again same-length returns)
+    (tie.spec Inv-loop μ-loop (λ c. search needs) (λ c. search needs) (λ c. simp length-set (search needs))
+    (λ c. (search needs, headed-first _ _ (c .before .args .s .now) (c .before .pre .0), simp length-set (c .before .pre .0), search needs))
+    (λ c. search needs) (λ c. search needs) (λ c. search needs) (λ c. search needs) (λ c. search needs) (λ c. search needs)
+    (λ c. search needs) loop-again
+    (λ c. c .before .loop .inv .2 ∙ sym (c .before .before .before .pre .0))
+    (λ c. search headed-done))

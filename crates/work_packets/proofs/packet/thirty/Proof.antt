@@ -1,6 +1,5 @@
 use mathlib.Core.Path.{_≡_}
 use Prim.Native.Nat.{_-_, _≤_}
-use native.Mathlib.Omega.{arith}
 use borrow.Author.Needs.{needs}
 use lib.ListN.{length, take, length-set}
 use Rattle.tracers_laws.proofs.Copy.{alike-more, alike-done}
@@ -16,16 +15,13 @@ abbrev μ-loop : tie.MeasureT-loop
 loop-again : tie.Need-loop-again Inv-loop μ-loop
 loop-again c =
     let L = c .before .before .loop in (
-      omega arith,
-      alike-more (c .before .before .before .args .s .now) (L .e) (L .j) (L .inv .1) (omega arith) (omega arith),
+      search needs,
+      alike-more (c .before .before .before .args .s .now) (L .e) (L .j) (L .inv .1) (search needs) (search needs),
       simp length-set (L .inv .2),
     )
-
-returns : tie.Need-returns Inv-loop μ-loop
-returns c = search alike-done
 
 pub thirty-spec : {M : Type 1} → statement M
 thirty-spec =
     tie.close
     (tie.spec Inv-loop μ-loop (λ c. search needs) (λ c. search needs) (λ c. search needs) (λ c. search needs) (λ c. search needs)
-    (λ c. search needs) (λ c. search needs) loop-again returns)
+    (λ c. search needs) (λ c. search needs) loop-again (λ c. search alike-done))

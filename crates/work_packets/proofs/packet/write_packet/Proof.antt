@@ -1,6 +1,5 @@
 use borrow.Author.Needs.{needs}
 use Rattle.tracers_laws.proofs.Packet.{packet-written}
-use native.Mathlib.Omega.{arith}
 use Rattle.work_packets.specs.Plain.{packetOf}
 use Rattle.image.specs.Layout.{width, perCard, packetsFrom}
 use Prim.Native.Nat.{_+_, _*_}
@@ -10,7 +9,7 @@ use Rattle.work_packets.proofs.packet.write_packet.Tie as tie
 returns : tie.Need-returns
 returns c =
     let A = c .before .before .before .before .before .args in
-    packet-written width (A .k) (A .im .now) (search needs) (A .p) (omega arith) (perCard * A .k + packetsFrom + 32 * A .p) (omega arith) (packetOf (A .q)) (search needs) _ (c .before .before .put-words .ensures)
+    packet-written width (A .k) (A .im .now) (search needs) (A .p) (search needs) (perCard * A .k + packetsFrom + 32 * A .p) (search needs) (packetOf (A .q)) (search needs) _ (c .before .before .put-words .ensures)
 
 pub write-packet-spec : {M : Type 1} → statement M
 write-packet-spec =

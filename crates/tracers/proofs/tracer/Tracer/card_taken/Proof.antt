@@ -1,12 +1,8 @@
 use borrow.Author.Needs.{needs}
 use Rattle.tracers_laws.specs.Tracer.{cardTaken}
-use mathlib.Core.Path.{refl}
 use Rattle.tracers.proofs.tracer.Tracer.card_taken.Statement.{statement}
 use Rattle.tracers.proofs.tracer.Tracer.card_taken.Tie as tie
 
-returns : tie.Need-returns
-unfolding cardTaken
-returns c = refl
-
 pub card-taken-spec : {M : Type 1} → statement M
-card-taken-spec = tie.close (tie.spec (λ c. search needs) (λ c. search needs) returns)
+unfolding cardTaken
+card-taken-spec = tie.close (tie.spec (λ c. search needs) (λ c. search needs) (λ c. search needs))

@@ -1,12 +1,8 @@
 use borrow.Author.Needs.{needs}
 use Rattle.tracers_laws.specs.Tracer.{granuleMovesOn}
-use mathlib.Core.Path.{refl}
 use Rattle.tracers.proofs.tracer.Tracer.granule_moves_on.Statement.{statement}
 use Rattle.tracers.proofs.tracer.Tracer.granule_moves_on.Tie as tie
 
-returns : tie.Need-returns
-unfolding granuleMovesOn
-returns c = refl
-
 pub granule-moves-on-spec : {M : Type 1} → statement M
-granule-moves-on-spec = tie.close (tie.spec (λ c. search needs) returns)
+unfolding granuleMovesOn
+granule-moves-on-spec = tie.close (tie.spec (λ c. search needs) (λ c. search needs))

@@ -3,9 +3,6 @@ use mathlib.Core.Path.{refl}
 use Rattle.tracers.proofs.tracer.Tracer.object_in_hand.Statement.{statement}
 use Rattle.tracers.proofs.tracer.Tracer.object_in_hand.Tie as tie
 
-returns : tie.Need-returns
-unfolding objectInHand
-returns c = refl
-
 pub object-in-hand-spec : {M : Type 1} → statement M
-object-in-hand-spec = tie.close (tie.spec returns)
+unfolding objectInHand
+object-in-hand-spec = tie.close (tie.spec (λ c. refl))

@@ -3,9 +3,6 @@ use mathlib.Core.Path.{refl}
 use Rattle.tracers.proofs.tracer.Tracer.output_taken.Statement.{statement}
 use Rattle.tracers.proofs.tracer.Tracer.output_taken.Tie as tie
 
-returns : tie.Need-returns
-unfolding outputTaken
-returns c = refl
-
 pub output-taken-spec : {M : Type 1} → statement M
-output-taken-spec = tie.close (tie.spec returns)
+unfolding outputTaken
+output-taken-spec = tie.close (tie.spec (λ c. refl))

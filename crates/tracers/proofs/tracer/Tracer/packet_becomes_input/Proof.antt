@@ -3,9 +3,6 @@ use mathlib.Core.Path.{refl}
 use Rattle.tracers.proofs.tracer.Tracer.packet_becomes_input.Statement.{statement}
 use Rattle.tracers.proofs.tracer.Tracer.packet_becomes_input.Tie as tie
 
-returns : tie.Need-returns
-unfolding packetBecomesInput
-returns c = refl
-
 pub packet-becomes-input-spec : {M : Type 1} → statement M
-packet-becomes-input-spec = tie.close (tie.spec returns)
+unfolding packetBecomesInput
+packet-becomes-input-spec = tie.close (tie.spec (λ c. refl))

@@ -1,12 +1,8 @@
 use borrow.Author.Needs.{needs}
 use Rattle.model.specs.Base.{nth}
-use mathlib.Core.Path.{refl}
 use Rattle.work_packets.proofs.packet.Packet.last.Statement.{statement}
 use Rattle.work_packets.proofs.packet.Packet.last.Tie as tie
 
-returns : tie.Need-returns
-unfolding nth
-returns c = refl
-
 pub last-spec : {M : Type 1} → statement M
-last-spec = tie.close (tie.spec (λ c. search needs) (λ c. search needs) (λ c. search needs) returns)
+unfolding nth
+last-spec = tie.close (tie.spec (λ c. search needs) (λ c. search needs) (λ c. search needs) (λ c. search needs))

@@ -1,13 +1,9 @@
 use borrow.Author.Needs.{needs}
 use Rattle.tracers_laws.specs.Packet.{withoutLast}
 use Rattle.model.specs.Base.{put}
-use mathlib.Core.Path.{refl}
 use Rattle.work_packets.proofs.packet.Packet.pop.Statement.{statement}
 use Rattle.work_packets.proofs.packet.Packet.pop.Tie as tie
 
-returns : tie.Need-returns
-unfolding withoutLast put
-returns c = refl
-
 pub pop-spec : {M : Type 1} → statement M
-pop-spec = tie.close (tie.spec (λ c. search needs) (λ c. search needs) (λ c. search needs) returns)
+unfolding withoutLast put
+pop-spec = tie.close (tie.spec (λ c. search needs) (λ c. search needs) (λ c. search needs) (λ c. search needs))

@@ -1,13 +1,9 @@
 use borrow.Author.Needs.{needs}
 use Rattle.tracers_laws.specs.Packet.{withEntry}
 use Rattle.model.specs.Base.{put}
-use mathlib.Core.Path.{refl}
 use Rattle.work_packets.proofs.packet.Packet.push.Statement.{statement}
 use Rattle.work_packets.proofs.packet.Packet.push.Tie as tie
 
-returns : tie.Need-returns
-unfolding withEntry put
-returns c = refl
-
 pub push-spec : {M : Type 1} → statement M
-push-spec = tie.close (tie.spec (λ c. search needs) (λ c. search needs) (λ c. search needs) returns)
+unfolding withEntry put
+push-spec = tie.close (tie.spec (λ c. search needs) (λ c. search needs) (λ c. search needs) (λ c. search needs))
