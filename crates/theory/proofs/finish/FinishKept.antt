@@ -1,5 +1,5 @@
 -- A finish keeps "undamaged": links and registers of what it leaves are nil or kept.
-use mathlib.Core.Path.{_≡_, _∙_, ap}
+use mathlib.Core.Path.{_≡_, _∙_}
 use mathlib.Core.Logic.{inl, inr}
 use mathlib.Core.Bool.{true, false}
 use Prim.Native.Nat.{ℕ, _*_, _<_, _+_, _/_, _%_, _≤_}

@@ -1,7 +1,7 @@
 -- Chains, and safety: with Cover, a finish keeps what a chain from a register reaches.
 use mathlib.Core.Path.{_≡_, refl, sym, subst, _∙_}
 use mathlib.Core.Logic.{inl, inr}
-use mathlib.Core.Bool.{true, false}
+use mathlib.Core.Bool.{true}
 use Prim.Native.Nat.{ℕ, _<_}
 use native.Mathlib.Omega.{arith}
 use Rattle.model.specs.Image.{Image, granules, isStart, marked, links, link, reg}

@@ -1,4 +1,3 @@
-use mathlib.Core.Path.{refl}
 use borrow.Author.Needs.{needs}
 use Rattle.soundness_laws.specs.Tests.{twoBelow}
 use Rattle.judge.proofs.cover.two_plain.Statement.{statement}

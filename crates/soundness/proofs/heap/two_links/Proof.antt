@@ -1,4 +1,3 @@
-use mathlib.Core.Path.{refl}
 use borrow.Author.Needs.{needs}
 use Rattle.soundness_laws.specs.Tests.{twoBelow}
 use Rattle.soundness.proofs.heap.two_links.Statement.{statement}
