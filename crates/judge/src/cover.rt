@@ -6,7 +6,7 @@ ghost use Rattle.model.specs.Base.{all, any};
 ghost use Rattle.model.specs.Image.{imageOf, marked};
 ghost use Rattle.model.specs.Undamaged.{cover};
 ghost use Rattle.image_laws.specs.Sized.{Sized};
-ghost use Rattle.soundness_laws.specs.Tests.{wordwise, twoBelow};
+ghost use Rattle.soundness_laws.specs.Tests.{wordwise};
 ghost use Rattle.soundness_laws.specs.Sets.{EnteredSet};
 ghost use Rattle.judge_laws.specs.Order.{Coverable, handComes, cardComes, holds, owesHolding, plain, coming, late, objectCovered};
 ghost use Rattle.judge_laws.specs.Near.{MarkedStretch};
@@ -155,16 +155,6 @@ pub fn first_plain(im: &[Word], k: usize, table: &[Word], g: usize, n: usize) ->
     ((n < 1) | is_plain(im, k, table, g, 0)) & ((n < 2) | is_plain(im, k, table, g, 1))
 }
 
-// Link i and the next one, with no branch on whether that is one.
-pub fn two_plain(im: &[Word], k: usize, table: &[Word], g: usize, n: usize, i: usize) -> bool
-    requires { ⌜ Sized width k (now im) ⌝ }
-    requires { ⌜ LinkTable width k (imageOf width k (now im)) (now table) ⌝ }
-    requires { ⌜ 4 * g + 4 + i ≤ 256 * k ⌝ }
-    ensures { λ r. ⌜ r ≡ twoBelow n (plain (imageOf width k (now (im .entry))) g) i ⌝ }
-{
-    is_plain(im, k, table, g, i) & ((n <= i + 1) | is_plain(im, k, table, g, i + 1))
-}
-
 pub fn all_plain(im: &[Word], k: usize, table: &[Word], g: usize, n: usize) -> bool
     requires { ⌜ Sized width k (now im) ⌝ }
     requires { ⌜ LinkTable width k (imageOf width k (now im)) (now table) ⌝ }
@@ -172,10 +162,10 @@ pub fn all_plain(im: &[Word], k: usize, table: &[Word], g: usize, n: usize) -> b
     ensures { λ r. ⌜ r ≡ all n (plain (imageOf width k (now (im .entry))) g) ⌝ }
 {
     let mut ok = first_plain(im, k, table, g, n);
-    let mut i = 2;
+    let mut i = soundness::least(2, n);
     while i < n {
-        ok = ok & two_plain(im, k, table, g, n, i);
-        i += 2;
+        ok = ok & is_plain(im, k, table, g, i);
+        i += 1;
     }
     ok
 }

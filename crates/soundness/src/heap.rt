@@ -10,7 +10,7 @@ ghost use Rattle.image_laws.specs.Digits.{digit};
 ghost use Rattle.soundness_laws.specs.Sets.{Targets};
 ghost use Rattle.soundness_laws.specs.Small.{SmallUpto};
 ghost use Rattle.image.specs.Layout.{width, most};
-ghost use Rattle.soundness_laws.specs.Tests.{LinksInside, twoBelow, linkOk, objectOk, runOk, pieceOk, nextRun};
+ghost use Rattle.soundness_laws.specs.Tests.{LinksInside, linkOk, objectOk, runOk, pieceOk, nextRun};
 use image::layout::Word;
 
 // ---- registers, and links of the object at g
@@ -65,16 +65,6 @@ pub fn first_links(im: &[Word], k: usize, targets: &[Word], g: usize, n: usize) 
     ((n < 1) | link_ok(im, k, targets, g, 0)) & ((n < 2) | link_ok(im, k, targets, g, 1))
 }
 
-// Link i and the next one, with no branch on whether that is one.
-pub fn two_links(im: &[Word], k: usize, targets: &[Word], g: usize, n: usize, i: usize) -> bool
-    requires { ⌜ Sized width k (now im) ⌝ }
-    requires { ⌜ Targets width (imageOf width k (now im)) (now targets) ⌝ }
-    requires { ⌜ 4 * g + 4 + i ≤ 256 * k ⌝ }
-    ensures { λ r. ⌜ r ≡ twoBelow n (linkOk (imageOf width k (now (im .entry))) g) i ⌝ }
-{
-    link_ok(im, k, targets, g, i) & ((n <= i + 1) | link_ok(im, k, targets, g, i + 1))
-}
-
 pub fn links_ok(im: &[Word], k: usize, targets: &[Word], g: usize, n: usize) -> bool
     requires { ⌜ Sized width k (now im) ⌝ }
     requires { ⌜ Targets width (imageOf width k (now im)) (now targets) ⌝ }
@@ -82,10 +72,10 @@ pub fn links_ok(im: &[Word], k: usize, targets: &[Word], g: usize, n: usize) -> 
     ensures { λ r. ⌜ r ≡ all n (linkOk (imageOf width k (now (im .entry))) g) ⌝ }
 {
     let mut ok = first_links(im, k, targets, g, n);
-    let mut i = 2;
+    let mut i = crate::least(2, n);
     while i < n {
-        ok = ok & two_links(im, k, targets, g, n, i);
-        i += 2;
+        ok = ok & link_ok(im, k, targets, g, i);
+        i += 1;
     }
     ok
 }

@@ -1,20 +1,20 @@
 -- Loops that test every number below n, as `all n p` or `any n p`; laws of these tests.
-use mathlib.Core.Path.{_≡_, refl, sym, ap, _∙_}
+use mathlib.Core.Path.{_≡_, refl, sym, _∙_}
 use mathlib.Core.Logic.{inl, inr}
 use mathlib.Core.Bool.{Bool, true, false, _&&_, _||_, and-true, and-assoc, and-comm}
-use Prim.Native.Nat.{ℕ, zero, suc, _+_, _≤_, _<_, min, _-_, _%_}
+use Prim.Native.Nat.{ℕ, zero, suc, _+_, _≤_, _<_, min, _-_}
 use native.Mathlib.Numerals.{add-one}
 use native.Mathlib.Nat.{add-zero, add-suc}
 use native.Mathlib.Decide.{ℕ-discrete, decLt}
 use native.Mathlib.Omega.{arith}
 use lib.Dec.{ltb}
-use borrow.Author.Tests.{le-ltb, lt-ltb, le-leb, lt-leb}
+use borrow.Author.Tests.{le-ltb, lt-ltb}
 use lib.ListN.{take, drop}
 use Rattle.model.specs.Base.{nth, all, any, every}
 use Rattle.model.proofs.Entries.{nth-drop, nth-take}
 use Rattle.image_laws.proofs.Parts.{all-cong}
 use Rattle.model.proofs.Laws.{false≢, bool-cases, all-use}
-use Rattle.soundness_laws.specs.Tests.{onward, twoBelow}
+use Rattle.soundness_laws.specs.Tests.{onward}
 use mathlib.Core.List.{List, [], _∷_}
 
 -- ---- `ok` says whether all below i pass
@@ -36,6 +36,9 @@ first-two p (suc (suc n)) a b ea eb =
     let e : min 2 (suc (suc n)) ≡ 2 = omega arith in
     rw (e, ea, eb, le-ltb (suc (suc n)) 1 (omega arith), le-ltb (suc (suc n)) 2 (omega arith))
 
+pub after-two : (n : ℕ) (p : ℕ → Bool) (ok : Bool) (i : ℕ) → i ≡ min 2 n → ok ≡ all (min 2 n) p → Checked n p ok i
+after-two n p ok i h e = record { within = omega arith; so-far = rw (← h) at e }
+
 pub checked-more : (n : ℕ) (p : ℕ → Bool) (ok : Bool) (i : ℕ) (t : Bool) → Checked n p ok i → i < n → t ≡ p i → Checked n p (ok && t) (i + 1)
 unfolding all
 checked-more n p ok i t s h e = rw add-one (record { within = omega arith; so-far = rw (s .so-far, e) })
@@ -45,33 +48,6 @@ checked-end n p ok i s h = let e : i ≡ n = omega (arith, s .within) in rw e at
 
 pub checked-stop : (n : ℕ) (p : ℕ → Bool) (i : ℕ) → i < n → p i ≡ false → false ≡ all n p
 checked-stop n p i h e = elim (bool-cases (all n p)) [ inl q ↦ false≢ (sym e ∙ all-use n p q i h) | inr q ↦ sym q ]
-
--- ---- by twos, the last of which may lie behind the end
-
--- `ok` says whether all below i and n pass
-pub record CheckedTo (n : ℕ) (p : ℕ → Bool) (ok : Bool) (i : ℕ) : Type 0 where
-  pub even : i % 2 ≡ 0
-  pub so-far : ok ≡ all (min i n) p
-
-module _ (n : ℕ) (p : ℕ → Bool) (ok : Bool) where
-  pub after-two : ok ≡ all (min 2 n) p → CheckedTo n p ok 2
-  after-two e = record { even = refl; so-far = e }
-
-  module _ (i : ℕ) (s : CheckedTo n p ok i) where
-    pub two-more : (t : Bool) → i < n → t ≡ twoBelow n p i → CheckedTo n p (ok && t) (i + 2)
-    unfolding all twoBelow
-    two-more t h e =
-        let here : min i n ≡ i = omega arith in
-        record {
-          even = omega (arith, s .even);
-          so-far = elim (decLt (i + 1) n) [
-            | yes q ↦ let o : min (i + 2) n ≡ suc (suc i) = omega arith in rw (e, o, lt-leb n (i + 1) q, s .so-far, here, add-one) (sym (and-assoc (all i p) (p i) (p (suc i))))
-            | no q ↦ let o : min (i + 2) n ≡ suc i = omega arith in rw (e, o, le-leb n (i + 1) (omega arith), s .so-far, here) (ap (λ b. all i p && b) (and-true (p i)))
-          ];
-        }
-
-    pub to-end : n ≤ i → ok ≡ all n p
-    to-end h = let e : min i n ≡ n = omega arith in rw e at (s .so-far)
 
 -- ---- the same from a to e - 1
 

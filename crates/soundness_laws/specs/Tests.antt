@@ -1,9 +1,9 @@
 -- The tests of an image as the code makes them, and what one of them may rely on.
 use mathlib.Core.Path.{_≡_}
-use mathlib.Core.Bool.{Bool, true, false, not, cond, _&&_, _||_}
+use mathlib.Core.Bool.{Bool, true, false, not, cond}
 use mathlib.Core.List.{[], _∷_}
 use Prim.Native.Nat.{ℕ, zero, suc, _+_, _*_, _≤_, _<_}
-use lib.Dec.{eqb, leb, ltb}
+use lib.Dec.{eqb, ltb}
 use lib.ListN.{take, drop}
 use Rattle.model.specs.Base.{all, every, distinct, eachPiece, zeroes}
 use Rattle.model.specs.Image.{Image, granules, word, isStart, marked, links, link, count, entry, entries, scanned}
@@ -21,10 +21,6 @@ wordwise w p i = all w (atWord w p i)
 -- the number i places behind a passes
 unfoldable pub onward : ℕ → (ℕ → Bool) → ℕ → Bool
 onward a p i = p (a + i)
-
--- the number i passes, and the next, if that is below n
-unfoldable pub twoBelow : ℕ → (ℕ → Bool) → ℕ → Bool
-twoBelow n p i = p i && (leb n (i + 1) || p (i + 1))
 
 module _ (m : Image) where
   -- ---- the heap
