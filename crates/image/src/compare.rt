@@ -4,10 +4,8 @@ ghost use Prim.Native.Nat.{_+_, _*_, _-_, _≤_};
 ghost use lib.ListN.{length, take, drop};
 ghost use Rattle.model.specs.Image.{imageOf};
 ghost use Rattle.image_laws.specs.Sized.{Sized};
-ghost use Rattle.image_laws.specs.Compare.{within, atMost, near};
+ghost use Rattle.image_laws.specs.Compare.{within, near};
 ghost use Rattle.image.specs.Layout.{width};
-use crate::layout::PACKETS;
-use crate::layout::PER_CARD;
 use crate::layout::Word;
 
 // Each word of s lies between those of low and high at its place.
@@ -19,19 +17,6 @@ pub fn are_within(s: &[Word], low: &[Word], high: &[Word]) -> bool
     let mut i = 0;
     while i < s.len() {
         bad = bad | (s[i] < low[i]) | (high[i] < s[i]);
-        i += 1;
-    }
-    !bad
-}
-
-// No word of s is above top.
-pub fn are_at_most(s: &[Word], top: Word) -> bool
-    ensures { λ r. ⌜ r ≡ atMost top (now (s .entry)) ⌝ }
-{
-    let mut bad = false;
-    let mut i = 0;
-    while i < s.len() {
-        bad = bad | (top < s[i]);
         i += 1;
     }
     !bad
@@ -68,13 +53,4 @@ pub fn heap_near(im: &[Word], k: usize, a: usize, e: usize, from: Word, end: Wor
     ensures { λ r. ⌜ r ≡ near from end (take (e - a) (drop a (imageOf width k (now (im .entry)) .heap))) ⌝ }
 {
     are_near(&im[a..e], from, end)
-}
-
-pub fn regs_at_most(im: &[Word], k: usize, top: Word) -> bool
-    requires { ⌜ Sized width k (now im) ⌝ }
-    ensures { λ r. ⌜ r ≡ atMost top (imageOf width k (now (im .entry)) .regs) ⌝ }
-{
-    let a = PER_CARD * k;
-    let e = PER_CARD * k + PACKETS;
-    are_at_most(&im[a..e], top)
 }

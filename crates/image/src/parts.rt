@@ -62,6 +62,15 @@ pub fn zero_marks(im: &[Word], k: usize) -> bool
     zeros(&im[a..e])
 }
 
+pub fn zero_regs(im: &[Word], k: usize) -> bool
+    requires { ⌜ Sized width k (now im) ⌝ }
+    ensures { λ r. ⌜ r ≡ zeroes (imageOf width k (now (im .entry)) .regs) ⌝ }
+{
+    let a = PER_CARD * k;
+    let e = PER_CARD * k + PACKETS;
+    zeros(&im[a..e])
+}
+
 pub fn zero_packets(im: &[Word], k: usize) -> bool
     requires { ⌜ Sized width k (now im) ⌝ }
     ensures { λ r. ⌜ r ≡ zeroes (imageOf width k (now (im .entry)) .packets) ⌝ }

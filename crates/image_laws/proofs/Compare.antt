@@ -1,5 +1,5 @@
 -- Words held to bounds, all of a list at once: the loop that does it, and the list's stretch of the slice.
-use Rattle.image_laws.specs.Compare.{between, noMore, nearAt}
+use Rattle.image_laws.specs.Compare.{between, nearAt}
 use Rattle.image_laws.proofs.Split.{split-is, split-part}
 use Rattle.model.specs.Base.{nth, all, every, some}
 use Rattle.model.specs.Image.{place, lengths, split}
@@ -55,10 +55,6 @@ module _ (s : List ℕ) (bad : Bool) (i : ℕ) (h : i < length s) where
   pub within-more : (low high : List ℕ) → NoneBad (length s) (between low high s) bad i → NoneBad (length s) (between low high s) ((bad || ltb (nth s i) (nth low i)) || ltb (nth high i) (nth s i)) (i + 1)
   unfolding between every
   within-more low high v = bad-more _ _ bad i _ v h (simp (not-or, and-assoc, and-true, not-less))
-
-  pub most-more : (top : ℕ) → NoneBad (length s) (noMore top s) bad i → NoneBad (length s) (noMore top s) (bad || ltb top (nth s i)) (i + 1)
-  unfolding noMore
-  most-more top v = bad-more _ _ bad i _ v h (simp (not-or, not-less))
 
   pub near-more : (from end : ℕ) → NoneBad (length s) (nearAt from end s) bad i → NoneBad (length s) (nearAt from end s) (bad || (ltb 2 (nth s i) && (ltb (nth s i) from || leb end (nth s i)))) (i + 1)
   unfolding nearAt some every

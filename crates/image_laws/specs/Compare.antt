@@ -13,12 +13,6 @@ between low high ws i = every (leb (nth low i) (nth ws i) ∷ leb (nth ws i) (nt
 unfoldable pub within : List ℕ → List ℕ → List ℕ → Bool
 within low high ws = all (length ws) (between low high ws)
 
-unfoldable pub noMore : ℕ → List ℕ → ℕ → Bool
-noMore top ws i = leb (nth ws i) top
-
-unfoldable pub atMost : ℕ → List ℕ → Bool
-atMost top ws = all (length ws) (noMore top ws)
-
 unfoldable pub nearAt : ℕ → ℕ → List ℕ → ℕ → Bool
 nearAt from end ws i = some (leb (nth ws i) 2 ∷ every (leb from (nth ws i) ∷ ltb (nth ws i) end ∷ []) ∷ [])
 

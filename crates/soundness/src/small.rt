@@ -6,7 +6,6 @@ ghost use lib.ListN.{length};
 ghost use Rattle.model.specs.Base.{all};
 ghost use Rattle.model.specs.Image.{imageOf};
 ghost use Rattle.image_laws.specs.Sized.{Sized};
-ghost use Rattle.image_laws.specs.Compare.{atMost};
 ghost use Rattle.image.specs.Layout.{width};
 ghost use Rattle.soundness_laws.specs.Tests.{onward};
 ghost use Rattle.soundness_laws.specs.Sets.{Targets, fullWords, lastFull};
@@ -129,17 +128,4 @@ pub fn after_small(im: &[Word], k: usize, targets: &[Word]) -> usize
     let mut bounds: [Word; 8 * BITS] = [0; 8 * BITS];
     note_bounds(&mut bounds, last_full(n));
     small_words(im, k, targets, &bounds, n)
-}
-
-// No register holds more than the full words have bits for: then all are nil or starts. Where some do, the first mostly is one.
-pub fn low_regs(im: &[Word], k: usize, targets: &[Word]) -> bool
-    requires { ⌜ Sized width k (now im) ⌝ }
-    requires { ⌜ Targets width (imageOf width k (now im)) (now targets) ⌝ }
-    ensures { λ r. ⌜ r ≡ atMost (lastFull width (now (targets .entry))) (imageOf width k (now (im .entry)) .regs) ⌝ }
-{
-    let top = last_full(crate::sets::full_words(targets));
-    if top < image::sections::reg_word(im, k, 0) {
-        return false;
-    }
-    image::compare::regs_at_most(im, k, top)
 }

@@ -7,13 +7,12 @@ use Prim.Native.Nat.{ℕ, zero, suc, _+_, _*_, _-_, _/_, _<_, _%_, _^_, _≤_, m
 use native.Mathlib.Decide.{ℕ-discrete, decLt}
 use native.Mathlib.Omega.{arith}
 use lib.Dec.{eqb}
-use lib.ListN.{length, getD, replicate, length-replicate}
-use borrow.Author.Tests.{eq-eqb, ne-eqb, eqb-true, ltb-true, leb-true}
-use Rattle.model.specs.Base.{nth, all, elem, distinct, bit, setBit, put, either, testBit, withBit}
-use Rattle.model.specs.Image.{Image, regsAt, sections, entries, image, imageOf, granules, isStart}
+use lib.ListN.{length, replicate, length-replicate}
+use borrow.Author.Tests.{eq-eqb, ne-eqb, eqb-true, ltb-true}
+use Rattle.model.specs.Base.{nth, all, elem, distinct, bit, setBit, put, either, testBit, withBit, zeroes}
+use Rattle.model.specs.Image.{Image, entries, image, imageOf, granules, isStart}
 use Rattle.model.specs.Undamaged.{entered, nilOrStart, regOk}
-use Rattle.image_laws.specs.Compare.{noMore, atMost}
-use Rattle.model.proofs.Laws.{bool-cases, either-no, every-use, all-use, all-make, length-put, nth-replicate, nth-put-same, nth-put-other}
+use Rattle.model.proofs.Laws.{bool-cases, either-no, every-use, all-make, length-put, nth-replicate, nth-put-same, nth-put-other, zeroes-use}
 use Rattle.model.proofs.Bits.{setBit-same, setBit-other, bit-zeros}
 use Rattle.soundness_laws.specs.Sets.{Targets, fullAnd, fullWords, lastFull, setWords, noneIn, AddedOnce, EnteredSet}
 use Rattle.image_laws.specs.Sized.{Sized}
@@ -24,7 +23,6 @@ use lib.Pow.{pow-pos}
 use Rattle.image_laws.proofs.Digits.{on-digit, bit-not, bit-none}
 use Rattle.soundness_laws.proofs.Checks.{test-inside}
 use Rattle.image_laws.proofs.Lengths.{sized-width}
-use Rattle.image_laws.proofs.Sections.{image-fits}
 
 -- ---- the values that a link may name
 
@@ -173,22 +171,10 @@ module _ (w k : ℕ) (l : List ℕ) (z : Sized w k l) (set : List ℕ) (t : Targ
     | no h ↦ omega (arith, z .low)
   ]
 
-  regs-words : length (imageOf w k l .regs) ≡ 256
-  unfolding sections imageOf image
-  regs-words = ap (λ (ns : List ℕ). getD ns regsAt 0) (image-fits z .section-lengths)
-
-  -- registers that hold no more
-  pub low-regs : true ≡ atMost (lastFull w set) (imageOf w k l .regs) → true ≡ all 256 (regOk (imageOf w k l))
-  unfolding atMost noMore regOk
-  low-regs e = sym (all-make 256 _ (λ i h. low-target _ (leb-true _ _ (all-use _ _ (sym e) i (rw regs-words h)))))
-
-  -- the first of them holds more
-  pub high-reg : (top x : ℕ) → x ≡ nth (imageOf w k l .regs) 0 → top < x → false ≡ atMost top (imageOf w k l .regs)
-  unfolding atMost noMore
-  high-reg top x e h = elim (bool-cases (all (length (imageOf w k l .regs)) (noMore top (imageOf w k l .regs)))) [
-    | inl q ↦ absurd (omega (arith, leb-true (nth (imageOf w k l .regs) 0) top (all-use _ _ q 0 (omega (arith, regs-words)))))
-    | inr q ↦ sym q
-  ]
+-- registers that hold nothing
+pub nil-regs : (m : Image) (r : Bool) → r ≡ zeroes (m .regs) → r ≡ true → true ≡ all 256 (regOk m)
+unfolding regOk nilOrStart either
+nil-regs m r e h = sym (all-make 256 _ (λ i b. rw (zeroes-use (m .regs) (sym e ∙ h) i)))
 
 -- ---- no granule twice, by the set of those seen
 
