@@ -29,8 +29,8 @@ pub fn regs_ok(im: &[Word], k: usize, targets: &[Word]) -> bool
     requires { ⌜ Targets width (imageOf width k (now im)) (now targets) ⌝ }
     ensures { λ r. ⌜ r ≡ all 256 (regOk (imageOf width k (now (im .entry)))) ⌝ }
 {
-    // A store without an object at granule 1 is mostly a fresh one, of which no register holds anything.
-    if !image::bits::is_start(im, k, 1) {
+    // A store whose first run is at granule 1 is mostly a fresh one, of which no register holds anything.
+    if image::sections::first_run(im, k) == 1 {
         if image::parts::zero_regs(im, k) {
             return true;
         }
