@@ -29,8 +29,8 @@ pub fn regs_ok(im: &[Word], k: usize, targets: &[Word]) -> bool
     requires { ⌜ Targets width (imageOf width k (now im)) (now targets) ⌝ }
     ensures { λ r. ⌜ r ≡ all 256 (regOk (imageOf width k (now (im .entry)))) ⌝ }
 {
-    // A store whose first run is at granule 1 is mostly a fresh one, of which no register holds anything.
-    if image::sections::first_run(im, k) == 1 {
+    // Where the first register holds nothing, mostly none does.
+    if image::sections::reg_word(im, k, 0) == 0 {
         if image::parts::zero_regs(im, k) {
             return true;
         }
