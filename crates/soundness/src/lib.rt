@@ -56,8 +56,9 @@ pub fn is_sound(im: &[Word], k: usize) -> bool
     requires { ⌜ Sized width k (now im) ⌝ }
     ensures { λ r. ⌜ r ≡ sound (imageOf width k (now (im .entry))) ⌝ }
 {
+    let ok = layout_ok(im, k);
     if image::sections::running(im, k) == 0 {
-        return layout_ok(im, k) & short_sections::is_idle(im, k);
+        return ok & short_sections::is_idle(im, k);
     }
-    layout_ok(im, k) & cycle_ok(im, k)
+    ok & cycle_ok(im, k)
 }

@@ -7,4 +7,4 @@ pub is-sound-spec : {M : Type 1} → statement M
 is-sound-spec =
     tie.close
     (tie.spec (λ c κs. search needs) (λ c κs. search needs) (λ c κs. search needs) (λ c. search sound-still) (λ c κs. search needs)
-    (λ c κs. search needs) (λ c. search sound-cycle))
+    (λ c. search sound-cycle))
