@@ -99,6 +99,7 @@ pub fn object_links(im: &[Word], k: usize, targets: &[Word], g: usize, object: b
 
 // ---- pieces, whatever starts lie inside
 
+// That it has a granule at all follows from the room for its links.
 pub fn object_ok(im: &[Word], k: usize, g: usize) -> bool
     requires { ⌜ Sized width k (now im) ⌝ }
     requires { ⌜ g < 64 * k ⌝ }
@@ -106,7 +107,7 @@ pub fn object_ok(im: &[Word], k: usize, g: usize) -> bool
 {
     let s = image::sections::word(im, k, g, 0) as usize;
     let n = image::sections::word(im, k, g, 1) as usize;
-    (1 <= s) & (s <= 1024) & (g + s <= 64 * k) & (n + 2 <= 4 * s)
+    (s <= 1024) & (g + s <= 64 * k) & (n + 2 <= 4 * s)
 }
 
 pub fn run_ok(im: &[Word], k: usize, g: usize, next: usize, run: bool) -> bool

@@ -27,17 +27,17 @@ pub record Head (k g s n : ℕ) : Type 0 where
   pub links-in : n + 2 ≤ 4 * s
 
 abbrev pub headOk : ℕ → ℕ → ℕ → ℕ → Bool
-headOk k g s n = ((leb 1 s && leb s 1024) && leb (g + s) (64 * k)) && leb (n + 2) (4 * s)
+headOk k g s n = (leb s 1024 && leb (g + s) (64 * k)) && leb (n + 2) (4 * s)
 
 pub head-use : (k g s n : ℕ) → headOk k g s n ≡ true → Head k g s n
 head-use k g s n h =
     let a = and-split _ _ h in
     let b = and-split _ _ (a .0) in
-    let c = and-split _ _ (b .0) in
-    record { pos = leb-true _ _ (c .0); few = leb-true _ _ (c .1); inside = leb-true _ _ (b .1); links-in = leb-true _ _ (a .1) }
+    let l : n + 2 ≤ 4 * s = leb-true _ _ (a .1) in
+    record { pos = omega arith; few = leb-true _ _ (b .0); inside = leb-true _ _ (b .1); links-in = l }
 
 pub head-make : (k g s n : ℕ) → Head k g s n → headOk k g s n ≡ true
-head-make k g s n h = and-join _ _ (and-join _ _ (and-join _ _ (le-leb _ _ (h .pos)) (le-leb _ _ (h .few))) (le-leb _ _ (h .inside))) (le-leb _ _ (h .links-in))
+head-make k g s n h = and-join _ _ (and-join _ _ (le-leb _ _ (h .few)) (le-leb _ _ (h .inside))) (le-leb _ _ (h .links-in))
 
 abbrev pub runHeadOk : ℕ → ℕ → ℕ → Bool → ℕ → Bool
 runHeadOk k g next run s = ((not run && eqb g next) && leb 1 s) && leb (g + s) (64 * k)
