@@ -1,4 +1,4 @@
-pub mod Cover
+pub mod Objects
 pub mod Links
 pub mod Near
 pub mod Verdict

@@ -23,7 +23,7 @@ use Rattle.soundness_laws.proofs.Checks.{nth-part}
 use Rattle.soundness_laws.proofs.Sets.{ones-bit}
 use Rattle.judge_laws.specs.Order.{Coverable, nilOrMarked, plain, objectCovered}
 use Rattle.judge_laws.specs.Near.{nearWord, MarkedStretch}
-use Rattle.judge_laws.proofs.Cover.{object-plain, mark-is}
+use Rattle.judge_laws.proofs.Objects.{object-plain, mark-is}
 
 -- ---- words
 
