@@ -1,6 +1,6 @@
 -- Words held to bounds, all of a list at once: the loop that does it, and the list's stretch of the slice.
 use Rattle.image_laws.specs.Compare.{between, nearAt}
-use Rattle.image_laws.proofs.Split.{split-is, split-part}
+use Rattle.image_laws.proofs.Split.{split-part}
 use Rattle.model.specs.Base.{nth, all, every, some}
 use Rattle.model.specs.Image.{place, lengths, split}
 use Prim.Native.Nat.{ℕ, _+_, _-_, _≤_, _<_}
@@ -66,9 +66,3 @@ pub part-words : (w k : ℕ) (ws : List ℕ) (s i n o e : ℕ) → i + n ≤ get
 part-words w k ws s i n o e l p q =
     let c : e - o ≡ n = omega arith in
     rw (split-part (lengths w k) ws s i n l, p, c)
-
--- words o to e - 1 are section s
-pub section-words : (w k : ℕ) (ws : List ℕ) (s o e : ℕ) → place (lengths w k) s ≡ o → o + getD (lengths w k) s 0 ≡ e → e ≤ length ws → take (e - o) (drop o ws) ≡ getD (split (lengths w k) ws) s []
-section-words w k ws s o e p q l =
-    let n : e - o ≡ getD (lengths w k) s 0 = omega arith in
-    rw (split-is (lengths w k) ws s, p, n)
