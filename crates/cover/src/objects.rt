@@ -15,7 +15,7 @@ ghost use Rattle.image.specs.Layout.{width};
 use image::layout::BITS;
 use image::layout::VALUES;
 use image::layout::Word;
-use soundness::sets::SEEN;
+use sets::SEEN;
 
 // Cards of a store whose table of links is a small one, and the words of that.
 const FEW_CARDS: usize = 64;
@@ -129,7 +129,7 @@ pub fn is_coming(im: &[Word], k: usize, entered: &[Word], g: usize) -> bool
     if image::cards::is_dirty(im, k, g / 64) {
         return true;
     }
-    if soundness::sets::in_set(entered, g) {
+    if sets::in_set(entered, g) {
         return true;
     }
     granule_to_come(im, k, g)
@@ -142,7 +142,7 @@ pub fn is_plain(im: &[Word], k: usize, table: &[Word], g: usize, j: usize) -> bo
     ensures { λ r. ⌜ r ≡ plain (imageOf width k (now (im .entry))) g j ⌝ }
 {
     let a = image::sections::word(im, k, g, 2 + j) as usize;
-    soundness::sets::in_set(table, soundness::least(a, 64 * k))
+    sets::in_set(table, sets::least(a, 64 * k))
 }
 
 // The first two words for links stand in every object: both are asked, so that no branch hangs on how many links there are.
@@ -162,7 +162,7 @@ pub fn all_plain(im: &[Word], k: usize, table: &[Word], g: usize, n: usize) -> b
     ensures { λ r. ⌜ r ≡ all n (plain (imageOf width k (now (im .entry))) g) ⌝ }
 {
     let mut ok = first_plain(im, k, table, g, n);
-    let mut i = soundness::least(2, n);
+    let mut i = sets::least(2, n);
     while i < n {
         ok = ok & is_plain(im, k, table, g, i);
         i += 1;
@@ -318,7 +318,7 @@ pub fn is_covered(im: &[Word], k: usize) -> bool
         return true;
     }
     let mut entered: [Word; SEEN] = [0; SEEN];
-    soundness::packets::all_once(im, k, &mut entered);
+    cycle_sections::packets::all_once(im, k, &mut entered);
     if k <= FEW_CARDS {
         return few_covered(im, k, &entered);
     }

@@ -21,7 +21,7 @@ pub fn make_fresh(im: &mut [Word], k: usize)
 fn make(im: &mut [Word]) -> Verdict
     ensures { λ r. ⌜ madeOf (resultOf r) (now (im .exit)) ≡ freshAt width (now (im .entry)) ⌝ }
 {
-    let s = image::size::cards(im.len());
+    let s = size::cards(im.len());
     match s {
         Extent::Misfit => Verdict::Misfit,
         Extent::Cards(k) => {

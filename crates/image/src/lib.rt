@@ -6,4 +6,3 @@ pub mod layout; // layout.rt: the word, and where the sections begin
 pub mod parts; // parts.rt: parts of the slice read as a whole
 pub mod result; // result.rt: the result of a call
 pub mod sections; // sections.rt: the words of each section, read and written
-pub mod size; // size.rt: the number of cards, from the length

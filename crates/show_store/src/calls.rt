@@ -12,7 +12,7 @@ use image_laws::Verdict;
 fn verdict(im: &mut [Word], steps: &[u8], answers: &mut [Word]) -> Verdict
     ensures { λ r. ⌜ batched (resultOf r) (now (im .exit)) (now (answers .exit)) ≡ batchAt width (now (im .entry)) (now (steps .entry)) (now (answers .entry)) ⌝ }
 {
-    let s = image::size::cards(im.len());
+    let s = size::cards(im.len());
     match s {
         Extent::Misfit => Verdict::Misfit,
         Extent::Cards(k) => {

@@ -1,0 +1,85 @@
+// Registers and links name targets: nil, or starts.
+ghost use mathlib.Core.Path.{_≡_};
+ghost use Prim.Native.Nat.{_+_, _*_, _≤_, _<_, min};
+ghost use Rattle.model.specs.Base.{all};
+ghost use Rattle.model.specs.Image.{imageOf};
+ghost use Rattle.model.specs.Undamaged.{regOk};
+ghost use Rattle.image_laws.specs.Sized.{Sized};
+ghost use Rattle.soundness_laws.specs.Sets.{Targets};
+ghost use Rattle.soundness_laws.specs.Tests.{linkOk};
+ghost use Rattle.image.specs.Layout.{width};
+use image::layout::Word;
+
+pub mod small; // small.rt: objects of one granule, side by side
+
+// ---- registers
+
+pub fn reg_ok(im: &[Word], k: usize, targets: &[Word], i: usize) -> bool
+    requires { ⌜ Sized width k (now im) ⌝ }
+    requires { ⌜ Targets width (imageOf width k (now im)) (now targets) ⌝ }
+    requires { ⌜ i < 256 ⌝ }
+    ensures { λ r. ⌜ r ≡ regOk (imageOf width k (now (im .entry))) i ⌝ }
+{
+    sets::is_target(im, k, targets, image::sections::reg_word(im, k, i) as usize)
+}
+
+pub fn regs_ok(im: &[Word], k: usize, targets: &[Word]) -> bool
+    requires { ⌜ Sized width k (now im) ⌝ }
+    requires { ⌜ Targets width (imageOf width k (now im)) (now targets) ⌝ }
+    ensures { λ r. ⌜ r ≡ all 256 (regOk (imageOf width k (now (im .entry)))) ⌝ }
+{
+    // Where the first register holds nothing, mostly none does.
+    if image::sections::reg_word(im, k, 0) == 0 {
+        if image::parts::zero_regs(im, k) {
+            return true;
+        }
+    }
+    let mut ok = true;
+    let mut i = 0;
+    while i < 256 {
+        ok = ok & reg_ok(im, k, targets, i);
+        i += 1;
+    }
+    ok
+}
+
+// ---- links of the object at g
+
+pub fn link_ok(im: &[Word], k: usize, targets: &[Word], g: usize, i: usize) -> bool
+    requires { ⌜ Sized width k (now im) ⌝ }
+    requires { ⌜ Targets width (imageOf width k (now im)) (now targets) ⌝ }
+    requires { ⌜ 4 * g + 2 + i < 256 * k ⌝ }
+    ensures { λ r. ⌜ r ≡ linkOk (imageOf width k (now (im .entry))) g i ⌝ }
+{
+    sets::is_target(
+        im,
+        k,
+        targets,
+        image::sections::word(im, k, g, 2 + i) as usize,
+    )
+}
+
+// The links in the object's first granule, with no branch: most objects have few.
+pub fn first_links(im: &[Word], k: usize, targets: &[Word], g: usize, n: usize) -> bool
+    requires { ⌜ Sized width k (now im) ⌝ }
+    requires { ⌜ Targets width (imageOf width k (now im)) (now targets) ⌝ }
+    requires { ⌜ g < 64 * k ⌝ }
+    ensures { λ r. ⌜ r ≡ all (min 2 n) (linkOk (imageOf width k (now (im .entry))) g) ⌝ }
+{
+    ((n < 1) | link_ok(im, k, targets, g, 0)) & ((n < 2) | link_ok(im, k, targets, g, 1))
+}
+
+pub fn links_ok(im: &[Word], k: usize, targets: &[Word], g: usize, n: usize) -> bool
+    requires { ⌜ Sized width k (now im) ⌝ }
+    requires { ⌜ Targets width (imageOf width k (now im)) (now targets) ⌝ }
+    requires { ⌜ 4 * g + 2 + n ≤ 256 * k ⌝ }
+    ensures { λ r. ⌜ r ≡ all n (linkOk (imageOf width k (now (im .entry))) g) ⌝ }
+{
+    let mut ok = first_links(im, k, targets, g, n);
+    let mut i = sets::least(2, n);
+    while i < n {
+        ok = ok & link_ok(im, k, targets, g, i);
+        i += 1;
+    }
+    ok
+}
