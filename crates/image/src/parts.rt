@@ -62,13 +62,13 @@ pub fn zero_marks(im: &[Word], k: usize) -> bool
     zeros(&im[a..e])
 }
 
-pub fn zero_regs(im: &[Word], k: usize) -> bool
+// registers a to e - 1
+pub fn zero_regs(im: &[Word], k: usize, a: usize, e: usize) -> bool
     requires { ⌜ Sized width k (now im) ⌝ }
-    ensures { λ r. ⌜ r ≡ zeroes (imageOf width k (now (im .entry)) .regs) ⌝ }
+    requires { ⌜ (a ≤ e) × (e ≤ 256) ⌝ }
+    ensures { λ r. ⌜ r ≡ zeroes (take (e - a) (drop a (imageOf width k (now (im .entry)) .regs))) ⌝ }
 {
-    let a = PER_CARD * k;
-    let e = PER_CARD * k + PACKETS;
-    zeros(&im[a..e])
+    zeros(&im[PER_CARD * k + a..PER_CARD * k + e])
 }
 
 pub fn zero_packets(im: &[Word], k: usize) -> bool

@@ -46,6 +46,10 @@ checked-more n p ok i t s h e = rw add-one (record { within = omega arith; so-fa
 pub checked-end : (n : ℕ) (p : ℕ → Bool) (ok : Bool) (i : ℕ) → Checked n p ok i → n ≤ i → ok ≡ all n p
 checked-end n p ok i s h = let e : i ≡ n = omega (arith, s .within) in rw e at (s .so-far)
 
+-- those below n stand for all below m
+pub checked-enough : (m n : ℕ) (p : ℕ → Bool) (ok : Bool) (i : ℕ) → all m p ≡ all n p → Checked n p ok i → n ≤ i → ok ≡ all m p
+checked-enough m n p ok i e s h = checked-end n p ok i s h ∙ sym e
+
 pub checked-stop : (n : ℕ) (p : ℕ → Bool) (i : ℕ) → i < n → p i ≡ false → false ≡ all n p
 checked-stop n p i h e = elim (bool-cases (all n p)) [ inl q ↦ false≢ (sym e ∙ all-use n p q i h) | inr q ↦ sym q ]
 

@@ -7,7 +7,7 @@ use Prim.Native.Nat.{ℕ, zero, suc, _+_, _*_, _-_, _/_, _<_, _%_, _^_, _≤_, m
 use native.Mathlib.Decide.{ℕ-discrete, decLt}
 use native.Mathlib.Omega.{arith}
 use lib.Dec.{eqb}
-use lib.ListN.{length, replicate, length-replicate}
+use lib.ListN.{length, replicate, take, drop, length-replicate}
 use borrow.Author.Tests.{eq-eqb, ne-eqb, eqb-true, ltb-true}
 use Rattle.model.specs.Base.{nth, all, elem, distinct, bit, setBit, put, either, testBit, withBit, zeroes}
 use Rattle.model.specs.Image.{Image, entries, image, imageOf, granules, isStart}
@@ -21,7 +21,7 @@ use Rattle.image_laws.proofs.Places.{words-full}
 use native.Mathlib.Nat.{mul-comm, zero-mul, zero-mod, mod-lt, mul-le-mul-left, zero-div, div-mul-le-self, div-lt-iff-lt-mul}
 use lib.Pow.{pow-pos}
 use Rattle.image_laws.proofs.Digits.{on-digit, bit-not, bit-none}
-use Rattle.soundness_laws.proofs.Checks.{test-inside}
+use Rattle.soundness_laws.proofs.Checks.{test-inside, nth-part, all-append}
 use Rattle.image_laws.proofs.Lengths.{sized-width}
 
 -- ---- the values that a link may name
@@ -171,10 +171,14 @@ module _ (w k : ℕ) (l : List ℕ) (z : Sized w k l) (set : List ℕ) (t : Targ
     | no h ↦ omega (arith, z .low)
   ]
 
--- registers that hold nothing
-pub nil-regs : (m : Image) (r : Bool) → r ≡ zeroes (m .regs) → r ≡ true → true ≡ all 256 (regOk m)
+-- registers that hold nothing, from a to b - 1, need not be asked
+pub nil-behind : (m : Image) (a b : ℕ) (r : Bool) → a ≤ b → r ≡ zeroes (take (b - a) (drop a (m .regs))) → r ≡ true → all b (regOk m) ≡ all a (regOk m)
 unfolding regOk nilOrStart either
-nil-regs m r e h = sym (all-make 256 _ (λ i b. rw (zeroes-use (m .regs) (sym e ∙ h) i)))
+nil-behind m a b r l e h =
+    let n : ℕ = b - a in
+    let z : (i : ℕ) → i < n → nth (m .regs) (a + i) ≡ 0 = λ i q. sym (nth-part n a (m .regs) i q) ∙ zeroes-use (take n (drop a (m .regs))) (sym e ∙ h) i in
+    let o : b ≡ a + n = omega arith in
+    rw (o, all-append a n (regOk m), all-make n (λ i. regOk m (a + i)) (λ i q. rw (z i q))) (and-true (all a (regOk m)))
 
 -- ---- no granule twice, by the set of those seen
 

@@ -23,20 +23,28 @@ pub fn reg_ok(im: &[Word], k: usize, targets: &[Word], i: usize) -> bool
     sets::is_target(im, k, targets, image::sections::reg_word(im, k, i) as usize)
 }
 
+// How many registers there are to ask: mostly those behind the first player's hold nothing.
+fn regs_to_ask(im: &[Word], k: usize) -> usize
+    requires { ⌜ Sized width k (now im) ⌝ }
+    ensures { λ r. ⌜ (r ≤ 256) × (all 256 (regOk (imageOf width k (now (im .entry)))) ≡ all r (regOk (imageOf width k (now (im .entry))))) ⌝ }
+{
+    if image::sections::reg_word(im, k, 16) == 0 {
+        if image::parts::zero_regs(im, k, 16, 256) {
+            return 16;
+        }
+    }
+    256
+}
+
 pub fn regs_ok(im: &[Word], k: usize, targets: &[Word]) -> bool
     requires { ⌜ Sized width k (now im) ⌝ }
     requires { ⌜ Targets width (imageOf width k (now im)) (now targets) ⌝ }
     ensures { λ r. ⌜ r ≡ all 256 (regOk (imageOf width k (now (im .entry)))) ⌝ }
 {
-    // Where the first register holds nothing, mostly none does.
-    if image::sections::reg_word(im, k, 0) == 0 {
-        if image::parts::zero_regs(im, k) {
-            return true;
-        }
-    }
+    let n = regs_to_ask(im, k);
     let mut ok = true;
     let mut i = 0;
-    while i < 256 {
+    while i < n {
         ok = ok & reg_ok(im, k, targets, i);
         i += 1;
     }
