@@ -1,6 +1,6 @@
 // Objects and runs fill the heap, and the links of every object are nil or starts.
 ghost use mathlib.Core.Path.{_≡_};
-ghost use mathlib.Core.Bool.{false, _&&_};
+ghost use mathlib.Core.Bool.{false, cond, _&&_};
 ghost use Prim.Native.Nat.{_+_, _*_, _≤_, _<_};
 ghost use Rattle.model.specs.Base.{all};
 ghost use Rattle.model.specs.Image.{imageOf, granules, isStart, firstRun};
@@ -36,6 +36,13 @@ fn one_more(seen: usize, object: bool) -> usize
     if object { seen + 1 } else { seen }
 }
 
+// Where the last run ends, behind a piece that ends at `after`.
+fn run_end(object: bool, end: usize, after: usize) -> usize
+    ensures { λ r. ⌜ r ≡ cond object end after ⌝ }
+{
+    if object { end } else { after }
+}
+
 // That no start lies inside a piece is told at the end: then there are as many starts as objects.
 pub fn walk(im: &[Word], k: usize, targets: &[Word], from: usize, first: usize) -> bool
     requires { ⌜ Sized width k (now im) ⌝ }
@@ -47,20 +54,21 @@ pub fn walk(im: &[Word], k: usize, targets: &[Word], from: usize, first: usize) 
 {
     let mut g = from;
     let mut next = first;
-    let mut run = false;
+    let mut end = 0;
     let mut seen = from - 1;
     while g < 64 * k {
         let object = image::bits::is_start(im, k, g);
-        if !crate::pieces::piece_ok(im, k, g, object, next, run) {
+        if !crate::pieces::piece_ok(im, k, g, object, next, g == end) {
             return false;
         }
         if !object_links(im, k, targets, g, object) {
             return false;
         }
-        run = !object;
         seen = one_more(seen, object);
         next = crate::pieces::next_run(im, k, g, object, next);
-        g += image::sections::word(im, k, g, 0) as usize;
+        let after = g + image::sections::word(im, k, g, 0) as usize;
+        end = run_end(object, end, after);
+        g = after;
     }
     (next == 0) & (seen == crate::starts::count_starts(im, k))
 }

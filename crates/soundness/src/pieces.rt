@@ -1,6 +1,8 @@
 // The pieces of the heap, objects and runs, whatever starts lie inside.
 ghost use mathlib.Core.Path.{_≡_};
-ghost use Prim.Native.Nat.{_*_, _<_};
+ghost use Prim.Native.Nat.{_+_, _*_, _-_, _≤_, _<_};
+ghost use lib.ListN.{take, drop};
+ghost use Rattle.model.specs.Base.{zeroes};
 ghost use Rattle.model.specs.Image.{imageOf, isStart};
 ghost use Rattle.image_laws.specs.Sized.{Sized};
 ghost use Rattle.soundness_laws.specs.Tests.{objectOk, runOk, pieceOk, nextRun};
@@ -18,6 +20,22 @@ pub fn object_ok(im: &[Word], k: usize, g: usize) -> bool
     (s <= 1024) & (g + s <= 64 * k) & (n + 2 <= 4 * s)
 }
 
+// The words of a run behind its first two are 0, granule by granule.
+fn zero_rest(im: &[Word], k: usize, g: usize, s: usize) -> bool
+    requires { ⌜ Sized width k (now im) ⌝ }
+    requires { ⌜ (1 ≤ s) × (g + s ≤ 64 * k) ⌝ }
+    ensures { λ r. ⌜ r ≡ zeroes (take (4 * s - 2) (drop (4 * g + 2) (imageOf width k (now (im .entry)) .heap))) ⌝ }
+{
+    let mut ok = image::parts::zero_heap(im, k, 4 * g + 2, 4 * g + 4);
+    let mut i = 1;
+    while i < s {
+        let a = 4 * (g + i);
+        ok = ok & image::parts::zero_heap(im, k, a, a + 4);
+        i += 1;
+    }
+    ok
+}
+
 pub fn run_ok(im: &[Word], k: usize, g: usize, next: usize, run: bool) -> bool
     requires { ⌜ Sized width k (now im) ⌝ }
     requires { ⌜ g < 64 * k ⌝ }
@@ -27,6 +45,10 @@ pub fn run_ok(im: &[Word], k: usize, g: usize, next: usize, run: bool) -> bool
     let fits = (!run) & (g == next) & (1 <= s) & (g + s <= 64 * k);
     if !fits {
         return false;
+    }
+    // Most runs are short, and a loop over many words takes long to begin.
+    if s <= 8 {
+        return zero_rest(im, k, g, s);
     }
     image::parts::zero_heap(im, k, 4 * g + 2, 4 * g + 4 * s)
 }

@@ -9,7 +9,7 @@ use native.Mathlib.Omega.{arith}
 use lib.Dec.{eqb}
 use lib.ListN.{drop, drop-of-length-le, take}
 use lib.Seq.{drop-drop}
-use borrow.Author.Tests.{not-true, not-false}
+use borrow.Author.Tests.{not-true, not-false, eq-eqb, ne-eqb}
 use Rattle.model.specs.Base.{nth, all, implies, every, zeroes}
 use Rattle.model.specs.Image.{image, imageOf, granules, word, isStart, links, firstRun, mostCards}
 use Rattle.model.specs.Undamaged.{bare, piece, fill, filled, linksOk, zeroGranule}
@@ -23,6 +23,16 @@ use Rattle.image_laws.proofs.Parts.{all-first, zero-stretch}
 use Rattle.image_laws.proofs.Lengths.{heap-words}
 use Rattle.image_laws.specs.Digits.{digit, startBit}
 
+-- ---- the end of the last run, behind a piece from g to g + s
+
+run-behind : (g s end : ℕ) (b : Bool) → end ≤ g → cond b end (g + s) ≤ g + s
+run-behind g s end true h = omega arith
+run-behind g s end false h = omega arith
+
+run-end : (g s end : ℕ) (b : Bool) → end ≤ g → 1 ≤ s → eqb (g + s) (cond b end (g + s)) ≡ not b
+run-end g s end true h p = ne-eqb (g + s) end (λ (q : g + s ≡ end). omega arith)
+run-end g s end false h p = eq-eqb (g + s) (g + s) refl
+
 -- ---- one turn of the model's walk
 
 fill-more : (st : ℕ → Bool) (n g s : ℕ) (ws : List ℕ) (next : ℕ) (run : Bool)
@@ -34,13 +44,14 @@ module _ (w k : ℕ) (l : List ℕ) where
   abbrev fillFrom : ℕ → ℕ → ℕ → Bool → Bool
   fillFrom n g next run = fill (isStart (imageOf w k l)) n g (drop (4 * g) (imageOf w k l .heap)) next run
 
-  -- the state of the loop at g, with `seen` objects behind: as long as these are all the starts, the pieces and links so far are in order
-  pub record HeapWalk (g next : ℕ) (run : Bool) (seen : ℕ) : Type 0 where
+  -- the state of the loop at g, with `seen` objects behind and the last run ending at `end`: as long as these are all the starts, the pieces and links so far are in order
+  pub record HeapWalk (g next end seen : ℕ) : Type 0 where
     pub fuel : ℕ
     pub inside : g ≤ 64 * k
+    pub behind : end ≤ g
     pub enough : 64 * k < g + fuel
     pub few : seen ≤ startsIn (imageOf w k l) 0 g
-    pub same : filled (imageOf w k l) ≡ (eqb seen (startsIn (imageOf w k l) 0 g) && fillFrom fuel g next run)
+    pub same : filled (imageOf w k l) ≡ (eqb seen (startsIn (imageOf w k l) 0 g) && fillFrom fuel g next (eqb g end))
     pub so-far : eqb seen (startsIn (imageOf w k l) 0 g) ≡ true → all g (linksOk (imageOf w k l)) ≡ true
 
   abbrev pub heapLines : Bool
@@ -63,11 +74,11 @@ module _ (w k : ℕ) (l : List ℕ) where
         all-append g s (linksOk (imageOf w k l))
         ∙ ap (λ b. all g (linksOk (imageOf w k l)) && b) ((rw e at (all-first (s - 1) (λ i. linksOk (imageOf w k l) (g + i)))) ∙ rw (a, add-zero) (and-true _))
 
-    pub w-start : (first : ℕ) → first ≡ firstRun (imageOf w k l) → isStart (imageOf w k l) 0 ≡ false → HeapWalk 1 first false 0
+    pub w-start : (first : ℕ) → first ≡ firstRun (imageOf w k l) → isStart (imageOf w k l) 0 ≡ false → HeapWalk 1 first 0 0
     unfolding filled all granules startsIn digit imageOf image
-    w-start first e h = record { fuel = 64 * k; inside = omega (arith, z .low); enough = omega arith; few = omega arith; same = rw (e, h); so-far = λ _. links-none 0 h }
+    w-start first e h = record { fuel = 64 * k; inside = omega (arith, z .low); behind = omega arith; enough = omega arith; few = omega arith; same = rw (e, h); so-far = λ _. links-none 0 h }
 
-    module _ (g next : ℕ) (run : Bool) (seen : ℕ) (v : HeapWalk g next run seen) where
+    module _ (g next end seen : ℕ) (v : HeapWalk g next end seen) where
       pub w-small : seen ≤ 64 * mostCards w
       w-small = omega (arith, v .few, count-le (imageOf w k l) 0 g, v .inside, z .high)
 
@@ -80,7 +91,7 @@ module _ (w k : ℕ) (l : List ℕ) where
           | inr e ↦ rw e (sym (and-false (filled (imageOf w k l))))
         ]
 
-        module _ (t : Bool) (e : t ≡ pieceOk (imageOf w k l) g next run) where
+        module _ (t : Bool) (e : t ≡ pieceOk (imageOf w k l) g next (eqb g end)) where
           abbrev rest : Bool
           rest = fillFrom (v .fuel - 1) (g + word (imageOf w k l) g 0) (nextRun (imageOf w k l) g next) (not (isStart (imageOf w k l) g))
 
@@ -99,7 +110,7 @@ module _ (w k : ℕ) (l : List ℕ) where
             -- a piece that is in order is not empty, and lies inside
             found : (1 ≤ word (imageOf w k l) g 0) × (g + word (imageOf w k l) g 0 ≤ 64 * k)
             unfolding pieceOk
-            found = let p = piece-size (λ _. false) g _ _ next run _ (sym e ∙ not-false t q) in (p .0, omega (arith, p .1, tail-long w k l z g hg))
+            found = let p = piece-size (λ _. false) g _ _ next (eqb g end) _ (sym e ∙ not-false t q) in (p .0, omega (arith, p .1, tail-long w k l z g hg))
 
             -- an object that is in order has its links inside the heap
             pub w-room : LinksInside k (imageOf w k l) g
@@ -116,13 +127,14 @@ module _ (w k : ℕ) (l : List ℕ) where
             seen-is : eqb (seen + startBit (imageOf w k l) g) (startsIn (imageOf w k l) 0 (g + word (imageOf w k l) g 0)) ≡ (eqb seen (startsIn (imageOf w k l) 0 g) && clear (imageOf w k l) (g + 1) (word (imageOf w k l) g 0 - 1))
             seen-is = seen-more (imageOf w k l) g (word (imageOf w k l) g 0) seen (found .0) (v .few)
 
-            pub w-more : (s next′ seen′ : ℕ) (b c : Bool) → b ≡ isStart (imageOf w k l) g → c ≡ linksOk (imageOf w k l) g → not c ≡ false → seen′ ≡ seen + digit b → next′ ≡ nextRun (imageOf w k l) g next → s ≡ word (imageOf w k l) g 0 → HeapWalk (g + s) next′ (not b) seen′
-            w-more s next′ seen′ b c eb ec r eseen en es = record {
+            pub w-more : (s next′ end′ seen′ : ℕ) (b c : Bool) → b ≡ isStart (imageOf w k l) g → c ≡ linksOk (imageOf w k l) g → not c ≡ false → seen′ ≡ seen + digit b → next′ ≡ nextRun (imageOf w k l) g next → s ≡ word (imageOf w k l) g 0 → end′ ≡ cond b end (g + s) → HeapWalk (g + s) next′ end′ seen′
+            w-more s next′ end′ seen′ b c eb ec r eseen en es eend = record {
               fuel = v .fuel - 1;
               inside = omega (arith, found);
+              behind = rw eend (run-behind g s end b (v .behind));
               enough = omega (arith, found, v .enough);
               few = rw (eseen, eb, es) (seen-few (imageOf w k l) g (word (imageOf w k l) g 0) seen (found .0) (v .few));
-              same = rw (eseen, eb, es, en, seen-is) (here ∙ rw (not-false t q) (sym (and-assoc (eqb seen (startsIn (imageOf w k l) 0 g)) (clear (imageOf w k l) (g + 1) (word (imageOf w k l) g 0 - 1)) rest)));
+              same = rw (eend, run-end g s end b (v .behind) (rw es (found .0)), eseen, eb, es, en, seen-is) (here ∙ rw (not-false t q) (sym (and-assoc (eqb seen (startsIn (imageOf w k l) 0 g)) (clear (imageOf w k l) (g + 1) (word (imageOf w k l) g 0 - 1)) rest)));
               so-far = λ h.
                   let p = and-split _ _ (sym seen-is ∙ rw (eseen, eb, es) at h) in
                   rw (es, links-more g (word (imageOf w k l) g 0) (found .0) (p .1), v .so-far (p .0), ← ec, not-false c r);

@@ -1,5 +1,5 @@
 -- The pieces of the heap, objects and runs, by index.
-use mathlib.Core.Path.{_≡_, refl, sym, _∙_}
+use mathlib.Core.Path.{_≡_, refl, sym, ap, _∙_}
 use mathlib.Core.Bool.{Bool, true, false, not, _&&_, and-assoc, and-comm}
 use mathlib.Core.List.{List, _∷_}
 use Prim.Native.Nat.{ℕ, suc, _+_, _*_, _-_, _≤_, _<_}
@@ -16,6 +16,7 @@ use Rattle.model.proofs.Entries.{nth-drop}
 use Rattle.soundness_laws.specs.Tests.{objectOk, runOk, pieceOk, nextRun}
 use Rattle.image_laws.specs.Sized.{Sized}
 use Rattle.image_laws.proofs.Parts.{all-cong, zero-stretch}
+use Rattle.soundness_laws.proofs.Checks.{all-append}
 use Rattle.image_laws.proofs.Lengths.{heap-words}
 
 -- ---- the head of an object, and of a run
@@ -124,6 +125,10 @@ module _ (w k : ℕ) (l : List ℕ) (z : Sized w k l) (g : ℕ) (hg : g < 64 * k
         (every-cons _ _ (le-leb (4 * s) (suc (length ws)) (omega (arith, h .3, tail-long)))
         (every-cons _ _ (bare-nowhere g s) (every-cons _ _ (h .0) (every-cons _ _ (h .1) (every-cons _ _ (tail-zero s (h .2) (h .3) ∙ a .1) every-nil)))))))
 
+    -- the same words, where a run has few
+    pub run-short : (b : Bool) → not (runHeadOk k g next run s) ≡ false → b ≡ zeroes (take (4 * s - 2) (drop (4 * g + 2) (imageOf w k l .heap))) → b ≡ runOk (imageOf w k l) g next run
+    run-short b h q = rw (run-is, not-false (runHeadOk k g next run s) h) q
+
     pub run-fits : not (runHeadOk k g next run s) ≡ false → (1 ≤ s) × (g + s ≤ 64 * k)
     run-fits h = let r = run-use k g next run s (not-false _ h) in (r .2, r .3)
 
@@ -133,7 +138,7 @@ module _ (w k : ℕ) (l : List ℕ) (z : Sized w k l) (g : ℕ) (hg : g < 64 * k
     pub run-yes : (b : Bool) → not (runHeadOk k g next run s) ≡ false → b ≡ zeroes (take (4 * g + 4 * s - (4 * g + 2)) (drop (4 * g + 2) (imageOf w k l .heap))) → b ≡ runOk (imageOf w k l) g next run
     run-yes b h q =
         let n : 4 * g + 4 * s - (4 * g + 2) ≡ 4 * s - 2 = omega arith in
-        rw (run-is, not-false (runHeadOk k g next run s) h) (rw n at q)
+        run-short b h (rw n at q)
 
   -- ---- a piece is an object or a run
 
@@ -153,3 +158,37 @@ module _ (w k : ℕ) (l : List ℕ) (z : Sized w k l) (g : ℕ) (hg : g < 64 * k
     pub next-of-run : (r : ℕ) → t ≡ false → r ≡ word (imageOf w k l) g 1 → r ≡ nextRun (imageOf w k l) g next
     unfolding nextRun
     next-of-run r h e = rw (← et, h) e
+
+-- ---- the words of a run behind its first two, granule by granule
+
+zero-more : (l : List ℕ) (o a b : ℕ) → o + a + b ≤ length l → zeroes (take (a + b) (drop o l)) ≡ (zeroes (take a (drop o l)) && zeroes (take b (drop (o + a) l)))
+zero-more l o a b h =
+    zero-stretch l o (a + b) (omega arith)
+    ∙ (all-append a b (λ i. eqb (nth l (o + i)) 0)
+    ∙ rw (zero-stretch l o a (omega arith), zero-stretch l (o + a) b h)
+    (ap (λ c. all a (λ i. eqb (nth l (o + i)) 0) && c) (all-cong b _ _ (λ i q. let e : o + (a + i) ≡ o + a + i = omega arith in rw e))))
+
+pub record RestZero (l : List ℕ) (g s : ℕ) (ok : Bool) (i : ℕ) : Type 0 where
+  pub some : 1 ≤ i
+  pub within : i ≤ s
+  pub so-far : ok ≡ zeroes (take (4 * i - 2) (drop (4 * g + 2) l))
+
+module _ (w k : ℕ) (l : List ℕ) (z : Sized w k l) (g s : ℕ) (hs : g + s ≤ 64 * k) where
+  pub rest-none : (ok : Bool) → 1 ≤ s → ok ≡ zeroes (take (4 * g + 4 - (4 * g + 2)) (drop (4 * g + 2) (imageOf w k l .heap))) → RestZero (imageOf w k l .heap) g s ok 1
+  rest-none ok p e = let n : 4 * g + 4 - (4 * g + 2) ≡ 2 = omega arith in record { some = omega arith; within = p; so-far = rw n at e }
+
+  module _ (ok : Bool) (i : ℕ) (v : RestZero (imageOf w k l .heap) g s ok i) where
+    pub rest-more : (a : ℕ) (t : Bool) → i < s → a ≡ 4 * (g + i) → t ≡ zeroes (take (a + 4 - a) (drop a (imageOf w k l .heap))) → RestZero (imageOf w k l .heap) g s (ok && t) (i + 1)
+    rest-more a t h ea e =
+        let n : a + 4 - a ≡ 4 = omega arith in
+        let o : a ≡ 4 * g + 2 + (4 * i - 2) = omega (arith, v .some) in
+        let m : 4 * (i + 1) - 2 ≡ 4 * i - 2 + 4 = omega (arith, v .some) in
+        let q : t ≡ zeroes (take 4 (drop (4 * g + 2 + (4 * i - 2)) (imageOf w k l .heap))) = rw (n, o) at e in
+        record {
+          some = omega arith;
+          within = omega arith;
+          so-far = rw (m, zero-more (imageOf w k l .heap) (4 * g + 2) (4 * i - 2) 4 (omega (arith, heap-words z, v .some)), v .so-far, q);
+        }
+
+    pub rest-end : s ≤ i → ok ≡ zeroes (take (4 * s - 2) (drop (4 * g + 2) (imageOf w k l .heap)))
+    rest-end h = let e : i ≡ s = omega (arith, v .within) in rw e at (v .so-far)

@@ -164,23 +164,23 @@ module _ (w k : ℕ) (l set : List ℕ) (z : Sized w k l) (t : Targets w (imageO
 -- ---- the walk goes over them
 
 module _ (w k : ℕ) (l : List ℕ) (z : Sized w k l) where
-  one-turn : (g next seen : ℕ) → HeapWalk w k l g next false seen → g < 64 * k → isStart (imageOf w k l) g ≡ true → smallAt (imageOf w k l) g ≡ true → HeapWalk w k l (g + 1) next false (seen + 1)
+  one-turn : (g next seen : ℕ) → HeapWalk w k l g next 0 seen → g < 64 * k → isStart (imageOf w k l) g ≡ true → smallAt (imageOf w k l) g ≡ true → HeapWalk w k l (g + 1) next 0 (seen + 1)
   unfolding smallAt links digit
   one-turn g next seen v hg st sm =
       let one : word (imageOf w k l) g 0 ≡ 1 = eqb-true _ _ (every-use _ sm 0) in
       let few : word (imageOf w k l) g 1 ≤ 2 = leb-true _ _ (every-use _ sm 1) in
       let all-two : min 2 (word (imageOf w k l) g 1) ≡ word (imageOf w k l) g 1 = omega arith in
       let object : true ≡ objectOk (imageOf w k l) g = sym (head-make k g 1 (word (imageOf w k l) g 1) (record { pos = omega arith; few = omega arith; inside = omega arith; links-in = omega arith })) ∙ object-is w k l z g hg 1 (word (imageOf w k l) g 1) (sym one) refl in
-      w-more w k l z g next false seen v hg true (piece-object w k l z g hg next false true (sym st) true refl object) refl 1 next (seen + 1) true true (sym st)
-      (links-object w k l g true (sym st) (word (imageOf w k l) g 1) true refl refl (sym (rw all-two at (every-use _ sm 2)))) refl refl (next-of-object w k l z g hg next false true (sym st) refl) (sym one)
+      w-more w k l z g next 0 seen v hg true (piece-object w k l z g hg next (eqb g 0) true (sym st) true refl object) refl 1 next 0 (seen + 1) true true (sym st)
+      (links-object w k l g true (sym st) (word (imageOf w k l) g 1) true refl refl (sym (rw all-two at (every-use _ sm 2)))) refl refl (next-of-object w k l z g hg next (eqb g 0) true (sym st) refl) (sym one) refl
 
   module _ (first : ℕ) (ef : first ≡ firstRun (imageOf w k l)) (free : isStart (imageOf w k l) 0 ≡ false) where
-    turns : (n : ℕ) → SmallUpto k (imageOf w k l) (n + 1) → HeapWalk w k l (n + 1) first false n
+    turns : (n : ℕ) → SmallUpto k (imageOf w k l) (n + 1) → HeapWalk w k l (n + 1) first 0 n
     turns zero u = w-start w k l z first ef free
     turns (suc n) u =
         let e : suc n ≡ n + 1 = omega arith in
         let shorter : SmallUpto k (imageOf w k l) (n + 1) = record { low = omega arith; high = omega (arith, u .high); starts = λ g p q. u .starts g p (omega arith); objects = record { small = λ g p q. u .objects .small g p (omega arith) } } in
         rw e (one-turn (n + 1) first n (turns n shorter) (omega (arith, u .high)) (u .starts (n + 1) (omega arith) (omega arith)) (u .objects .small (n + 1) (omega arith) (omega arith)))
 
-    pub w-from : (from : ℕ) → SmallUpto k (imageOf w k l) from → HeapWalk w k l from first false (from - 1)
+    pub w-from : (from : ℕ) → SmallUpto k (imageOf w k l) from → HeapWalk w k l from first 0 (from - 1)
     w-from from u = let e : from - 1 + 1 ≡ from = omega (arith, u .low) in rw e at (turns (from - 1) (rw e u))

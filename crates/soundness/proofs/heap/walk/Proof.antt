@@ -7,22 +7,23 @@ use Rattle.soundness.proofs.heap.walk.Statement.{statement}
 use Rattle.soundness.proofs.heap.walk.Tie as tie
 
 abbrev Inv-loop : tie.InvT-loop
-Inv-loop im k targets from first g₀ next₀ run₀ seen₀ g next run seen = HeapWalk width k im g next run seen
+Inv-loop im k targets from first g₀ next₀ end₀ seen₀ g next end seen = HeapWalk width k im g next end seen
 
 abbrev μ-loop : tie.MeasureT-loop
-μ-loop im k targets from first g₀ next₀ run₀ seen₀ g next run seen = 64 * k - g
+μ-loop im k targets from first g₀ next₀ end₀ seen₀ g next end seen = 64 * k - g
 
 loop-less : tie.Need-loop-less Inv-loop μ-loop
 loop-less c =
-    let I = c .before .before .before .before .before in
+    let I = c .before .before .before .before .before .before in
     let L = I .before .before .before .before in
-    w-less _ _ _ (L .before .before .before .pre .0) _ _ _ _ (L .loop .inv) (I .before .before .before .loop-test .taken) _ (I .before .piece-ok .ensures) (I .if1 .left) _ (c .word .ensures)
+    w-less _ _ _ (L .before .before .before .pre .0) _ _ _ _ (L .loop .inv) (I .before .before .before .loop-test .taken) _ (I .before .piece-ok .ensures) (I .if1 .left) _ (c .before .word .ensures)
 
 loop-again : tie.Need-loop-again Inv-loop μ-loop
 loop-again c =
-    let I = c .before .before .before .before .before in
+    let I = c .before .before .before .before .before .before in
     let L = I .before .before .before .before in
-    w-more _ _ _ (L .before .before .before .pre .0) _ _ _ _ (L .loop .inv) (I .before .before .before .loop-test .taken) _ (I .before .piece-ok .ensures) (I .if1 .left) _ _ _ _ _ (I .before .before .is-start .ensures) (c .before .before .before .before .object-links .ensures) (c .before .before .before .if2 .left) (c .before .before .one-more .ensures) (c .before .next-run .ensures) (c .word .ensures)
+    let O = c .before .before .before .before in
+    w-more _ _ _ (L .before .before .before .pre .0) _ _ _ _ (L .loop .inv) (I .before .before .before .loop-test .taken) _ (I .before .piece-ok .ensures) (I .if1 .left) _ _ _ _ _ _ (I .before .before .is-start .ensures) (O .before .object-links .ensures) (O .if2 .left) (c .before .before .before .one-more .ensures) (c .before .before .next-run .ensures) (c .before .word .ensures) (c .run-end .ensures)
 
 pub walk-spec : {M : Type 1} → statement M
 walk-spec =
@@ -32,5 +33,5 @@ walk-spec =
     (λ c κs. (search needs, (search needs, (search needs, (search needs, search w-room)))))
     (λ c. search w-link)
     (λ c κs. let L = c .before .before .before .before .before .before in w-small _ _ _ (L .before .before .before .pre .0) _ _ _ _ (L .loop .inv))
-    (λ c κs. search needs) (λ c κs. search needs) (λ c. search needs) (λ c. search needs) loop-less loop-again (λ c κs. search needs)
+    (λ c κs. search needs) (λ c κs. search needs) (λ c. search needs) (λ c. search needs) (λ c κs. search needs) loop-less loop-again (λ c κs. search needs)
     (λ c. search w-end))
