@@ -19,5 +19,5 @@ pub fn is_near(im: &[Word], k: usize, from: usize, i: usize) -> bool
     if 2 < image::sections::links(im, k, e - 1) {
         return false;
     }
-    image::compare::heap_near(im, k, 4 * BITS * i, 4 * e, (BITS * from) as Word, e as Word)
+    stretches::compare::heap_near(im, k, 4 * BITS * i, 4 * e, (BITS * from) as Word, e as Word)
 }

@@ -48,7 +48,7 @@ pub fn packet_ok(im: &[Word], k: usize, p: usize) -> bool
     }
     (z == 0)
         & entries_ok(im, k, p, n)
-        & image::parts::zero_entries(im, k, 32 * p + 2 + n, 32 * p + 32)
+        & stretches::parts::zero_entries(im, k, 32 * p + 2 + n, 32 * p + 32)
 }
 
 pub fn packets_ok(im: &[Word], k: usize) -> bool

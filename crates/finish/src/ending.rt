@@ -34,9 +34,9 @@ pub fn end_cycle(im: &mut [Word], k: usize)
     requires { ⌜ Sized width k (now im) ⌝ }
     ensures { λ _. ⌜ imageOf width k (now (im .exit)) ≡ ended (imageOf width k (now (im .entry))) ⌝ }
 {
-    image::clearing::clear_marks(im, k);
-    image::clearing::clear_packets(im, k);
-    image::clearing::clear_tracers(im, k);
+    stretches::clearing::clear_marks(im, k);
+    stretches::clearing::clear_packets(im, k);
+    stretches::clearing::clear_tracers(im, k);
     unscan(im, k);
     image::sections::set_general_word(im, k, 0, 0);
 }

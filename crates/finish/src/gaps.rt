@@ -35,7 +35,7 @@ pub fn clear_behind(im: &mut [Word], k: usize, a: usize, e: usize)
     ensures { λ _. ⌜ imageOf width k (now (im .exit)) ≡ withHeap (imageOf width k (now (im .entry))) (zeroed (4 * a + 4) (4 * e) (imageOf width k (now (im .entry)) .heap)) ⌝ }
 {
     if a + 1 < e {
-        image::clearing::clear_heap(im, k, 4 * a + 4, 4 * e);
+        stretches::clearing::clear_heap(im, k, 4 * a + 4, 4 * e);
     }
 }
 

@@ -13,7 +13,7 @@ pub fn make_fresh(im: &mut [Word], k: usize)
     requires { ⌜ Sized width k (now im) ⌝ }
     ensures { λ _. ⌜ now (im .exit) ≡ freshStore width k ⌝ }
 {
-    image::clearing::clear(im);
+    stretches::clearing::clear(im);
     image::sections::set_word(im, k, 1, 0, (64 * k - 1) as Word);
     image::sections::set_first_run(im, k, 1);
 }

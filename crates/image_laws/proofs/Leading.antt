@@ -21,8 +21,8 @@ pub record Highest (w x j : ℕ) : Type 0 where
   pub clear-above : (i : ℕ) → j < i → testBit x i ≡ false
 
 -- a number has no bit above its length
-pub bit-past : (x i : ℕ) → x < 2 ^ i → testBit x i ≡ false
-bit-past x i h = elim (bool-cases (testBit x i)) [ inl e ↦ absurd (omega (arith, set-within x i e)) | inr e ↦ e ]
+pub test-past : (x i : ℕ) → x < 2 ^ i → testBit x i ≡ false
+test-past x i h = elim (bool-cases (testBit x i)) [ inl e ↦ absurd (omega (arith, set-within x i e)) | inr e ↦ e ]
 
 bit-top : (j x : ℕ) → 2 ^ j ≤ x → x < 2 ^ suc j → bitOf x j ≡ 1
 bit-top zero x l h = bit-zero x ∙ omega arith
@@ -41,5 +41,5 @@ word-leading w x l h n =
     let (j, e, a, b) = leading-top 64 x (omega arith) (below-pow l h) in
     let q : 63 - leadingZeros 64 x ≡ j = omega (arith, e) in
     let i : j < w = elim (decLt j w) [ yes p ↦ p | no p ↦ absurd (omega (arith, a, below-pow {i = w} {j = j} (omega arith) h)) ] in
-    let top : Highest w x j = record { within = i; is-set = on-digit _ (bit-top j x a b); clear-above = λ i p. bit-past x i (below-pow {i = suc j} p b) } in
+    let top : Highest w x j = record { within = i; is-set = on-digit _ (bit-top j x a b); clear-above = λ i p. test-past x i (below-pow {i = suc j} p b) } in
     record { top = rw q top; few = omega (arith, e) }

@@ -89,8 +89,8 @@ zeroes-both l n h e q =
 -- ---- sections, and parts of them, by their stretch of the slice
 
 -- words o to e - 1 are section s
-pub section-zero : (w k : ℕ) (ws : List ℕ) (r : Bool) (s o e : ℕ) → s < 9 → place (lengths w k) s ≡ o → o + getD (lengths w k) s 0 ≡ e → r ≡ zeroes (take (e - o) (drop o ws)) → r ≡ zeroes (getD (split (lengths w k) ws) s [])
-section-zero w k ws r s o e l p q h =
+pub section-zero : (w k : ℕ) (ws : List ℕ) (r : Bool) (s o e : ℕ) → place (lengths w k) s ≡ o → o + getD (lengths w k) s 0 ≡ e → r ≡ zeroes (take (e - o) (drop o ws)) → r ≡ zeroes (getD (split (lengths w k) ws) s [])
+section-zero w k ws r s o e p q h =
     let n : e - o ≡ getD (lengths w k) s 0 = omega arith in
     rw (split-is (lengths w k) ws s, p) (rw n at h)
 

@@ -16,7 +16,7 @@ pub fn begin(im: &mut [Word], k: usize) -> Answer
     if image::sections::running(im, k) == 1 {
         return Answer::WrongPhase;
     }
-    image::clearing::clear_cards(im, k);
+    stretches::clearing::clear_cards(im, k);
     image::sections::set_general_word(im, k, 0, 1);
     Answer::Done(0)
 }

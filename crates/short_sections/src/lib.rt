@@ -63,7 +63,7 @@ pub fn general_ok(im: &[Word], k: usize) -> bool
     requires { ⌜ Sized width k (now im) ⌝ }
     ensures { λ r. ⌜ r ≡ generalOk (imageOf width k (now (im .entry))) ⌝ }
 {
-    (image::sections::running(im, k) <= 1) & image::parts::zero_spares(im, k)
+    (image::sections::running(im, k) <= 1) & stretches::parts::zero_spares(im, k)
 }
 
 // ---- no cycle
@@ -93,8 +93,8 @@ pub fn is_idle(im: &[Word], k: usize) -> bool
     requires { ⌜ Sized width k (now im) ⌝ }
     ensures { λ r. ⌜ r ≡ idle (imageOf width k (now (im .entry))) ⌝ }
 {
-    image::parts::zero_marks(im, k)
-        & image::parts::zero_packets(im, k)
-        & image::parts::zero_tracers(im, k)
+    stretches::parts::zero_marks(im, k)
+        & stretches::parts::zero_packets(im, k)
+        & stretches::parts::zero_tracers(im, k)
         & all_unscanned(im, k)
 }

@@ -26,7 +26,7 @@ fields l =
     let part : (i : ℕ) → i + 2 ≤ 8 → take 2 (drop i (take 8 l)) ≡ take 2 (drop i l) = λ i. part-take i 2 8 l in
     rw (none, getD-take 8 l 0 0 (omega arith), getD-take 8 l 1 0 (omega arith), part 2 (omega arith), part 4 (omega arith), part 6 (omega arith))
 
-module _ (l : List ℕ) (at : ℕ) (h : at + 8 ≤ length l) (x y a b c : ℕ)
+module _ (l : List ℕ) (at x y a b c : ℕ)
     (ex : x ≡ getD l at 0) (ey : y ≡ getD l (at + 1) 0) (ea : a ≡ little (take 2 (drop (at + 2) l))) (eb : b ≡ little (take 2 (drop (at + 4) l))) (ec : c ≡ little (take 2 (drop (at + 6) l)))
     (hx : x < 256) (hy : y < 256) (ha : a < 65536) (hb : b < 65536) (hc : c < 65536) where
   pub record-is : (requested (record { kind = x; who = y; a = a; b = b; c = c }) ≡ stepOf 16 (take 8 (drop at l))) × InRange 16 (record { kind = x; who = y; a = a; b = b; c = c })

@@ -102,15 +102,15 @@ module _ {M : Type 1} (𝓤 : URA M) (H : Heap 𝓤) (A : Atoms 𝓤) (W : Given
   abbrev pub LifetimeCarved : SProp 𝓤
   LifetimeCarved = wand 𝓤 (A .lft (ν ∷ []) (PosShare·left q)) (A .lft (ν ∷ []) fullShare)
 
-  pub within : ent 𝓤 (sep 𝓤 (A .lft (ν ∷ []) fullShare) (A .lft κ q)) (⋆ 𝓤 H A (‵ (flft (ν ∷ κ) (PosShare·left q)) ∷ ‵ (flft κ (PosShare·right q)) ∷ raw LifetimeCarved ∷ []))
-  within =
+  pub lifetime-met : ent 𝓤 (sep 𝓤 (A .lft (ν ∷ []) fullShare) (A .lft κ q)) (⋆ 𝓤 H A (‵ (flft (ν ∷ κ) (PosShare·left q)) ∷ ‵ (flft κ (PosShare·right q)) ∷ raw LifetimeCarved ∷ []))
+  lifetime-met =
       qed W (‵ (flft (ν ∷ []) fullShare) ∷ ‵ (flft κ q) ∷ []) ∵
       use1 W (‵ (flft (ν ∷ []) (PosShare·left q)) ⊛ raw LifetimeCarved) (W .lfts .lft-carve ν (PosShare·left q)) $ split ! $
       move ! (2 ∷ []) $ use1 W (‵ (flft κ (PosShare·left q)) ⊛ ‵ (flft κ (PosShare·right q))) (W .lfts .lft-split κ q) $ split ! $
       move ! (2 ∷ 0 ∷ []) $ use2 W (‵ (flft (ν ∷ κ) (PosShare·left q))) (W .lfts .lft-meet (ν ∷ []) κ (PosShare·left q)) $ done !
 
-  pub without : ent 𝓤 (⋆ 𝓤 H A (‵ (flft (ν ∷ κ) (PosShare·left q)) ∷ ‵ (flft κ (PosShare·right q)) ∷ raw LifetimeCarved ∷ [])) (H .⇛ (sep 𝓤 (A .dead (ν ∷ κ)) (A .lft κ q)))
-  without =
+  pub lifetime-back : ent 𝓤 (⋆ 𝓤 H A (‵ (flft (ν ∷ κ) (PosShare·left q)) ∷ ‵ (flft κ (PosShare·right q)) ∷ raw LifetimeCarved ∷ [])) (H .⇛ (sep 𝓤 (A .dead (ν ∷ κ)) (A .lft κ q)))
+  lifetime-back =
       qed W (‵ (flft (ν ∷ κ) (PosShare·left q)) ∷ ‵ (flft κ (PosShare·right q)) ∷ raw LifetimeCarved ∷ []) ∵ updating ! $
       use1 W (‵ (flft (ν ∷ []) (PosShare·left q)) ⊛ ‵ (flft κ (PosShare·left q))) (W .lfts .lft-unmeet (ν ∷ []) κ (PosShare·left q)) $ split ! $
       move ! (3 ∷ 0 ∷ []) $ use2 W (‵ (flft (ν ∷ []) fullShare)) (wandE 𝓤 LifetimeCarved (A .lft (ν ∷ []) (PosShare·left q)) (A .lft (ν ∷ []) fullShare) (id⊢ 𝓤 LifetimeCarved)) $ lft-end ! tt $

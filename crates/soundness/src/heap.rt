@@ -79,7 +79,7 @@ pub fn first_unused(im: &[Word], k: usize) -> bool
     requires { ⌜ Sized width k (now im) ⌝ }
     ensures { λ r. ⌜ r ≡ zeroGranule (imageOf width k (now (im .entry))) ⌝ }
 {
-    image::parts::zero_heap(im, k, 0, 4) & !image::bits::is_start(im, k, 0)
+    stretches::parts::zero_heap(im, k, 0, 4) & !image::bits::is_start(im, k, 0)
 }
 
 pub fn heap_ok(im: &[Word], k: usize, targets: &[Word]) -> bool

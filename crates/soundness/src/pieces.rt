@@ -26,11 +26,11 @@ fn zero_rest(im: &[Word], k: usize, g: usize, s: usize) -> bool
     requires { ⌜ (1 ≤ s) × (g + s ≤ 64 * k) ⌝ }
     ensures { λ r. ⌜ r ≡ zeroes (take (4 * s - 2) (drop (4 * g + 2) (imageOf width k (now (im .entry)) .heap))) ⌝ }
 {
-    let mut ok = image::parts::zero_heap(im, k, 4 * g + 2, 4 * g + 4);
+    let mut ok = stretches::parts::zero_heap(im, k, 4 * g + 2, 4 * g + 4);
     let mut i = 1;
     while i < s {
         let a = 4 * (g + i);
-        ok = ok & image::parts::zero_heap(im, k, a, a + 4);
+        ok = ok & stretches::parts::zero_heap(im, k, a, a + 4);
         i += 1;
     }
     ok
@@ -50,7 +50,7 @@ pub fn run_ok(im: &[Word], k: usize, g: usize, next: usize, run: bool) -> bool
     if s <= 8 {
         return zero_rest(im, k, g, s);
     }
-    image::parts::zero_heap(im, k, 4 * g + 2, 4 * g + 4 * s)
+    stretches::parts::zero_heap(im, k, 4 * g + 2, 4 * g + 4 * s)
 }
 
 pub fn piece_ok(im: &[Word], k: usize, g: usize, object: bool, next: usize, run: bool) -> bool

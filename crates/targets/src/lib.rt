@@ -29,7 +29,7 @@ fn regs_to_ask(im: &[Word], k: usize) -> usize
     ensures { λ r. ⌜ (r ≤ 256) × (all 256 (regOk (imageOf width k (now (im .entry)))) ≡ all r (regOk (imageOf width k (now (im .entry))))) ⌝ }
 {
     if image::sections::reg_word(im, k, 16) == 0 {
-        if image::parts::zero_regs(im, k, 16, 256) {
+        if stretches::parts::zero_regs(im, k, 16, 256) {
             return 16;
         }
     }

@@ -73,7 +73,7 @@ fn is_small_word(im: &[Word], k: usize, targets: &[Word], bounds: &[Word], a: us
 {
     let b = 4 * (a % BITS);
     let e = a - a % BITS + BITS;
-    if image::compare::heap_within(
+    if stretches::compare::heap_within(
         im,
         k,
         4 * a,

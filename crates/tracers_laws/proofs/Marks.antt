@@ -15,7 +15,7 @@ use Rattle.model.specs.Image.{Image, imageOf, image, marked}
 use Rattle.model.specs.Collect.{nextMarked}
 use Rattle.model.proofs.Laws.{false≢}
 use Rattle.image_laws.specs.Sized.{Sized}
-use Rattle.image_laws.proofs.Leading.{bit-past}
+use Rattle.image_laws.proofs.Leading.{test-past}
 use Rattle.image_laws.proofs.Lengths.{sized-width}
 use Rattle.image_laws.proofs.Bits.{bit-at}
 use Rattle.image_laws.proofs.Places.{by-width, words-begin}
@@ -116,7 +116,7 @@ module _ (m : Image) (c g x y : ℕ) (near : 64 * c ≤ g + 64) (inside : g < 64
       let w : Lowest 64 y t = rw q (trailing-lowest 64 y small z) in
       let below : t < 64 * c - g = elim (decLt (g % 64 + t) 64) [
         | yes i ↦ omega arith
-        | no i ↦ false≢ (sym (bit-past x (g % 64 + t) (omega (arith, pow-mono {i = 64} {j = g % 64 + t} (omega arith)))) ∙ (sym (shifted t) ∙ w .is-set))
+        | no i ↦ false≢ (sym (test-past x (g % 64 + t) (omega (arith, pow-mono {i = 64} {j = g % 64 + t} (omega arith)))) ∙ (sym (shifted t) ∙ w .is-set))
       ] in
       let d : t + suc (64 * c - g - suc t) ≡ 64 * c - g = omega arith in
       let here : marked m (g + t) ≡ true = sym (shifted-mark t below) ∙ w .is-set in

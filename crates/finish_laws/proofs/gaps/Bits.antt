@@ -20,7 +20,7 @@ use Rattle.image_laws.proofs.Lengths.{sized-as, sized-width}
 use Rattle.image_laws.proofs.Masks.{withoutBit-same, withoutBit-less, withoutBit-other}
 use Rattle.image_laws.proofs.Places.{by-width, place-in, words-full}
 use Rattle.finish_laws.specs.Gaps.{Edged, edged, keptAt, sweptFrom}
-use Rattle.image_laws.proofs.Leading.{Leading, bit-past, word-leading}
+use Rattle.image_laws.proofs.Leading.{Leading, test-past, word-leading}
 use Rattle.finish_laws.proofs.gaps.Granules.{from-marks, passed-keep, from-suc, from-unmarked, from-full}
 
 module _ (w k : ℕ) (ws : List ℕ) (i : ℕ) where
@@ -61,7 +61,7 @@ taking-none {w} {k} {i} {e} {f} {im} {x} z ex hx l r =
       at = w;
       high = omega arith;
       fits = hx;
-      above = λ j p. bit-past x j (omega (arith, pow-mono {i = w} {j = j} p));
+      above = λ j p. test-past x j (omega (arith, pow-mono {i = w} {j = j} p));
       below = word-mark w k im i x ex;
       sized = z;
       same = refl;

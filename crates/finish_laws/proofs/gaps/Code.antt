@@ -13,7 +13,7 @@ use Rattle.image_laws.specs.Sized.{Sized}
 use Rattle.image_laws.proofs.Lengths.{sized-as, sized-width}
 use Rattle.image_laws.proofs.Places.{words-full}
 use Rattle.finish_laws.specs.Gaps.{Edged, edged, headAt, runFrom, gap, closedAt, keptAt, sweptFrom, sweptAll}
-use Rattle.finish_laws.proofs.gaps.Granules.{from-none, from-add}
+use Rattle.finish_laws.proofs.gaps.Granules.{swept-none, from-add}
 use Rattle.finish_laws.proofs.gaps.Runs.{gap-zero, gap-suc}
 
 -- ---- a run
@@ -72,7 +72,7 @@ sweeping-none {w} {k} {im} z =
       low = omega arith;
       top = omega arith;
       room = omega arith;
-      state = rw q (sym (from-none (64 * k) (edged (64 * k) 0 (imageOf w k im))));
+      state = rw q (sym (swept-none (64 * k) (edged (64 * k) 0 (imageOf w k im))));
     }
 
 module _ {w k : ℕ} {im₀ im : List ℕ} {e f i : ℕ} (t : Sweeping w k im₀ im e f i) where

@@ -42,9 +42,9 @@ passed-keep s h u = rw u
 
 -- ---- several
 
-pub from-none : (n : ℕ) (s : Edged) → sweptFrom n s 0 ≡ s
+pub swept-none : (n : ℕ) (s : Edged) → sweptFrom n s 0 ≡ s
 unfolding sweptFrom
-from-none n s = refl
+swept-none n s = refl
 
 pub from-suc : (n : ℕ) (s : Edged) (i : ℕ) → sweptFrom n s (suc i) ≡ passed (sweptFrom n s i) (n - suc i)
 unfolding sweptFrom
@@ -58,7 +58,7 @@ from-unmarked n s i (suc j) l f =
     (from-unmarked n s i j (omega arith) (λ h p q. f h (omega arith) q))
 
 pub from-add : (n : ℕ) (s : Edged) (i j : ℕ) → sweptFrom n s (i + j) ≡ sweptFrom (n - i) (sweptFrom n s i) j
-from-add n s i zero = rw (add-zero, from-none)
+from-add n s i zero = rw (add-zero, swept-none)
 from-add n s i (suc j) =
     let q : i + suc j ≡ suc (i + j) = omega arith in
     let p : n - suc (i + j) ≡ n - i - suc j = omega arith in
@@ -71,7 +71,7 @@ unfolding keptAt
 kept-next h f m = rw (eq-eqb (h + 1) (h + 1) refl)
 
 pub from-full : (n f : ℕ) (m : Image) (i : ℕ) → i ≤ n → ((h : ℕ) → n ≤ h + i → h < n → marked m h ≡ true) → sweptFrom n (edged n f m) i ≡ edged (n - i) f m
-from-full n f m zero l u = rw (from-none, sub-zero)
+from-full n f m zero l u = rw (swept-none, sub-zero)
 from-full n f m (suc i) l u =
     let q : n - i ≡ n - suc i + 1 = omega arith in
     rw from-suc

@@ -11,7 +11,7 @@ use mathlib.Core.Logic.{inl, ⊎-elim}
 use Rattle.finish_marking_laws.specs.Follow.{Headed, headed, pend, visited, visits, settled, LinksIn, World, Listed, Nowhere, Followed}
 use Rattle.finish_marking_laws.specs.Marking.{Shape, Marking, workLeft, Between, Underway, SettledTo}
 use Rattle.finish_marking_laws.proofs.follow.Bits.{image-shape}
-use Rattle.finish_marking_laws.proofs.follow.Turns.{marking-as, next-round, head-card, card-taken, marking-done}
+use Rattle.finish_marking_laws.proofs.follow.Turns.{marking-as, next-round, head-card, takes-card, marking-done}
 use Rattle.finish_marking_laws.proofs.follow.Visits.{Visit, visit-cases, past, on, new}
 use Rattle.image_laws.specs.Bits.{clearStart}
 use Rattle.image_laws.specs.Sized.{Sized}
@@ -99,7 +99,7 @@ module _ {w k : ℕ} {im₀ im : List ℕ} {h l : ℕ} (t : TurnLoop w k im₀ i
     module _ (r : ℕ) (er : r ≡ state (imageOf w k im) (h - 2)) (m1 : Image) (e1 : m1 ≡ setState (imageOf w k im) (h - 2) 0) where
       taken : Marking k (imageOf w k im₀) m1 (Between (64 * (h - 2)) (64 * (h - 2) + 64)) r l
       unfolding state
-      taken = rw (e1, er) (card-taken (t .marking) n .marking)
+      taken = rw (e1, er) (takes-card (t .marking) n .marking)
 
       pub turns-underway : Underway k m1 (64 * (h - 2)) l
       turns-underway = record { from = imageOf w k im₀; head = r; end = 64 * (h - 2) + 64; marking = taken }
@@ -109,7 +109,7 @@ module _ {w k : ℕ} {im₀ im : List ℕ} {h l : ℕ} (t : TurnLoop w k im₀ i
         turned = marking-as (e .goes-on (imageOf w k im₀) r (64 * (h - 2) + 64) taken .marking) Nowhere (λ g q b. absurd (omega (arith, b .low, b .high)))
 
         pub turns-fall : workLeft k (imageOf w k im') < workLeft k (imageOf w k im)
-        turns-fall = let x : workLeft k m1 < workLeft k (imageOf w k im) = rw e1 (card-taken (t .marking) n .less) in omega (arith, e .goes-on (imageOf w k im₀) r (64 * (h - 2) + 64) taken .less)
+        turns-fall = let x : workLeft k m1 < workLeft k (imageOf w k im) = rw e1 (takes-card (t .marking) n .less) in omega (arith, e .goes-on (imageOf w k im₀) r (64 * (h - 2) + 64) taken .less)
 
         module _ (s : length im' ≡ length im) where
           -- more cards wait

@@ -116,9 +116,9 @@ pub record CardTaken (k : ℕ) (m₀ m : Image) (h l : ℕ) : Type 0 where
   pub marking : Marking k m₀ (setState m (h - 2) 0) (Between (64 * (h - 2)) (64 * (h - 2) + 64)) (cardWord m (h - 2)) l
   pub less : workLeft k (setState m (h - 2) 0) < workLeft k m
 
-pub card-taken : {k : ℕ} {m₀ m : Image} {h l : ℕ} → Marking k m₀ m Nowhere h l → (h ≡ 1 → ⊥) → CardTaken k m₀ m h l
+pub takes-card : {k : ℕ} {m₀ m : Image} {h l : ℕ} → Marking k m₀ m Nowhere h l → (h ≡ 1 → ⊥) → CardTaken k m₀ m h l
 unfolding workLeft weight setState withCards marked isStart
-card-taken {k} {m₀} {m} {h} {l} w n = record {
+takes-card {k} {m₀} {m} {h} {l} w n = record {
   marking = record {
     world = w .world;
     grown = grown-cards k m₀ m (h - 2) 0 (w .grown);

@@ -64,7 +64,7 @@ use Rattle.image.specs.Layout.{width, recordLength}
 use Rattle.request_laws.specs.Request.{requested, InRange}
 use Rattle.show_store_laws.specs.Run.{recordAt, writtenAt}
 use Rattle.show_store_laws.proofs.Run.{Ran, ran-none, ran-more, ran-end}
-use Rattle.show_store_laws.proofs.Walk.{tyAt, first-of, rest-of, inside, needs3, LentAgain, lends-again, comes-back, LifetimeCarved, within, without}
+use Rattle.show_store_laws.proofs.Walk.{tyAt, first-of, rest-of, inside, needs3, LentAgain, lends-again, comes-back, LifetimeCarved, lifetime-met, lifetime-back}
 use Rattle.records.specs.declared.reader.Reader.{Reader}
 use Rattle.request_laws.specs.declared.Request.{Request}
 use Rattle.records.proofs.reader.Reader as T
@@ -340,7 +340,7 @@ module _ {M : Type 1} (𝓤 : URA M) (H : Heap 𝓤) (A : Atoms 𝓤) (W : Given
         -- the reader is lent to `next`
         assigns ! (addr ! (from ! (stop !))) (from ! (stop !)) (init ! 18 refl (tt, tt)) $
         move ! (12 ∷ 4 ∷ []) $ use2 W (‵ (mem R .lies (rd i) l₅ 0)) (rests 𝓤 H A W κ₂ (rd i) l₅) $
-        lft-new ! tt (λ ν. move ! (0 ∷ 6 ∷ []) $ use2 W (‵ (flft (ν ∷ κ₂) (PosShare·left q₂)) ⊛ ‵ (flft κ₂ (PosShare·right q₂)) ⊛ raw (LifetimeCarved 𝓤 H A W ν κ₂ q₂)) (within 𝓤 H A W ν κ₂ q₂) $ split ! $ move ! (1 ∷ []) $ split ! $
+        lft-new ! tt (λ ν. move ! (0 ∷ 6 ∷ []) $ use2 W (‵ (flft (ν ∷ κ₂) (PosShare·left q₂)) ⊛ ‵ (flft κ₂ (PosShare·right q₂)) ⊛ raw (LifetimeCarved 𝓤 H A W ν κ₂ q₂)) (lifetime-met 𝓤 H A W ν κ₂ q₂) $ split ! $ move ! (1 ∷ []) $ split ! $
         move ! (3 ∷ []) $ use1 W (later (some (λ (δ : GName). ‵ (Lent ν l₅ δ i) ⊛ ‵ (flent (ν ∷ κ₂) (Body (mem R) l₅ 0 δ))))) (lends-ref 𝓤 H A W R (named 0) (ν ∷ κ₂) (rd i) l₅ 0) $ await ! tt $ pick ! (λ δ. split ! $
         move ! (4 ∷ 2 ∷ 0 ∷ []) $ use3 W (raw (Next 𝓤 H A at-mem run .pre (to-next ν l₅ δ i))) (goes-next ν l₅ δ i small) $
         -- [what `next` asks; the lender's part; what makes ν's token whole; the image; its token; the answers; their token; the step bytes; room for _0; _1; _2; _3; _4; _6; _7; …]
@@ -351,7 +351,7 @@ module _ {M : Type 1} (𝓤 : URA M) (H : Heap 𝓤) (A : Atoms 𝓤) (W : Given
         peeks ! S.the-row (Is S.the-row) (shows 𝓤 H A S.the-row) r (u ∷ []) (λ is. land ! (from ! (stop !)) (init ! 17 refl (LL.lawful S.the-type S′.the-laws 𝓤 H A W .typed r _ is .0)) $
         -- [the request; ν's token and the step bytes'; the reader's last value; the lender's part; what makes ν's token whole; …]: the lifetime ends, and the reader is back
         move ! (1 ∷ []) $ split ! $ move ! (1 ∷ []) $ split ! $ move ! (1 ∷ []) $ drop ! $ move ! (1 ∷ 0 ∷ 5 ∷ []) $
-        use3 W (later (‵ (fdead (ν ∷ κ₂)) ⊛ ‵ (flft κ₂ q₂))) (without 𝓤 H A W ν κ₂ q₂) $ await ! tt $ split ! $ move ! (0 ∷ 4 ∷ 3 ∷ []) $
+        use3 W (later (‵ (fdead (ν ∷ κ₂)) ⊛ ‵ (flft κ₂ q₂))) (lifetime-back 𝓤 H A W ν κ₂ q₂) $ await ! tt $ split ! $ move ! (0 ∷ 4 ∷ 3 ∷ []) $
         use3 W (later (‵ (mem R .lies (rd (i + 1)) l₅ 0))) (ref-back 𝓤 H A W R (ν ∷ κ₂) δ (rd (i + 1)) l₅ 0) $ await ! tt $
         use1 W (‵ (fat fullShare (T′.mir erased) l₅ 0 (T′.lowered (rd (i + 1)))) ⊛ ‵ (OwnR (i + 1))) (rises 𝓤 H A W κ₂ (rd (i + 1)) l₅) $ split ! $
         move ! (4 ∷ 5 ∷ 6 ∷ 7 ∷ 1 ∷ 2 ∷ 8 ∷ 3 ∷ 9 ∷ 10 ∷ 11 ∷ 12 ∷ 13 ∷ 0 ∷ []) $

@@ -11,7 +11,7 @@ use Rattle.model.proofs.Bits.{setBit-same, setBit-other}
 use Rattle.theory.specs.Heap.{HeapSized}
 use Rattle.theory.specs.Pieces.{RunIn}
 use Rattle.theory.specs.New.{placed, reheaped, nextOf, Carved, following}
-use Rattle.theory.proofs.new.TakeRun.{headed-nth, headed-length, headed-words, take-nth, take-length, take-pointer, take-left, take-first, take-only}
+use Rattle.theory.proofs.new.TakeRun.{head-put-nth, head-put-length, head-put-words, take-nth, take-length, take-pointer, take-left, take-first, take-only}
 
 -- ---- the words that are written, for a run of at least b granules at g
 
@@ -59,16 +59,16 @@ module _ (m : Image) (g before b c : ℕ) where
 
   placed-nth : (x : ℕ) → (x ≡ 4 * g → ⊥) → (x ≡ 4 * g + 1 → ⊥) → nth ((placed m g before b c) .heap) x ≡ nth (taken .heap) x
   unfolding placed setStart setWord withHeap withStarts
-  placed-nth x n₀ n₁ = headed-nth taken g b c x n₀ n₁
+  placed-nth x n₀ n₁ = head-put-nth taken g b c x n₀ n₁
 
   pub placed-length : length ((placed m g before b c) .heap) ≡ length (m .heap)
   unfolding placed setStart setWord withHeap withStarts
-  placed-length = headed-length taken g b c ∙ take-length m g before b run-left
+  placed-length = head-put-length taken g b c ∙ take-length m g before b run-left
 
   module _ (o : RunIn m g) (lb : b ≤ word m g 0) (hb : 1 ≤ b) (below : before < g) (len : length (m .heap) ≡ 4 * granules m) (z : HeapSized m) where
     placed-words : (word (placed m g before b c) g 0 ≡ b) × (word (placed m g before b c) g 1 ≡ c)
     unfolding placed setStart setWord withHeap withStarts word
-    placed-words = headed-words taken g b c (omega (arith, take-length m g before b run-left))
+    placed-words = head-put-words taken g b c (omega (arith, take-length m g before b run-left))
 
     some-left : b < word m g 0 → (word (placed m g before b c) (g + b) 0 ≡ run-left) × (word (placed m g before b c) (g + b) 1 ≡ word m g 1)
     unfolding word

@@ -39,21 +39,21 @@ next-only m (suc p) v = record { sections = refl; general-word = λ i ne. refl; 
 
 -- ---- the first two words of granule h
 
-abbrev pub headed : Image → ℕ → ℕ → ℕ → Image
-headed m h x y = setWord (setWord m h 0 x) h 1 y
+abbrev pub headPut : Image → ℕ → ℕ → ℕ → Image
+headPut m h x y = setWord (setWord m h 0 x) h 1 y
 
 module _ (m : Image) (h x y : ℕ) where
-  pub headed-nth : (i : ℕ) → (i ≡ 4 * h → ⊥) → (i ≡ 4 * h + 1 → ⊥) → nth ((headed m h x y) .heap) i ≡ nth (m .heap) i
+  pub head-put-nth : (i : ℕ) → (i ≡ 4 * h → ⊥) → (i ≡ 4 * h + 1 → ⊥) → nth ((headPut m h x y) .heap) i ≡ nth (m .heap) i
   unfolding setWord withHeap
-  headed-nth i n₀ n₁ = nth-put-other (put (m .heap) (4 * h + 0) x) (4 * h + 1) i y n₁ ∙ nth-put-other (m .heap) (4 * h + 0) i x (λ e. n₀ (omega arith))
+  head-put-nth i n₀ n₁ = nth-put-other (put (m .heap) (4 * h + 0) x) (4 * h + 1) i y n₁ ∙ nth-put-other (m .heap) (4 * h + 0) i x (λ e. n₀ (omega arith))
 
-  pub headed-length : length ((headed m h x y) .heap) ≡ length (m .heap)
+  pub head-put-length : length ((headPut m h x y) .heap) ≡ length (m .heap)
   unfolding setWord withHeap
-  headed-length = length-put (put (m .heap) (4 * h + 0) x) (4 * h + 1) y ∙ length-put (m .heap) (4 * h + 0) x
+  head-put-length = length-put (put (m .heap) (4 * h + 0) x) (4 * h + 1) y ∙ length-put (m .heap) (4 * h + 0) x
 
-  pub headed-words : 4 * h + 1 < length (m .heap) → (word (headed m h x y) h 0 ≡ x) × (word (headed m h x y) h 1 ≡ y)
+  pub head-put-words : 4 * h + 1 < length (m .heap) → (word (headPut m h x y) h 0 ≡ x) × (word (headPut m h x y) h 1 ≡ y)
   unfolding setWord withHeap word
-  headed-words l = (
+  head-put-words l = (
     nth-put-other (put (m .heap) (4 * h + 0) x) (4 * h + 1) (4 * h + 0) y (omega arith) ∙ nth-put-same (m .heap) (4 * h + 0) x (omega arith),
     nth-put-same (put (m .heap) (4 * h + 0) x) (4 * h + 1) y (rw (length-put (m .heap) (4 * h + 0) x) l),
   )
@@ -63,29 +63,29 @@ module _ (m : Image) (h x y : ℕ) where
 module _ (m : Image) (g before b : ℕ) where
   -- what is left of it, a run of `left` granules at g + b
   abbrev leftover : ℕ → Image
-  leftover left = headed m (g + b) left (word m g 1)
+  leftover left = headPut m (g + b) left (word m g 1)
 
   pub take-nth : (left x : ℕ) → (1 ≤ before → x ≡ 4 * before + 1 → ⊥) → (1 ≤ left → (x ≡ 4 * (g + b) → ⊥) × (x ≡ 4 * (g + b) + 1 → ⊥)) → nth ((takeRun m g before b left) .heap) x ≡ nth (m .heap) x
   unfolding takeRun
   take-nth zero x nb nl = next-nth m before (word m g 1) x nb
-  take-nth (suc l) x nb nl = let k = nl (omega arith) in next-nth (leftover (suc l)) before (g + b) x nb ∙ headed-nth m (g + b) (suc l) (word m g 1) x (k .0) (k .1)
+  take-nth (suc l) x nb nl = let k = nl (omega arith) in next-nth (leftover (suc l)) before (g + b) x nb ∙ head-put-nth m (g + b) (suc l) (word m g 1) x (k .0) (k .1)
 
   pub take-length : (left : ℕ) → length ((takeRun m g before b left) .heap) ≡ length (m .heap)
   unfolding takeRun
   take-length zero = next-length m before (word m g 1)
-  take-length (suc l) = next-length (leftover (suc l)) before (g + b) ∙ headed-length m (g + b) (suc l) (word m g 1)
+  take-length (suc l) = next-length (leftover (suc l)) before (g + b) ∙ head-put-length m (g + b) (suc l) (word m g 1)
 
   pub take-pointer : (left : ℕ) → (before ≡ 0 → ⊥) → 4 * before + 1 < length (m .heap) → nth ((takeRun m g before b left) .heap) (4 * before + 1) ≡ nextOf m g b left
   unfolding takeRun nextOf
   take-pointer zero nz l = next-pointer m before (word m g 1) nz l
-  take-pointer (suc x) nz l = next-pointer (leftover (suc x)) before (g + b) nz (rw (headed-length m (g + b) (suc x) (word m g 1)) l)
+  take-pointer (suc x) nz l = next-pointer (leftover (suc x)) before (g + b) nz (rw (head-put-length m (g + b) (suc x) (word m g 1)) l)
 
   pub take-left : (left : ℕ) → 1 ≤ left → before < g + b → 4 * (g + b) + 1 < length (m .heap)
       → (word (takeRun m g before b left) (g + b) 0 ≡ left) × (word (takeRun m g before b left) (g + b) 1 ≡ word m g 1)
   unfolding takeRun word
   take-left zero h l q = absurd (omega arith)
   take-left (suc x) h l q =
-      let k = headed-words m (g + b) (suc x) (word m g 1) q in
+      let k = head-put-words m (g + b) (suc x) (word m g 1) q in
       (next-nth (leftover (suc x)) before (g + b) (4 * (g + b) + 0) (λ u. omega arith) ∙ k .0, next-nth (leftover (suc x)) before (g + b) (4 * (g + b) + 1) (λ u. omega arith) ∙ k .1)
 
   pub take-first : (left : ℕ) → 2 ≤ length (m .general) → firstRun (takeRun m g before b left) ≡ following before (nextOf m g b left) 0 (firstRun m)

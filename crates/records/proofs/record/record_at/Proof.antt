@@ -13,7 +13,7 @@ returns c =
     let a = c .before .before .field .ensures in
     let b = c .before .field2 .ensures in
     let d = c .field3 .ensures in
-    record-is (A .steps .now) (A .at) (search needs) _ _ _ _ _ (x .0) (y .0) (a .0) (b .0) (d .0) (x .1) (y .1) (a .1) (b .1) (d .1)
+    record-is (A .steps .now) (A .at) _ _ _ _ _ (x .0) (y .0) (a .0) (b .0) (d .0) (x .1) (y .1) (a .1) (b .1) (d .1)
 
 pub record-at-spec : {M : Type 1} → statement M
 record-at-spec =
