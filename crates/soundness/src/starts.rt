@@ -16,7 +16,7 @@ pub fn count_starts(im: &[Word], k: usize) -> usize
     let mut n: u32 = 0;
     let mut i = 0;
     while i < 64 * k / BITS {
-        n += u32::count_ones(image::sections::start_word(im, k, i) as u32);
+        n += u32::count_ones(image::sections::start_word(im, k, i) as usize as u32);
         i += 1;
     }
     n as usize

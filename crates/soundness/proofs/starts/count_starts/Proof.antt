@@ -14,7 +14,7 @@ pub count-starts-spec : {M : Type 1} → statement M
 count-starts-spec =
     tie.close
     (tie.spec Inv-loop (λ im k n₀ i₀ n i. 64 * k / width - i) (λ c. search c-none) (λ c. search needs) (λ c κs. search needs)
-    (λ c. search needs)
+    (λ c. search needs) (λ c. search needs)
     (λ c. omega (arith, ones-le width (c .start-word .result) (omega arith), c-small _ _ _ _ _ (c .before .before .loop .inv), c .before .before .before .before .pre .high))
     (λ c. search needs) (λ c. search needs) (λ c. search c-more)
     (λ c. omega (arith, c-small _ _ _ _ _ (c .before .loop .inv), c .before .loop .inv .within, c .before .before .before .pre .high))
