@@ -6,7 +6,7 @@
 
 #include "show_store.h"
 
-/* A store of 16 cards; below LOW free granules the desk would call a finish due. */
+/* A store of 16 cards; below LOW granules in runs of 8 or more the desk would call a finish due. */
 enum { CARDS = 16, MOST = 64, CUES = 8, LIST_GRANULES = 3, CUE_GRANULES = 2, LOW = 950 };
 
 static uint16_t image[SHOW_STORE_WORDS(CARDS)];
@@ -87,7 +87,8 @@ static void tick(unsigned n)
     expect("level of the cue", value(level), 1000 + n % CUES);
 }
 
-/* A cycle over so many ticks. Each tick leaves one dropped palette of one granule behind: the finish frees these and nothing else. */
+/* A cycle over so many ticks. Each tick leaves one dropped palette of one granule behind: the finish frees these and nothing else. What
+ * the ticks leave free is one long run. */
 static void play(unsigned ticks)
 {
     unsigned room = 64 * CARDS - 1 - LIST_GRANULES - CUE_GRANULES * CUES - ticks;

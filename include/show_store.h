@@ -53,7 +53,7 @@ enum show_step {
     SHOW_STEP_TRACE = 11,   /* tracer: a little marking */
     SHOW_STEP_CLEAN = 12,   /* tracer: a little marking on cards that barriers have turned dirty */
     SHOW_STEP_FINISH = 13,  /* no field: marks the rest, frees what nothing holds, ends the cycle; value: granules freed */
-    SHOW_STEP_DUE = 14      /* a: value: 1 if fewer than a granules are free, else 0 */
+    SHOW_STEP_DUE = 14      /* a: "only runs of 8 granules or more count"; value: "1 if the granules in such runs are fewer than a", else 0 */
 };
 
 /* Numbers of an answer: why a step was refused. The lowest that applies is given. A refused step has value 0 and alters nothing. */

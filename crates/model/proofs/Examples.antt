@@ -1,13 +1,14 @@
 -- What is said of the worked images, by computation.
 use mathlib.Core.Path.{_≡_, refl, sym, _∙_}
 use mathlib.Core.Bool.{true}
+use mathlib.Core.List.{[], _∷_}
 use Rattle.model.specs.Image.{parts}
 use Rattle.model.specs.Undamaged.{sound}
 use Rattle.model.specs.Batch.{judgeOf, finishOf}
 use Rattle.model.specs.Plain.{old, plainOf, feed, plainRun, readings, SameAnswers}
 use Rattle.model.specs.Open.{model-open}
-use Rattle.model.specs.Cases.{oneCard, cases-open}
-use Rattle.model.specs.Examples.{linkBehind, owedByOne, owedAndHeld, allFreed, again, againSaid, examples-open}
+use Rattle.model.specs.Cases.{bytes, oneCard, ok, refused, cases-open}
+use Rattle.model.specs.Examples.{linkBehind, owedByOne, owedAndHeld, allFreed, scattered, longCue, duesNear, dueBefore, again, againSaid, examples-open}
 
 -- a link before the next one of an object in hand: Cover fails, and a finish, which goes by object, keeps what it links to
 pub behind-sound : sound (parts 16 linkBehind) ≡ true
@@ -35,6 +36,20 @@ owed-together = refl
 pub runs-joined : allFreed ≡ oneCard
 unfolding model-open cases-open examples-open
 runs-joined = refl
+
+-- many single granules: by document 01's rule 8 are there and nothing is due, by document 02's it is, and a new of 8 is refused for room
+pub scattered-before : dueBefore (parts 16 scattered) 8 ≡ 0
+unfolding model-open cases-open examples-open
+scattered-before = refl
+
+pub scattered-due : longCue ≡ bytes (ok 1 ∷ refused 9 ∷ [])
+unfolding model-open cases-open examples-open
+scattered-due = refl
+
+-- a run of 8 counts, a run of 7 does not; "fewer" is strict
+pub near-eight : duesNear ≡ bytes (ok 0 ∷ ok 1 ∷ ok 0 ∷ [])
+unfolding model-open cases-open examples-open
+near-eight = refl
 
 -- a granule that is used again is another object: the real answers, read, and the plain store's
 pub again-read : readings old 0 again ≡ againSaid

@@ -1,10 +1,13 @@
--- Worked images that the starred cases do not reach: a finish on an image without Cover, Cover and its two players, runs joined; and a
--- history with the plain store beside it.
-use mathlib.Core.List.{List, [], _∷_}
-use Prim.Native.Nat.{ℕ, _+_, _*_}
+-- Worked images that the starred cases do not reach: a finish on an image without Cover, Cover and its two players, runs joined, runs too
+-- short to be usable; and a history with the plain store beside it.
+use mathlib.Core.Bool.{cond}
+use mathlib.Core.List.{List, [], _∷_, _++_}
+use Prim.Native.Nat.{ℕ, zero, suc, _+_, _*_}
+use lib.Dec.{ltb}
 use lib.ListN.{length, replicate}
-use Rattle.model.specs.Base.{put}
-use Rattle.model.specs.Image.{heapAt, regsAt, playersAt, lengths, place}
+use Rattle.model.specs.Base.{put, table}
+use Rattle.model.specs.Image.{Image, heapAt, regsAt, playersAt, lengths, place}
+use Rattle.model.specs.Mutate.{freeGranules}
 use Rattle.model.specs.Batch.{Batch, batchOf}
 use Rattle.model.specs.Steps.{Event}
 use Rattle.model.specs.Plain.{made, as-object, as-is, Reply}
@@ -43,6 +46,31 @@ owedAndHeld = put owedByOne (at regsAt 1) 2
 unfoldable pub allFreed : List ℕ
 allFreed = left (rec 1 0 0 1 0 ∷ rec 1 0 1 1 0 ∷ rec 1 0 2 1 0 ∷ rec 6 0 0 0 0 ∷ rec 6 0 1 0 0 ∷ rec 6 0 2 0 0 ∷ rec 9 0 0 0 0 ∷ rec 13 0 0 0 0 ∷ [])
 
+-- n objects of one granule in player 0's registers and as many of three in player 1's, one behind the other by turns
+unfoldable pub byTurns : ℕ → List (List ℕ)
+byTurns zero = []
+byTurns (suc n) = byTurns n ++ (rec 1 0 n 1 0 ∷ rec 1 1 n 3 0 ∷ [])
+
+-- 15 of each, those of one granule dropped; begin, finish: 15 runs of one granule, and one of three behind them
+unfoldable pub scattered : List ℕ
+scattered = left (byTurns 15 ++ (table 15 (λ r. rec 6 0 r 0 0) ++ (rec 9 0 0 0 0 ∷ rec 13 0 0 0 0 ∷ [])))
+
+-- on it, a due that asks for 8 granules, and a new of 8
+unfoldable pub longCue : List ℕ
+longCue = let r : Batch = batchOf scattered (bytes (rec 14 0 8 0 0 ∷ rec 1 0 0 8 0 ∷ [])) (replicate 4 0) in r .answers
+
+-- objects of 7, 1, 8 and 47 granules, those of 7 and of 8 dropped; begin, finish: runs of 7 and of 8, and no more room
+unfoldable pub nearEight : List ℕ
+nearEight = left (rec 1 0 0 7 0 ∷ rec 1 0 1 1 0 ∷ rec 1 0 2 8 0 ∷ rec 1 0 3 47 0 ∷ rec 6 0 0 0 0 ∷ rec 6 0 2 0 0 ∷ rec 9 0 0 0 0 ∷ rec 13 0 0 0 0 ∷ [])
+
+-- on it, dues that ask for 8 granules, for 9 and for none
+unfoldable pub duesNear : List ℕ
+duesNear = let r : Batch = batchOf nearEight (bytes (rec 14 0 8 0 0 ∷ rec 14 0 9 0 0 ∷ rec 14 0 0 0 0 ∷ [])) (replicate 6 0) in r .answers
+
+-- what document 01's rule says of an image and a: "value 1 if fewer than a granules are free, else 0"
+unfoldable pub dueBefore : Image → ℕ → ℕ
+dueBefore m a = cond (ltb (freeGranules m) a) 1 0
+
 -- an object made at granule 1, written, read, dropped and freed; then another at granule 1, whose level words are zero
 unfoldable pub again : List Event
 again = history 16 oneCard (record { steps = bytes (rec 1 0 0 1 0 ∷ rec 8 0 0 1 7 ∷ rec 7 0 0 1 0 ∷ rec 6 0 0 0 0 ∷ rec 9 0 0 0 0 ∷ []); answers = replicate 10 0 } ∷ record { steps = bytes (rec 13 0 0 0 0 ∷ rec 1 0 3 1 0 ∷ rec 7 0 3 1 0 ∷ rec 7 0 0 0 0 ∷ []); answers = replicate 8 0 } ∷ [])
@@ -61,5 +89,5 @@ againSaid =
 
 -- opens all of these
 unfoldable pub examples-open : ℕ
-unfolding at left inHand linkBehind traced owedByOne owedAndHeld allFreed again againSaid
+unfolding at left inHand linkBehind traced owedByOne owedAndHeld allFreed byTurns scattered longCue nearEight duesNear dueBefore again againSaid
 examples-open = 0

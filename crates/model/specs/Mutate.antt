@@ -1,5 +1,5 @@
--- What the steps of players do that is more than one word: new, with the run that it is placed in.
-use mathlib.Core.Bool.{true, false}
+-- What the steps of players do that is more than one word: new, with the run that it is placed in. The granules of the runs, for due.
+use mathlib.Core.Bool.{true, false, cond}
 use Prim.Native.Nat.{ℕ, zero, suc, _+_, _-_}
 use lib.Dec.{leb}
 use Rattle.model.specs.Image.{Image, granules, word, firstRun, setWord, setStart, setReg, setFirstRun}
@@ -39,16 +39,39 @@ newObject m p r b c =
     let g : ℕ = f .run in
     setReg (setStart (setWord (setWord (takeRun m g (f .before) b (word m g 0 - b)) g 0 b) g 1 c) g) p r g
 
--- the granules of the runs from run g on, of n runs at most
+-- ---- the granules of the runs
+
+-- the sum of v over the lengths of the runs from run g on, of n runs at most
+unfoldable pub sumRuns : (ℕ → ℕ) → Image → ℕ → ℕ → ℕ
+sumRuns v m zero g = 0
+sumRuns v m (suc n) zero = 0
+sumRuns v m (suc n) (suc g) = v (word m (suc g) 0) + sumRuns v m n (word m (suc g) 1)
+
+-- every granule of these runs
 unfoldable pub freeFrom : Image → ℕ → ℕ → ℕ
-freeFrom m zero g = 0
-freeFrom m (suc n) zero = 0
-freeFrom m (suc n) (suc g) = word m (suc g) 0 + freeFrom m n (word m (suc g) 1)
+unfolding sumRuns
+freeFrom = sumRuns (λ n. n)
 
 unfoldable pub freeGranules : Image → ℕ
 freeGranules m = freeFrom m (granules m) (firstRun m)
 
+-- what a run of n granules counts, where only runs of `least` or more do
+unfoldable pub ifLong : ℕ → ℕ → ℕ
+ifLong least n = cond (leb least n) n 0
+
+-- the granules in such runs
+unfoldable pub granulesInRuns : ℕ → Image → ℕ
+granulesInRuns least m = sumRuns (ifLong least) m (granules m) (firstRun m)
+
+-- document 02, (i): "only runs of 8 granules or more count"
+unfoldable pub usableRun : ℕ
+usableRun = 8
+
+-- "the granules in such runs"
+unfoldable pub usableGranules : Image → ℕ
+usableGranules = granulesInRuns usableRun
+
 -- opens all of these
 unfoldable pub mutate-open : ℕ
-unfolding fit roomFor setNext takeRun newObject freeFrom freeGranules
+unfolding fit roomFor setNext takeRun newObject sumRuns freeFrom freeGranules ifLong granulesInRuns usableRun usableGranules
 mutate-open = 0

@@ -1,4 +1,4 @@
--- The kinds, a kindRow for each: what its fields are, and what it asks for. A kind more is a kindRow here, and a line in `act`.
+-- The kinds, a kindRow for each: what its fields are, and what it asks for. A kind more is a kindRow here, and a line in `actBy`.
 use mathlib.Core.Bool.{Bool, true, false}
 use mathlib.Core.List.{List, [], _∷_}
 use Prim.Native.Nat.{ℕ}

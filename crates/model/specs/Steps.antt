@@ -7,7 +7,7 @@ use Rattle.model.specs.Base.{some, first}
 use Rattle.model.specs.Image.{Image, links, link, levels, level, reg, owed, scanned, running, setWord, setReg, setOwed, dirtyCard}
 use Rattle.model.specs.Records.{Step, Kind, new, load, store, barrier, handOver, dropReg, read, write, begin, scan, trace, clean, finish, isDue, unknown, kindOf}
 use Rattle.model.specs.Rows.{Phase, anyPhase, noCycle, inCycle, rowOf, is, forKind, isUnused, isPlayer, limit, reaches, fields, atTarget, rows-open}
-use Rattle.model.specs.Mutate.{roomFor, newObject, freeGranules}
+use Rattle.model.specs.Mutate.{roomFor, newObject, usableGranules}
 use Rattle.model.specs.Collect.{beginCycle, scanPlayer, traceLine, traceStep, cleanLine, cleanStep}
 use Rattle.model.specs.Finish.{Finish, finishStep}
 
@@ -39,6 +39,12 @@ module _ (s : Step) where
   unfoldable pub badSize : Kind → Bool
   unfolding is
   badSize n = is n new && some (eqb (s .b) 0 ∷ ltb 1024 (s .b) ∷ ltb (4 * s .b - 2) (s .c) ∷ [])
+
+-- ---- what kind 14 says of an image and a
+
+-- document 02, (i), in place of document 01's line on due: "Step 14 gives 1 if the granules in such runs are fewer than a"
+unfoldable pub due : Image → ℕ → ℕ
+due m a = cond (ltb (usableGranules m) a) 1 0
 
 -- ---- the numbers that depend on the image
 
@@ -114,39 +120,54 @@ module _ (m : Image) (s : Step) where
   unfoldable pub finishDone : Finish → Done
   finishDone f = accept (f .image) (f .value)
 
-  unfoldable pub act : Kind → Done
-  -- "new: register a gets an object of b granules and c links, all else zero, at the start of the lowest run that suffices; value its granule"
-  act new = accept (newObject m (s .who) (s .a) (s .b) (s .c)) ((roomFor m (s .b)) .run)
-  -- "load: register a gets link c of the object in register b; value that link"
-  act load = let l : ℕ = link m (object (s .b)) (s .c) in accept (setReg m (s .who) (s .a) l) l
-  -- "store: link b of the object in a gets register c, and the player owes the object's card"
-  act store = let g : ℕ = object (s .a) in accept (setOwed (setWord m g (2 + s .b) (object (s .c))) (s .who) (suc (g / 64))) 0
-  -- "barrier: the owed card turns dirty and the player owes nothing"
-  act barrier = accept (setOwed (dirtyCard m (owed m (s .who) - 1)) (s .who) 0) 0
-  -- "hand: player b's register c gets a copy of own register a"
-  act handOver = accept (setReg m (s .b) (s .c) (object (s .a))) 0
-  -- "drop: register a becomes nil"
-  act dropReg = accept (setReg m (s .who) (s .a) 0) 0
-  -- "read: level word b of the object in a"
-  act read = accept m (level m (object (s .a)) (s .b))
-  -- "write: c into that word"
-  act write = let g : ℕ = object (s .a) in accept (setWord m g (2 + links m g + s .b) (s .c)) 0
-  act begin = accept (beginCycle m) 0
-  act scan = accept (scanPlayer m (s .who) (s .a)) 0
-  act trace = accept (traceStep m (s .who)) 0
-  act clean = accept (cleanStep m (s .who)) 0
-  act finish = finishDone (finishStep m)
-  -- "due: value 1 if fewer than a granules are free, else 0"
-  act isDue = accept m (cond (ltb (freeGranules m) (s .a)) 1 0)
-  act unknown = accept m 0
+  -- by any rule of kind 14: what due says of an image and a. Nothing else goes by it (`due-rule` of the theory).
+  module _ (rule : Image → ℕ → ℕ) where
+    unfoldable pub actBy : Kind → Done
+    -- "new: register a gets an object of b granules and c links, all else zero, at the start of the lowest run that suffices; value its granule"
+    actBy new = accept (newObject m (s .who) (s .a) (s .b) (s .c)) ((roomFor m (s .b)) .run)
+    -- "load: register a gets link c of the object in register b; value that link"
+    actBy load = let l : ℕ = link m (object (s .b)) (s .c) in accept (setReg m (s .who) (s .a) l) l
+    -- "store: link b of the object in a gets register c, and the player owes the object's card"
+    actBy store = let g : ℕ = object (s .a) in accept (setOwed (setWord m g (2 + s .b) (object (s .c))) (s .who) (suc (g / 64))) 0
+    -- "barrier: the owed card turns dirty and the player owes nothing"
+    actBy barrier = accept (setOwed (dirtyCard m (owed m (s .who) - 1)) (s .who) 0) 0
+    -- "hand: player b's register c gets a copy of own register a"
+    actBy handOver = accept (setReg m (s .b) (s .c) (object (s .a))) 0
+    -- "drop: register a becomes nil"
+    actBy dropReg = accept (setReg m (s .who) (s .a) 0) 0
+    -- "read: level word b of the object in a"
+    actBy read = accept m (level m (object (s .a)) (s .b))
+    -- "write: c into that word"
+    actBy write = let g : ℕ = object (s .a) in accept (setWord m g (2 + links m g + s .b) (s .c)) 0
+    actBy begin = accept (beginCycle m) 0
+    actBy scan = accept (scanPlayer m (s .who) (s .a)) 0
+    actBy trace = accept (traceStep m (s .who)) 0
+    actBy clean = accept (cleanStep m (s .who)) 0
+    actBy finish = finishDone (finishStep m)
+    actBy isDue = accept m (rule m (s .a))
+    actBy unknown = accept m 0
 
-  -- "the others refuse one step, with value 0": what number r leaves
+    -- "the others refuse one step, with value 0": what number r leaves
+    unfoldable pub outcomeBy : Kind → ℕ → Done
+    outcomeBy n zero = actBy n
+    outcomeBy n (suc r) = record { image = m; number = suc r; value = 0 }
+
+    unfoldable pub stepBy : Done
+    stepBy = let n : Kind = kindOf (s .kind) in outcomeBy n (refusal n)
+
+  -- ---- the same, by the rule of document 02
+
+  unfoldable pub act : Kind → Done
+  unfolding actBy
+  act = actBy due
+
   unfoldable pub outcome : Kind → ℕ → Done
-  outcome n zero = act n
-  outcome n (suc r) = record { image = m; number = suc r; value = 0 }
+  unfolding outcomeBy act
+  outcome = outcomeBy due
 
   unfoldable pub step : Done
-  step = let n : Kind = kindOf (s .kind) in outcome n (refusal n)
+  unfolding stepBy outcome
+  step = stepBy due
 
 -- opens the lines of `refusal`
 unfoldable pub numbers-open : ℕ
@@ -177,5 +198,5 @@ answersOf (e ∷ es) = e .done .number ∷ e .done .value ∷ answersOf es
 
 -- opens all of these
 unfoldable pub steps-open : ℕ
-unfolding numbers-open object accept finishDone act outcome step run after answersOf
+unfolding numbers-open object accept finishDone due act outcome step run after answersOf
 steps-open = 0

@@ -3,13 +3,14 @@ use mathlib.Core.Path.{_≡_, refl, sym, ap, _∙_}
 use mathlib.Core.Logic.{_⊎_, inl, inr, ⊎-elim}
 use mathlib.Core.Bool.{cond}
 use Prim.Native.Nat.{ℕ, zero, suc, _+_, _-_, _≤_, _<_, _*_}
+use native.Mathlib.Decide.{decLt}
 use native.Mathlib.Omega.{arith}
 use lib.Dec.{eqb}
 use borrow.Author.Tests.{le-leb, lt-leb, eq-eqb, ne-eqb}
 use Rattle.model.specs.Image.{Image, granules, word, firstRun}
-use Rattle.model.specs.Mutate.{fit, roomFor, Room, freeFrom, freeGranules}
+use Rattle.model.specs.Mutate.{fit, roomFor, Room, sumRuns, ifLong, granulesInRuns}
 use Rattle.runs_laws.specs.Chain.{Linked, linked-end, linked-run}
-use Rattle.theory.proofs.heap.Free.{chain-end}
+use Rattle.theory.proofs.heap.Free.{sum-end}
 use native.Mathlib.Nat.{zero-add}
 use native.Mathlib.Numerals.{sub-one}
 
@@ -95,39 +96,52 @@ module _ (m : Image) (b before g : ℕ) (w : Walk m b before g) where
 
 -- ---- the walk that counts granules
 
-free-next : (m : Image) (n g : ℕ) → 0 < n → 0 < g → freeFrom m n g ≡ word m g 0 + freeFrom m (n - 1) (word m g 1)
-unfolding freeFrom
-free-next m zero g h i = absurd (omega arith)
-free-next m (suc n) zero h i = absurd (omega arith)
-free-next m (suc n) (suc g) h i = rw sub-one
+-- a run that is long enough counts, another does not
+pub long-counts : (least n : ℕ) → least ≤ n → n ≡ ifLong least n
+unfolding ifLong
+long-counts least n l = rw (le-leb least n l)
+
+pub short-counts : (least n : ℕ) → n < least → 0 ≡ ifLong least n
+unfolding ifLong
+short-counts least n l = rw (lt-leb least n l)
+
+pub no-more : (least n s : ℕ) → s ≡ ifLong least n → s ≤ n
+no-more least n s e = elim (decLt n least) [ yes l ↦ omega (arith, short-counts least n l) | no l ↦ omega (arith, long-counts least n (omega arith)) ]
+
+sum-next : (v : ℕ → ℕ) (m : Image) (n g : ℕ) → 0 < n → 0 < g → sumRuns v m n g ≡ v (word m g 0) + sumRuns v m (n - 1) (word m g 1)
+unfolding sumRuns
+sum-next v m zero g h i = absurd (omega arith)
+sum-next v m (suc n) zero h i = absurd (omega arith)
+sum-next v m (suc n) (suc g) h i = rw sub-one
 
 -- total granules are counted before run g, each run's fewer than the widest word can say
-pub record Counting (m : Image) (total g : ℕ) : Type 0 where
+pub record Counting (least : ℕ) (m : Image) (total g : ℕ) : Type 0 where
   pub left : ℕ
   pub on : OnChain m left g
-  pub same : total + freeFrom m left g ≡ freeGranules m
+  pub same : total + sumRuns (ifLong least) m left g ≡ granulesInRuns least m
   pub small : total ≤ 4294967295 * granules m
   pub fewer : (g ≡ 0) ⊎ (total ≤ 4294967295 * g)
 
-pub count-first : (m : Image) (g : ℕ) → g ≡ firstRun m → Linked m (firstRun m) → Counting m 0 g
-unfolding freeGranules
-count-first m g e l = record { left = granules m; on = on-first m g e l; same = rw e (zero-add (freeFrom m (granules m) (firstRun m))); small = omega arith; fewer = inr (omega arith) }
+pub count-first : (least : ℕ) (m : Image) (g : ℕ) → g ≡ firstRun m → Linked m (firstRun m) → Counting least m 0 g
+unfolding granulesInRuns
+count-first least m g e l = record { left = granules m; on = on-first m g e l; same = rw e (zero-add (sumRuns (ifLong least) m (granules m) (firstRun m))); small = omega arith; fewer = inr (omega arith) }
 
-module _ (m : Image) (total g : ℕ) (w : Counting m total g) where
-  pub count-end : g ≡ 0 → total ≡ freeGranules m
-  count-end e = omega (arith, w .same, ap (freeFrom m (w .left)) e, chain-end m (w .left))
+module _ (least : ℕ) (m : Image) (total g : ℕ) (w : Counting least m total g) where
+  pub count-end : g ≡ 0 → total ≡ granulesInRuns least m
+  count-end e = omega (arith, w .same, ap (sumRuns (ifLong least) m (w .left)) e, sum-end (ifLong least) m (w .left))
 
   module _ (h : g ≡ 0 → ⊥) where
     pub count-in : g < granules m
     count-in = on-turn m (w .left) g (w .on) h .0
 
-    pub count-next : (n : ℕ) → n ≡ word m g 0 → n ≤ 4294967295 → Counting m (total + n) (word m g 1)
-    count-next n en l =
+    pub count-next : (n s : ℕ) → n ≡ word m g 0 → n ≤ 4294967295 → s ≡ ifLong least n → Counting least m (total + s) (word m g 1)
+    count-next n s en l es =
         let so-far : total ≤ 4294967295 * g = ⊎-elim (λ e. absurd (h e)) (λ l. l) (w .fewer) in
+        let few : s ≤ 4294967295 = omega (arith, no-more least n s es) in
         record {
           left = w .left - 1;
           on = on-turn m (w .left) g (w .on) h .2;
-          same = omega (arith, w .same, en, free-next m (w .left) g (on-turn m (w .left) g (w .on) h .1) (omega arith));
+          same = omega (arith, w .same, es, ap (ifLong least) en, sum-next (ifLong least) m (w .left) g (on-turn m (w .left) g (w .on) h .1) (omega arith));
           small = omega (arith, count-in);
           fewer = elim (linked-in m g (w .on .linked) h .1) [ inl z ↦ inl z | inr z ↦ inr (omega arith) ];
         }

@@ -10,3 +10,4 @@ pub mod Mutating
 pub mod EachKind
 pub mod Kept
 pub mod Numbers
+pub mod Due

@@ -10,3 +10,4 @@ pub mod Finish
 pub mod New
 pub mod Numbers
 pub mod Fields
+pub mod Due

@@ -1,11 +1,11 @@
 -- The heap read by granule: objects and runs from a granule on, the run that new takes, unused granules and stretches of them.
 use mathlib.Core.Path.{_≡_}
 use mathlib.Core.Logic.{_⊎_}
-use mathlib.Core.List.{List}
-use mathlib.Core.Bool.{Bool, true, false, cond, _&&_}
+use mathlib.Core.List.{List, [], _∷_}
+use mathlib.Core.Bool.{Bool, true, false, not, cond, _&&_}
 use Prim.Native.Nat.{ℕ, zero, suc, _+_, _*_, _-_, _≤_, _<_}
-use lib.Dec.{ltb}
-use Rattle.model.specs.Base.{nth, any}
+use lib.Dec.{leb, ltb}
+use Rattle.model.specs.Base.{nth, all, any, every}
 use Rattle.model.specs.Image.{Image, granules, word, isStart, size}
 use Rattle.theory.specs.Heap.{Bare}
 
@@ -110,3 +110,19 @@ inObject m y = any (suc y) (λ h. isStart m h && ltb y (h + size m h))
 -- the number of granules that are in no object, granule 0 among them
 unfoldable pub granulesOutside : Image → ℕ
 granulesOutside m = sumBelow (λ y. cond (inObject m y) 0 1) (granules m)
+
+-- `Unused`, computed
+unfoldable pub unused : Image → ℕ → Bool
+unused m y = every (ltb 0 y ∷ ltb y (granules m) ∷ not (inObject m y) ∷ [])
+
+-- the n granules from x on are a maximal stretch of unused ones
+unfoldable pub isStretch : Image → ℕ → ℕ → Bool
+isStretch m x n = every (all n (λ i. unused m (x + i)) ∷ not (unused m (x - 1)) ∷ not (unused m (x + n)) ∷ [])
+
+-- granule y lies in a maximal stretch of at least so many unused granules
+unfoldable pub inStretch : ℕ → Image → ℕ → Bool
+inStretch least m y = any (suc y) (λ x. any (granules m) (λ n. every (leb least n ∷ ltb y (x + n) ∷ isStretch m x n ∷ [])))
+
+-- the number of granules that lie in one
+unfoldable pub granulesInStretches : ℕ → Image → ℕ
+granulesInStretches least m = sumBelow (λ y. cond (inStretch least m y) 1 0) (granules m)

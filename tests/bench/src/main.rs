@@ -17,12 +17,13 @@ use timing::Goals;
 
 type Part = fn(&mut Goals);
 
-const PARTS: [(&str, Part); 8] = [
+const PARTS: [(&str, Part); 9] = [
     ("judge", judging::judging),
     ("growth", judging::growing),
     ("fresh", judging::making),
     ("steps", stepping::stepping),
     ("finish", stepping::finishing),
+    ("due", stepping::asking),
     ("pauses", pauses::pauses),
     ("show", |_| halts::longest()),
     ("trees", trees::trees),

@@ -3,9 +3,9 @@
 
 use crate::calls::Batch;
 use crate::shows::{full_tree, show, Free, Sizes};
-use crate::stepping::pauses_of;
+use crate::stepping::alone;
 use crate::timing::{pass_time, Goals};
-use crate::work::{self, BEGIN};
+use crate::work::{self, BEGIN, FINISH};
 
 pub fn pauses(goals: &mut Goals) {
     println!(
@@ -47,7 +47,7 @@ fn print_row(what: &str, image: &[u16]) -> Row {
     let marking = work::marking(&begun);
     let half = marking.len() / 16 * 8;
     let moments = [0, half, marking.len()].map(|done| work::after(&begun, &marking[..done]));
-    let [first, middle, last] = pauses_of(12, [0, 1, 2].map(|n| (library::batch as Batch, &moments[n][..])));
+    let [first, middle, last] = alone(12, &FINISH, [0, 1, 2].map(|n| (library::batch as Batch, &moments[n][..])));
     let ratio = first / last;
     println!("  {what:52} {first:11.0} {middle:12.0} {last:12.0} {ratio:12.1}");
     Row { all_marked: last, ratio }

@@ -1,8 +1,12 @@
-//! Timings of batches: the steps of a show, and a finish.
+//! Timings of batches: the steps of a show, a finish, and due.
 
 use crate::calls::{Batch, Call};
+use crate::shows::{show, Free, Sizes};
 use crate::timing::{in_turn, Goals, NOT_SLOWER};
-use crate::work::{self, BEGIN, FINISH};
+use crate::work::{self, BEGIN, DUE_OF_NONE, FINISH};
+
+/// Dues in a batch: enough to show beside the judging of the image.
+const DUES: usize = 100;
 
 pub fn stepping(goals: &mut Goals) {
     println!("steps, a realistic mix      library ns  second ns  library/second  (a step)");
@@ -19,18 +23,34 @@ pub fn stepping(goals: &mut Goals) {
     }
 }
 
-/// A finish alone, by each and on each image: the time of a batch of one finish less that of an empty batch, which judges the image
-/// too. All run in turn.
-pub fn pauses_of<const N: usize>(rounds: usize, finishes: [(Batch, &[u16]); N]) -> [f64; N] {
-    let calls = finishes.map(|(batch, image)| (batch, Call::new(image, &FINISH), Call::new(image, &[])));
+/// Some steps alone, by each and on each image: the time of a batch of them less that of an empty batch, which judges the image too.
+/// All run in turn.
+pub fn alone<const N: usize>(rounds: usize, steps: &[u8], runs: [(Batch, &[u16]); N]) -> [f64; N] {
+    let calls = runs.map(|(batch, image)| (batch, Call::new(image, steps), Call::new(image, &[])));
     let mut least = [[f64::MAX; 2]; N];
     for _ in 0..rounds {
-        for ((batch, finish, empty), least) in calls.iter().zip(&mut least) {
-            let [whole, judging] = in_turn(1, [&mut || finish.time(*batch), &mut || empty.time(*batch)]);
+        for ((batch, whole, empty), least) in calls.iter().zip(&mut least) {
+            let [whole, judging] = in_turn(1, [&mut || whole.time(*batch), &mut || empty.time(*batch)]);
             *least = [least[0].min(whole), least[1].min(judging)];
         }
     }
     least.map(|[whole, judging]| whole - judging)
+}
+
+/// Due, on a store with as many runs as there can be.
+pub fn asking(goals: &mut Goals) {
+    println!("due                         library ns  second ns  library/second  (a step)");
+    let steps = DUE_OF_NONE.repeat(DUES);
+    let linear = [64, 512].map(|k| {
+        let image = show(k, Sizes::OneBetweenRuns, Free::Nothing);
+        let [ours, theirs] =
+            alone(4, &steps, [(library::batch, &image), (reference::batch, &image)]).map(|all| all / DUES as f64);
+        println!("  k = {k:3}, {:5} runs {ours:18.0} {theirs:10.0} {:14.2}", 32 * k - 1, ours / theirs);
+        goals.at_most("due against the second implementation", ours / theirs, NOT_SLOWER);
+        ours
+    });
+    println!("  a due at k = 512 against k = 64: {:.1}", linear[1] / linear[0]);
+    goals.at_most("a due at k = 512 against k = 64", linear[1] / linear[0], 10.0);
 }
 
 pub fn finishing(goals: &mut Goals) {
@@ -41,7 +61,7 @@ pub fn finishing(goals: &mut Goals) {
         let marked = work::after(&begun, &work::marking(&begun));
         let mut pauses = Vec::new();
         for (what, image) in [("right after a begin", &begun), ("after marking", &marked)] {
-            let [ours, theirs] = pauses_of(12, [(library::batch, image), (reference::batch, image)]);
+            let [ours, theirs] = alone(12, &FINISH, [(library::batch, image), (reference::batch, image)]);
             println!("  k = {k:3}, {what:19} {ours:9.0} {theirs:10.0} {:14.2}", ours / theirs);
             goals.at_most("finish against the second implementation", ours / theirs, NOT_SLOWER);
             pauses.push(ours);

@@ -20,7 +20,7 @@ const DROPPED: usize = 300;
 const TRACES: usize = 6;
 const NODES_A_BATCH: usize = 512;
 
-/// A cycle begins where fewer granules are free, half the store: enough for what is built until its marking ends.
+/// A cycle begins where fewer granules are in usable runs, half the store: enough for what is built until its marking ends.
 const LOW: u16 = 16_384;
 
 /// The builder's registers. Register d, 1 to 12, holds the left half of a tree of depth d while its right half is built.

@@ -9,6 +9,7 @@ use reference::steps::step;
 
 pub const BEGIN: [u8; 8] = [9, 0, 0, 0, 0, 0, 0, 0];
 pub const FINISH: [u8; 8] = [13, 0, 0, 0, 0, 0, 0, 0];
+pub const DUE_OF_NONE: [u8; 8] = [14, 0, 0, 0, 0, 0, 0, 0];
 
 /// The image that some steps leave.
 pub fn after(image: &[u16], steps: &[u8]) -> Vec<u16> {

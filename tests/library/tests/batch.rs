@@ -2,23 +2,24 @@
 
 use library::guarded::Guarded;
 use reference::demand::found_no_packet;
-use reference::generate::{batches, list, spoil, Pace};
+use reference::generate::{batches, list, list_with_dues, spoil, Pace};
 use reference::image::Image;
-use reference::made::{fresh_image, idle, running, starved, STARVED_CARDS};
+use reference::made::{fresh_image, holes, idle, running, starved, STARVED_CARDS};
 use reference::random::Random;
-use reference::record::{records, Record, RECORD_BYTES};
-use reference::vectors::{parse, Case, UNTOUCHED};
+use reference::record::{records, Record, DUE, RECORD_BYTES};
+use reference::vectors::{parse, BatchCase, Case, UNTOUCHED};
 use reference::{whole_list, Counts};
 
 const GUARD: u16 = 0xa55a;
 const BYTE_GUARD: u8 = 0x77;
 
-/// What a run has shown: steps, accepted ones by kind, steps of no kind, numbers, refused batches, and in batches of one step those
-/// that found no packet for an object.
+/// What a run has shown: steps, accepted ones by kind, dues that said 1, steps of no kind, numbers, refused batches, and in batches of
+/// one step those that found no packet for an object.
 #[derive(Debug, Default)]
 struct Seen {
     steps: usize,
     accepted: [usize; 15],
+    due: usize,
     unknown_kinds: usize,
     numbers: [usize; 12],
     refused: usize,
@@ -33,6 +34,7 @@ impl Seen {
             self.numbers[usize::from(answer[0])] += 1;
             if answer[0] == 0 {
                 self.accepted[usize::from(record.kind)] += 1;
+                self.due += usize::from(record.kind == DUE && answer[1] == 1);
             }
         }
     }
@@ -162,6 +164,23 @@ fn from_large_images() {
     assert!((1..=14).all(|kind| seen.accepted[kind] > 0), "a kind was never accepted");
 }
 
+/// Runs of about 8 granules, and a due behind every step that may take from them, or join them.
+#[test]
+fn with_dues_between() {
+    let mut random = Random::new(109);
+    let mut seen = Seen::default();
+    for round in 0..800 {
+        let mut image = holes(&mut random, 1 + round % 6);
+        let pace = Pace::draw(&mut random);
+        let steps = list_with_dues(&mut random, &mut image.clone(), 150, pace);
+        for (steps, answer_words) in batches(&mut random, &steps) {
+            same(&mut image, &steps, answer_words, &mut seen);
+        }
+    }
+    assert_worth_running(&seen, 240_000);
+    assert!(seen.accepted[14] > 100_000 && seen.due > 20_000 && seen.accepted[14] - seen.due > 20_000, "{seen:?}");
+}
+
 #[test]
 fn damaged_images() {
     let mut random = Random::new(106);
@@ -226,19 +245,39 @@ fn worked_example() {
     assert_eq!(answers, [0, 1, 0, 0, 0, 0]);
 }
 
-#[test]
-fn outside_vectors() {
-    let text = include_str!("../../vectors/batches.txt");
-    let mut run = 0;
-    for case in parse(text).unwrap() {
-        let Case::Batch(case) = case else { continue };
+/// The library's answers for the cases of a file of vectors, whose results and images must be right.
+fn run_vectors(text: &str) -> Vec<(BatchCase, Vec<u16>)> {
+    let of_batch = |case| match case {
+        Case::Batch(case) => case,
+        Case::Finish(case) => panic!("{} is no case of batch", case.name),
+    };
+    let run = |case: BatchCase| {
         let mut image = case.image.clone();
         let mut answers = vec![UNTOUCHED; case.answers];
         let result = library::batch(&mut image, &case.steps, &mut answers);
-        assert_eq!((result, &image, &answers), (case.result, &case.left, &case.given), "case {}", case.name);
-        run += 1;
+        assert_eq!((result, &image), (case.result, &case.left), "case {}", case.name);
+        (case, answers)
+    };
+    parse(text).unwrap().into_iter().map(of_batch).map(run).collect()
+}
+
+/// The vectors of document 01: of all that they give, only dues have moved since.
+#[test]
+fn outside_vectors() {
+    let ran = run_vectors(include_str!("../../vectors/batches.txt"));
+    assert_eq!(ran.len(), 120);
+    for (case, answers) in ran {
+        assert!(case.gives_but_for_due(&answers), "case {}", case.name);
     }
-    assert!(run >= 100, "{run} vectors");
+}
+
+#[test]
+fn outside_dues() {
+    let ran = run_vectors(include_str!("../../vectors/document_02/01-i.txt"));
+    assert_eq!(ran.len(), 70);
+    for (case, answers) in ran {
+        assert_eq!(answers, case.given, "case {}", case.name);
+    }
 }
 
 /// A finish of the library on the outside vectors whose images have Cover too.

@@ -1,10 +1,10 @@
 //! Random cases for the format of the vectors, with what this implementation does on them.
 
 use crate::finish::finish;
-use crate::generate::{list, misfit, spoil, Pace};
+use crate::generate::{list, list_with_dues, misfit, spoil, Pace};
 use crate::judge::cover;
 use crate::layout::{PLAYERS, TRACERS};
-use crate::made::{fresh_image, idle, loose, running, starved, uncovered_image, STARVED_CARDS};
+use crate::made::{fresh_image, holes, idle, loose, running, starved, uncovered_image, STARVED_CARDS};
 use crate::random::Random;
 use crate::record::{Record, RECORD_BYTES, SCAN};
 use crate::steps::batch;
@@ -50,6 +50,7 @@ fn call(random: &mut Random) -> (&'static str, Vec<u16>, Vec<u8>, usize) {
         (12, "evolved"),
         (40, "made"),
         (6, "idle"),
+        (12, "dues"),
         (1, "starved"),
         (12, "spoiled"),
         (6, "loose"),
@@ -60,6 +61,7 @@ fn call(random: &mut Random) -> (&'static str, Vec<u16>, Vec<u8>, usize) {
         "fresh" => fresh_image(k),
         "evolved" => evolved(random, k),
         "idle" => idle(random, k),
+        "dues" => holes(random, k),
         "starved" => starved(random, STARVED_CARDS),
         "loose" => uncovered_image(random, k),
         _ => running(random, k),
@@ -73,7 +75,8 @@ fn call(random: &mut Random) -> (&'static str, Vec<u16>, Vec<u8>, usize) {
     // The list is drawn for the sound image, whatever happens to the image or the lengths then.
     let mut sound = image.clone();
     let mut steps = if what == "starved" { scans(random, &mut sound) } else { Vec::new() };
-    steps.extend(list(random, &mut sound, count, pace));
+    let draw = if what == "dues" { list_with_dues } else { list };
+    steps.extend(draw(random, &mut sound, count, pace));
     let words = steps.len() / RECORD_BYTES * 2;
     let (steps, answers) = if what == "misfit" { misfit(random, &steps) } else { (steps, words) };
     match what {

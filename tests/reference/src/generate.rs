@@ -4,7 +4,7 @@ use crate::image::{Image, Store};
 use crate::layout::*;
 use crate::random::Random;
 use crate::record::*;
-use crate::steps::step;
+use crate::steps::{step, usable_granules};
 use crate::tracing::{can_clean, can_trace};
 
 /// Lists differ in how often they do what.
@@ -37,6 +37,17 @@ pub fn list(random: &mut Random, image: &mut [u16], count: usize, pace: Pace) ->
         let record = record(random, store.image(), pace);
         step(&mut store, record);
         steps.extend(record.to_bytes());
+    }
+    steps
+}
+
+/// A list as `list` draws it, with a due behind each of its `count` records.
+pub fn list_with_dues(random: &mut Random, image: &mut [u16], count: usize, pace: Pace) -> Vec<u8> {
+    let mut steps = Vec::with_capacity(2 * RECORD_BYTES * count);
+    for _ in 0..count {
+        steps.extend(list(random, image, 1, pace));
+        let left = Image::of(image).expect("a fitting length");
+        steps.extend(due(random, left).to_bytes());
     }
     steps
 }
@@ -196,9 +207,21 @@ fn sensible(random: &mut Random, image: Image, pace: Pace) -> Record {
         BEGIN | FINISH => Record::new(kind, 0, 0, 0, 0),
         SCAN => scan(random, image),
         TRACE | CLEAN => tracer_step(random, image, kind),
-        DUE => Record::new(DUE, 0, random.below(image.granules() + 2) as u16, 0, 0),
+        DUE => due(random, image),
         _ => of_a_player(random, image, kind),
     }
+}
+
+/// A due that asks for as many granules as are usable or free, for one more, or for any number.
+fn due(random: &mut Random, image: Image) -> Record {
+    let any = random.below(image.granules() + 2);
+    let wanted = match any % 6 {
+        0 | 1 => usable_granules(image),
+        2 | 3 => usable_granules(image) + 1,
+        4 => image.runs().map(|(_, length)| length).sum(),
+        _ => any,
+    };
+    Record::new(DUE, 0, wanted as u16, 0, 0)
 }
 
 fn scan(random: &mut Random, image: Image) -> Record {

@@ -1,5 +1,5 @@
-//! A second implementation of the show store and its collector, written from the paper alone,
-//! and the checks of whole lists of steps that any implementation of `batch` can be put to.
+//! A second implementation of the show store and its collector, written from documents 01 and 02
+//! alone, and the checks of whole lists of steps that any implementation of `batch` can be put to.
 
 pub mod cases;
 pub mod demand;

@@ -23,6 +23,16 @@ pub fn idle(random: &mut Random, k: usize) -> Vec<u16> {
     words
 }
 
+/// An undamaged image with no cycle, whose objects and runs have about as many granules as a run must have to count.
+pub fn holes(random: &mut Random, k: usize) -> Vec<u16> {
+    let mut words = vec![0; length(k)];
+    let mut store = Store::of(&mut words).expect("a fitting length");
+    lay_heap(random, &mut store, Sizes::AboutEight);
+    set_links(random, &mut store);
+    set_players(random, &mut store);
+    words
+}
+
 /// An undamaged image in a cycle.
 pub fn running(random: &mut Random, k: usize) -> Vec<u16> {
     let mut words = loose(random, k);
@@ -80,6 +90,7 @@ enum Sizes {
     Small,
     Varied,
     Large,
+    AboutEight,
 }
 
 fn size(random: &mut Random, sizes: Sizes) -> usize {
@@ -88,13 +99,18 @@ fn size(random: &mut Random, sizes: Sizes) -> usize {
         Sizes::Small => random.from_to(1, 3),
         Sizes::Varied => random.from_to(1, 8),
         Sizes::Large => random.from_to(1, LARGEST_OBJECT),
+        Sizes::AboutEight => random.from_to(6, 9),
     }
 }
 
 /// Objects and runs from granule 1 to the last, no two runs together.
 fn lay_heap(random: &mut Random, store: &mut Store, sizes: Sizes) {
     let granules = store.layout.granules();
-    let run_percent = if matches!(sizes, Sizes::Single) { 4 } else { random.from_to(0, 40) };
+    let run_percent = match sizes {
+        Sizes::Single => 4,
+        Sizes::AboutEight => 60,
+        _ => random.from_to(0, 40),
+    };
     let mut runs = Vec::new();
     let mut may_be_run = true;
     let mut g = 1;

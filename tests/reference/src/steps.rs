@@ -183,7 +183,12 @@ fn begin(store: &mut Store) {
     store.set_running(true);
 }
 
+/// Document 02, (i): "Step 14 gives 1 if the granules in such runs are fewer than a".
 fn due(image: Image, wanted: usize) -> u16 {
-    let free: usize = image.runs().map(|(_, length)| length).sum();
-    u16::from(free < wanted)
+    u16::from(usable_granules(image) < wanted)
+}
+
+/// Document 02, (i): "only runs of 8 granules or more count".
+pub fn usable_granules(image: Image) -> usize {
+    image.runs().map(|(_, length)| length).filter(|&length| length >= 8).sum()
 }

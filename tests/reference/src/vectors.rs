@@ -2,6 +2,8 @@
 
 use std::collections::BTreeMap;
 
+use crate::record::{records, DUE};
+
 /// The word that answer space holds before a call.
 pub const UNTOUCHED: u16 = 0x5aa5;
 
@@ -15,6 +17,20 @@ pub struct BatchCase {
     pub result: u16,
     pub left: Vec<u16>,
     pub given: Vec<u16>,
+}
+
+impl BatchCase {
+    /// Whether the answers are those given, where the vectors are document 01's, by which a due counts every run. By document 02
+    /// what was due still is, and more is; "no other answer moves".
+    pub fn gives_but_for_due(&self, answers: &[u16]) -> bool {
+        if self.result != 0 || answers.len() != self.given.len() {
+            return answers == self.given;
+        }
+        let pairs = answers.chunks(2).zip(self.given.chunks(2));
+        records(&self.steps).zip(pairs).all(|(record, (answer, given))| {
+            answer == given || (record.kind == DUE && given == [0, 0] && answer == [0, 1])
+        })
+    }
 }
 
 /// A finish alone and what it must do.
@@ -67,9 +83,12 @@ fn case_of(block: &BTreeMap<&str, &str>) -> Result<Case, String> {
     Ok(Case::Batch(BatchCase { name, image, steps, answers, result: number("result")?, left, given }))
 }
 
-/// Words in hex, `v*n` for n equal ones in a row (n decimal).
+/// Words in hex, `v*n` for n equal ones in a row (n decimal), `-` for none.
 fn words(text: &str) -> Result<Vec<u16>, String> {
     let mut words = Vec::new();
+    if text == "-" {
+        return Ok(words);
+    }
     for part in text.split_whitespace() {
         let (value, times) = part.split_once('*').unwrap_or((part, "1"));
         let value = u16::from_str_radix(value, 16).map_err(|e| format!("{part}: {e}"))?;

@@ -64,7 +64,7 @@ fn batches_show_every_kind_and_number() {
 /// Newly marked, entered nowhere, on a card that became dirty: there was no packet for it.
 #[test]
 fn starved_cases_find_no_packet() {
-    let cases = draw(3, 4000);
+    let cases = draw(3, 8000);
     let batches = batch_cases(&cases);
     let starved = batches.iter().filter(|case| case.name.ends_with("starved"));
     let without_packet = starved.filter(|case| {

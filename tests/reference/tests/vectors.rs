@@ -1,26 +1,55 @@
 //! The outside vectors against the reference.
 
-use reference::vectors::{parse, print, Case, UNTOUCHED};
+use reference::vectors::{parse, print, BatchCase, Case, UNTOUCHED};
 use reference::{batch, cover, finish, undamaged_but_cover};
 
 const BATCHES: &str = include_str!("../../vectors/batches.txt");
+const DUES: &str = include_str!("../../vectors/document_02/01-i.txt");
 const FINISHES: &str = include_str!("../../vectors/finishes.txt");
 
+/// The reference's answers and image for a case, whose result must be right.
+fn run(case: &BatchCase) -> (Vec<u16>, Vec<u16>) {
+    let mut image = case.image.clone();
+    let mut answers = vec![UNTOUCHED; case.answers];
+    assert_eq!(batch(&mut image, &case.steps, &mut answers), case.result, "result of {}", case.name);
+    if case.name.ends_with("loose") {
+        assert!(undamaged_but_cover(&case.image), "{}", case.name);
+        assert_eq!(cover(&case.image), case.result == 0, "cover of {}", case.name);
+    }
+    (answers, image)
+}
+
+fn batch_cases(text: &str) -> Vec<BatchCase> {
+    let of_batch = |case| match case {
+        Case::Batch(case) => case,
+        Case::Finish(case) => panic!("{} is no case of batch", case.name),
+    };
+    parse(text).unwrap().into_iter().map(of_batch).collect()
+}
+
+/// The vectors of document 01: of all that they give, only dues have moved since.
 #[test]
 fn batches() {
-    let cases = parse(BATCHES).unwrap();
+    let cases = batch_cases(BATCHES);
     assert_eq!(cases.len(), 120);
+    let mut moved = 0;
     for case in cases {
-        let Case::Batch(case) = case else { panic!("a case of batch") };
-        let mut image = case.image.clone();
-        let mut answers = vec![UNTOUCHED; case.answers];
-        assert_eq!(batch(&mut image, &case.steps, &mut answers), case.result, "result of {}", case.name);
+        let (answers, image) = run(&case);
+        assert!(case.gives_but_for_due(&answers), "answers of {}: {answers:x?}, not {:x?}", case.name, case.given);
+        assert!(image == case.left, "image of {}", case.name);
+        moved += usize::from(answers != case.given);
+    }
+    assert_eq!(moved, 6, "cases in which a due has moved");
+}
+
+#[test]
+fn dues() {
+    let cases = batch_cases(DUES);
+    assert_eq!(cases.len(), 70);
+    for case in cases {
+        let (answers, image) = run(&case);
         assert!(answers == case.given, "answers of {}: {answers:x?}, not {:x?}", case.name, case.given);
         assert!(image == case.left, "image of {}", case.name);
-        if case.name.ends_with("loose") {
-            assert!(undamaged_but_cover(&case.image), "{}", case.name);
-            assert_eq!(cover(&case.image), case.result == 0, "cover of {}", case.name);
-        }
     }
 }
 
@@ -52,7 +81,7 @@ fn a_finish_that_follows_all_is_caught() {
 
 #[test]
 fn printing_and_parsing_agree() {
-    for text in [BATCHES, FINISHES] {
+    for text in [BATCHES, DUES, FINISHES] {
         let cases = parse(text).unwrap();
         let printed: String = cases.iter().map(print).collect();
         assert_eq!(parse(&printed).unwrap(), cases);

@@ -9,7 +9,7 @@ use native.Mathlib.Omega.{arith}
 use lib.ListN.{length, drop, getD, length-append, length-drop}
 use Rattle.model.specs.Image.{Image, granules, word, isStart}
 use Rattle.model.proofs.Laws.{bool-cases}
-use Rattle.model.specs.Mutate.{freeFrom, freeGranules}
+use Rattle.model.specs.Mutate.{sumRuns, freeFrom, freeGranules}
 use Rattle.model.specs.Finish.{runTail, swept, sweep, finishWith}
 use Rattle.theory.specs.Heap.{runWords, Bare, Filled, f-end, f-object, f-run, HeapFilled, HeapSized}
 use Rattle.theory.specs.Pieces.{Reads, Pieces, at-end, at-object, at-run, sumBelow, sizes, usedGranules}
@@ -49,10 +49,14 @@ module _ (st : ℕ → Bool) (rd : ℕ → ℕ → ℕ) where
 
 -- ---- the chain has every granule that no object has
 
+pub sum-end : (v : ℕ → ℕ) (m : Image) (n : ℕ) → sumRuns v m n 0 ≡ 0
+unfolding sumRuns
+sum-end v m zero = refl
+sum-end v m (suc n) = refl
+
 pub chain-end : (m : Image) (n : ℕ) → freeFrom m n 0 ≡ 0
 unfolding freeFrom
-chain-end m zero = refl
-chain-end m (suc n) = refl
+chain-end m n = sum-end (λ s. s) m n
 
 -- n runs are enough
 chain-count : (m : Image) {x next : ℕ} {b : Bool} (n : ℕ) → Pieces (isStart m) (word m) (granules m) x next b → 1 ≤ x → granules m ≤ x + n

@@ -45,18 +45,20 @@ module _ (m : Image) where
 
   -- ---- unused granules
 
+  -- a granule of the run at x, behind which stand more pieces
+  abbrev pub run-here : (x y : ℕ) {next : ℕ} → RunApart m x → PiecesIn m (x + word m x 0) next true → x ≤ y → y < x + word m x 0 → InRun m y
+  run-here x y a p l q = record { run = x; run-apart = a; inside = (l, q); joined = elim (behind-run (isStart m) (word m) (granules m) p) [ inl e ↦ inl e | inr o ↦ inr (o .starts) ] }
+
   in-run : {x next : ℕ} {f : Bool} (y : ℕ) → Unused m y → 1 ≤ x → PiecesIn m x next f → Clear m x → x ≤ y → InRun m y
   in-run y u h at-end c l = absurd (omega (arith, u .in-range))
   in-run {x} y u h (at-object o p) c l = elim (decLt y (x + word m x 0)) [
     | yes k ↦ absurd (u .in-no-object x (o .starts) l (unfold size in k))
     | no k ↦ in-run y u (omega arith) p (clear-object x o c) (omega arith)
   ]
-  in-run {x} y u h (at-run o p) c l =
-      let b = behind-run (isStart m) (word m) (granules m) p in
-      elim (decLt y (x + word m x 0)) [
-        | yes k ↦ record { run = x; run-apart = run-apart x h o c; inside = (l, k); joined = elim b [ inl e ↦ inl e | inr a ↦ inr (a .starts) ] }
-        | no k ↦ in-run y u (omega arith) p (clear-run x o c) (omega arith)
-      ]
+  in-run {x} y u h (at-run o p) c l = elim (decLt y (x + word m x 0)) [
+    | yes k ↦ run-here x y (run-apart x h o c) p l k
+    | no k ↦ in-run y u (omega arith) p (clear-run x o c) (omega arith)
+  ]
 
   pub unused-in-run : HeapFilled m → HeapSized m → (y : ℕ) → Unused m y → InRun m y
   unused-in-run o z y u = in-run y u (omega arith) (image-pieces m o z) (clear-one o) (u .in-range .0)
