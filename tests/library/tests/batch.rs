@@ -7,7 +7,7 @@ use reference::image::Image;
 use reference::made::{fresh_image, holes, idle, running, starved, STARVED_CARDS};
 use reference::random::Random;
 use reference::record::{records, Record, DUE, RECORD_BYTES};
-use reference::vectors::{parse, BatchCase, Case, UNTOUCHED};
+use reference::vectors::{parse, parse_batches, BatchCase, Case, UNTOUCHED};
 use reference::{whole_list, Counts};
 
 const GUARD: u16 = 0xa55a;
@@ -247,10 +247,6 @@ fn worked_example() {
 
 /// The library's answers for the cases of a file of vectors, whose results and images must be right.
 fn run_vectors(text: &str) -> Vec<(BatchCase, Vec<u16>)> {
-    let of_batch = |case| match case {
-        Case::Batch(case) => case,
-        Case::Finish(case) => panic!("{} is no case of batch", case.name),
-    };
     let run = |case: BatchCase| {
         let mut image = case.image.clone();
         let mut answers = vec![UNTOUCHED; case.answers];
@@ -258,7 +254,7 @@ fn run_vectors(text: &str) -> Vec<(BatchCase, Vec<u16>)> {
         assert_eq!((result, &image), (case.result, &case.left), "case {}", case.name);
         (case, answers)
     };
-    parse(text).unwrap().into_iter().map(of_batch).map(run).collect()
+    parse_batches(text).unwrap().into_iter().map(run).collect()
 }
 
 /// The vectors of document 01: of all that they give, only dues have moved since.

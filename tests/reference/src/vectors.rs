@@ -64,6 +64,15 @@ pub fn parse(text: &str) -> Result<Vec<Case>, String> {
     blocks.iter().map(|block| case_of(block).map_err(|e| format!("case {}: {e}", block["case"]))).collect()
 }
 
+/// The cases of a text that has none but of `batch`.
+pub fn parse_batches(text: &str) -> Result<Vec<BatchCase>, String> {
+    let of_batch = |case| match case {
+        Case::Batch(case) => Ok(case),
+        Case::Finish(case) => Err(format!("{} is no case of batch", case.name)),
+    };
+    parse(text)?.into_iter().map(of_batch).collect()
+}
+
 fn case_of(block: &BTreeMap<&str, &str>) -> Result<Case, String> {
     let field = |key: &str| block.get(key).copied().ok_or(format!("no line {key}"));
     let number = |key: &str| field(key)?.parse::<u16>().map_err(|e| format!("{key}: {e}"));

@@ -8,10 +8,10 @@ use reference::image::{Image, Store};
 use reference::made::fresh_image;
 use reference::random::Random;
 use reference::steps::step as run_step;
-use reference::vectors::{parse, BatchCase, Case};
+use reference::vectors::{parse_batches, BatchCase, Case};
 
-/// What due says of the image that a list leaves.
-fn due_after(image: &[u16], wanted: u16) -> (u16, u16) {
+/// What due says of an image.
+fn due_of(image: &[u16], wanted: u16) -> (u16, u16) {
     run(&mut image.to_vec(), &[step(DUE, 0, wanted, 0, 0)])[0]
 }
 
@@ -27,12 +27,12 @@ fn a_run_of_8_counts_and_one_of_7_does_not() {
     for (length, usable) in [(1, 0), (7, 0), (8, 8), (9, 9), (62, 62)] {
         let image = ending_in_run(length);
         if usable > 0 {
-            assert_eq!(due_after(&image, usable - 1), (0, 0), "{length}");
+            assert_eq!(due_of(&image, usable - 1), (0, 0), "{length}");
         }
-        assert_eq!(due_after(&image, usable), (0, 0), "{length}");
-        assert_eq!(due_after(&image, usable + 1), (0, 1), "{length}");
-        assert_eq!(due_after(&image, 0), (0, 0), "{length}");
-        assert_eq!(due_after(&image, 65_535), (0, 1), "{length}");
+        assert_eq!(due_of(&image, usable), (0, 0), "{length}");
+        assert_eq!(due_of(&image, usable + 1), (0, 1), "{length}");
+        assert_eq!(due_of(&image, 0), (0, 0), "{length}");
+        assert_eq!(due_of(&image, 65_535), (0, 1), "{length}");
     }
 }
 
@@ -47,8 +47,8 @@ fn long_runs_add_up_and_short_ones_do_not() {
     let answers = run(&mut image, &list);
     assert_eq!(answers.last(), Some(&(0, 8 + 7 + 9 + 1)));
     let usable = 8 + 9 + 24;
-    assert_eq!(due_after(&image, usable), (0, 0));
-    assert_eq!(due_after(&image, usable + 1), (0, 1));
+    assert_eq!(due_of(&image, usable), (0, 0));
+    assert_eq!(due_of(&image, usable + 1), (0, 1));
 }
 
 /// A desk that said "not due" and then refused a long cue.
@@ -59,7 +59,7 @@ fn many_single_granules() {
     list.extend([begin(), finish()]);
     let mut image = fresh_image(1);
     assert_eq!(run(&mut image, &list).last(), Some(&(0, 32)));
-    assert_eq!(due_after(&image, 1), (0, 1));
+    assert_eq!(due_of(&image, 1), (0, 1));
     assert_eq!(run(&mut image, &[new(0, 0, 2, 0)]), [(9, 0)]);
 }
 
@@ -87,26 +87,24 @@ fn counted(image: Image, least: usize) -> usize {
     image.runs().map(|(_, length)| length).filter(|&length| least <= length).sum()
 }
 
-fn assert_told(cases: impl Iterator<Item = Case>, at_least: usize) {
+fn assert_told(cases: impl Iterator<Item = BatchCase>, at_least: usize) {
     let mut all = [0; 4];
-    for case in cases {
-        if let Case::Batch(case) = case {
-            if case.result == 0 {
-                all.iter_mut().zip(told(&case)).for_each(|(all, told)| *all += told);
-            }
-        }
+    for case in cases.filter(|case| case.result == 0) {
+        all.iter_mut().zip(told(&case)).for_each(|(all, told)| *all += told);
     }
     assert!(all.iter().all(|&told| told >= at_least), "{all:?}");
 }
 
 #[test]
 fn the_vectors_tell_wrong_rules() {
-    let cases = parse(include_str!("../../vectors/document_02/01-i.txt")).unwrap();
+    let cases = parse_batches(include_str!("../../vectors/document_02/01-i.txt")).unwrap();
     assert_told(cases.into_iter(), 5);
 }
 
 #[test]
 fn drawn_cases_tell_wrong_rules() {
     let mut random = Random::new(14);
-    assert_told((0..2000).map(|number| case(&mut random, number)), 50);
+    let drawn = (0..2000).map(|number| case(&mut random, number));
+    let of_batch = drawn.filter_map(|case| if let Case::Batch(case) = case { Some(case) } else { None });
+    assert_told(of_batch, 50);
 }

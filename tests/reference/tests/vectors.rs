@@ -1,6 +1,6 @@
 //! The outside vectors against the reference.
 
-use reference::vectors::{parse, print, BatchCase, Case, UNTOUCHED};
+use reference::vectors::{parse, parse_batches, print, BatchCase, Case, UNTOUCHED};
 use reference::{batch, cover, finish, undamaged_but_cover};
 
 const BATCHES: &str = include_str!("../../vectors/batches.txt");
@@ -19,18 +19,10 @@ fn run(case: &BatchCase) -> (Vec<u16>, Vec<u16>) {
     (answers, image)
 }
 
-fn batch_cases(text: &str) -> Vec<BatchCase> {
-    let of_batch = |case| match case {
-        Case::Batch(case) => case,
-        Case::Finish(case) => panic!("{} is no case of batch", case.name),
-    };
-    parse(text).unwrap().into_iter().map(of_batch).collect()
-}
-
 /// The vectors of document 01: of all that they give, only dues have moved since.
 #[test]
 fn batches() {
-    let cases = batch_cases(BATCHES);
+    let cases = parse_batches(BATCHES).unwrap();
     assert_eq!(cases.len(), 120);
     let mut moved = 0;
     for case in cases {
@@ -44,7 +36,7 @@ fn batches() {
 
 #[test]
 fn dues() {
-    let cases = batch_cases(DUES);
+    let cases = parse_batches(DUES).unwrap();
     assert_eq!(cases.len(), 70);
     for case in cases {
         let (answers, image) = run(&case);
