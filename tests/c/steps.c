@@ -15,8 +15,8 @@ struct line {
 };
 
 /* Two objects fill the store: one of one granule and one link, in r0, and one of the rest and no link, in r1. The scan marks the first,
- * so that the first finish keeps both, though all registers are dropped by then; the next one frees them. Then all but a run of 8
- * granules is used, which is usable, and one of those: a run of 7 is not. */
+ * so that the first finish keeps both, though all registers are dropped by then; the next one frees them. At last a run of 8 granules
+ * is left, which due counts, and then one of 7, which it does not. */
 static const struct line lines[] = {
     {SHOW_STEP_NEW, 0, 0, 1, 1, SHOW_NUMBER_ACCEPTED, 1},
     {SHOW_STEP_NEW, 0, 1, FULL - 1, 0, SHOW_NUMBER_ACCEPTED, 2},

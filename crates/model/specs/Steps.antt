@@ -43,8 +43,8 @@ module _ (s : Step) where
 -- ---- what kind 14 says of an image and a
 
 -- document 02, (i), in place of document 01's line on due: "Step 14 gives 1 if the granules in such runs are fewer than a"
-unfoldable pub due : Image → ℕ → ℕ
-due m a = cond (ltb (usableGranules m) a) 1 0
+unfoldable pub dueValue : Image → ℕ → ℕ
+dueValue m a = cond (ltb (usableGranules m) a) 1 0
 
 -- ---- the numbers that depend on the image
 
@@ -159,15 +159,15 @@ module _ (m : Image) (s : Step) where
 
   unfoldable pub act : Kind → Done
   unfolding actBy
-  act = actBy due
+  act = actBy dueValue
 
   unfoldable pub outcome : Kind → ℕ → Done
   unfolding outcomeBy act
-  outcome = outcomeBy due
+  outcome = outcomeBy dueValue
 
   unfoldable pub step : Done
   unfolding stepBy outcome
-  step = stepBy due
+  step = stepBy dueValue
 
 -- opens the lines of `refusal`
 unfoldable pub numbers-open : ℕ
@@ -198,5 +198,5 @@ answersOf (e ∷ es) = e .done .number ∷ e .done .value ∷ answersOf es
 
 -- opens all of these
 unfoldable pub steps-open : ℕ
-unfolding numbers-open object accept finishDone due act outcome step run after answersOf
+unfolding numbers-open object accept finishDone dueValue act outcome step run after answersOf
 steps-open = 0

@@ -73,13 +73,20 @@ fn same(image: &mut [u16], steps: &[u8], answer_words: usize, seen: &mut Seen) {
 }
 
 /// A random list of about `count` steps from the image, in random batches, misfits between.
-fn run(random: &mut Random, mut image: Vec<u16>, count: usize, seen: &mut Seen) {
+fn run(random: &mut Random, image: Vec<u16>, count: usize, seen: &mut Seen) {
+    run_drawn(random, image, count, list, seen);
+}
+
+/// The same with another way to draw the list.
+fn run_drawn(random: &mut Random, mut image: Vec<u16>, count: usize, draw: Draw, seen: &mut Seen) {
     let pace = Pace::draw(random);
-    let steps = list(random, &mut image.clone(), count, pace);
+    let steps = draw(random, &mut image.clone(), count, pace);
     for (steps, answer_words) in batches(random, &steps) {
         same(&mut image, &steps, answer_words, seen);
     }
 }
+
+type Draw = fn(&mut Random, &mut [u16], usize, Pace) -> Vec<u8>;
 
 fn assert_worth_running(seen: &Seen, steps: usize) {
     println!("{seen:?}");
@@ -170,12 +177,8 @@ fn with_dues_between() {
     let mut random = Random::new(109);
     let mut seen = Seen::default();
     for round in 0..800 {
-        let mut image = holes(&mut random, 1 + round % 6);
-        let pace = Pace::draw(&mut random);
-        let steps = list_with_dues(&mut random, &mut image.clone(), 150, pace);
-        for (steps, answer_words) in batches(&mut random, &steps) {
-            same(&mut image, &steps, answer_words, &mut seen);
-        }
+        let image = holes(&mut random, 1 + round % 6);
+        run_drawn(&mut random, image, 150, list_with_dues, &mut seen);
     }
     assert_worth_running(&seen, 240_000);
     assert!(seen.accepted[14] > 100_000 && seen.due > 20_000 && seen.accepted[14] - seen.due > 20_000, "{seen:?}");

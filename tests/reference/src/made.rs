@@ -27,9 +27,7 @@ pub fn idle(random: &mut Random, k: usize) -> Vec<u16> {
 pub fn holes(random: &mut Random, k: usize) -> Vec<u16> {
     let mut words = vec![0; length(k)];
     let mut store = Store::of(&mut words).expect("a fitting length");
-    lay_heap(random, &mut store, Sizes::AboutEight);
-    set_links(random, &mut store);
-    set_players(random, &mut store);
+    fill_with(random, &mut store, Sizes::AboutEight);
     words
 }
 
@@ -68,9 +66,7 @@ pub fn starved(random: &mut Random, k: usize) -> Vec<u16> {
     assert!(k >= STARVED_CARDS);
     let mut words = vec![0; length(k)];
     let mut store = Store::of(&mut words).expect("a fitting length");
-    lay_heap(random, &mut store, Sizes::Single);
-    set_links(random, &mut store);
-    set_players(random, &mut store);
+    fill_with(random, &mut store, Sizes::Single);
     starve(random, &mut store);
     cover_all(random, &mut store);
     hold_unmarked(random, &mut store);
@@ -79,6 +75,10 @@ pub fn starved(random: &mut Random, k: usize) -> Vec<u16> {
 
 fn fill(random: &mut Random, store: &mut Store) {
     let sizes = random.weighted(&[(3, Sizes::Small), (3, Sizes::Varied), (2, Sizes::Single), (1, Sizes::Large)]);
+    fill_with(random, store, sizes);
+}
+
+fn fill_with(random: &mut Random, store: &mut Store, sizes: Sizes) {
     lay_heap(random, store, sizes);
     set_links(random, store);
     set_players(random, store);

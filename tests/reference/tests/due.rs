@@ -104,7 +104,24 @@ fn the_vectors_tell_wrong_rules() {
 #[test]
 fn drawn_cases_tell_wrong_rules() {
     let mut random = Random::new(14);
-    let drawn = (0..2000).map(|number| case(&mut random, number));
-    let of_batch = drawn.filter_map(|case| if let Case::Batch(case) = case { Some(case) } else { None });
-    assert_told(of_batch, 50);
+    assert_told((0..2000).filter_map(|number| batch_case(&mut random, number)), 50);
+}
+
+fn batch_case(random: &mut Random, number: u64) -> Option<BatchCase> {
+    if let Case::Batch(case) = case(random, number) {
+        return Some(case);
+    }
+    None
+}
+
+/// The cases that the gate has the checker compute, by the seed and the count in `tests/run`, ten at a time as `tests/definitions`
+/// draws them.
+#[test]
+fn the_cases_of_the_gate_tell_wrong_rules() {
+    let words = include_str!("../../run").lines().find_map(|line| line.strip_prefix("./definitions "));
+    let (seed, count) = words.and_then(|words| words.split_once(' ')).expect("a seed and a count");
+    let (seed, count): (u64, u64) = (seed.parse().unwrap(), count.parse().unwrap());
+    let tens = (0..count).step_by(10).map(|from| (Random::new(seed + from), count.min(from + 10) - from));
+    let cases = tens.flat_map(|(mut random, some)| (0..some).filter_map(move |number| batch_case(&mut random, number)));
+    assert_told(cases, 1);
 }

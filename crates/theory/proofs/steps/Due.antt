@@ -6,7 +6,7 @@ use lib.Dec.{ltb}
 use Rattle.model.specs.Image.{Image}
 use Rattle.model.specs.Records.{Step, Kind, new, load, store, barrier, handOver, dropReg, read, write, begin, scan, trace, clean, finish, isDue, unknown, kindOf}
 use Rattle.model.specs.Mutate.{usableRun, usableGranules}
-use Rattle.model.specs.Steps.{Done, refusal, accept, finishDone, due, actBy, outcomeBy, stepBy, act, step}
+use Rattle.model.specs.Steps.{Done, refusal, accept, finishDone, dueValue, actBy, outcomeBy, stepBy, act, step}
 use Rattle.theory.specs.Lines.{Undamaged}
 use Rattle.theory.specs.Pieces.{granulesInStretches}
 use Rattle.theory.specs.Due.{SameButDue}
@@ -20,7 +20,7 @@ alike n d = record { same-image = refl; same-number = refl; same-value = λ othe
 module _ (m : Image) (s : Step) where
   -- "1 if the granules in such runs are fewer than a", without the chain: a run is a maximal stretch of unused granules
   pub due-value : Undamaged m → kindOf (s .kind) ≡ isDue → (step m s) .number ≡ 0 → (step m s) .value ≡ cond (ltb (granulesInStretches usableRun m) (s .a)) 1 0
-  unfolding act accept due usableGranules
+  unfolding act accept dueValue usableGranules
   due-value u k e =
       ap (λ d. d .value) (accepted m s k (sym (step-number m s k) ∙ e))
       ∙ ap (λ n. cond (ltb n (s .a)) 1 0) (stretches-counted m (heap-filled-of (u .sound .lines)) (heap-sized-of (u .sound .lines)) usableRun)
