@@ -34,11 +34,11 @@ static void expect(const char *what, unsigned got, unsigned wanted)
     }
 }
 
-/* Of all steps here, only a trace or a clean may be refused: the tracer has nothing to do. */
+/* Of all steps here, only a trace, a clean or an undirty may be refused: there is nothing to do. */
 static void expect_accepted(size_t place)
 {
     unsigned kind = steps[SHOW_STORE_RECORD_BYTES * place];
-    int may_idle = kind == SHOW_STEP_TRACE || kind == SHOW_STEP_CLEAN;
+    int may_idle = kind == SHOW_STEP_TRACE || kind == SHOW_STEP_CLEAN || kind == SHOW_STEP_UNDIRTY;
 
     if (!(may_idle && number(place) == SHOW_NUMBER_NOTHING_TO_DO))
         expect("number of a step", number(place), SHOW_NUMBER_ACCEPTED);
@@ -87,11 +87,31 @@ static void tick(unsigned n)
     expect("level of the cue", value(level), 1000 + n % CUES);
 }
 
-/* A cycle over so many ticks. Each tick leaves one dropped palette of one granule behind: the finish frees these and nothing else. What
- * the ticks leave free is one long run. */
+/* A cue that is filled in the cycle, with its palette: the barrier turns its card dirty. While nothing on that card is marked there is
+ * nothing to clean on it, and it is wiped; the card of the show itself is refused, since the list there is marked. */
+static void fill_cue(void)
+{
+    unsigned card;
+    size_t cue, wiped;
+
+    cue = add(SHOW_STEP_NEW, 0, 7, 1, 1);
+    add(SHOW_STEP_NEW, 0, 8, 1, 0);
+    add(SHOW_STEP_STORE, 0, 7, 0, 8);
+    add(SHOW_STEP_BARRIER, 0, 0, 0, 0);
+    add(SHOW_STEP_DROP, 0, 8, 0, 0);
+    run();
+    card = value(cue) / SHOW_STORE_CARD_GRANULES;
+    wiped = add(SHOW_STEP_UNDIRTY, 0, card, 0, 0);
+    add(SHOW_STEP_DROP, 0, 7, 0, 0);
+    run();
+    expect("number of the undirty", number(wiped), card == 0 ? SHOW_NUMBER_NOTHING_TO_DO : SHOW_NUMBER_ACCEPTED);
+}
+
+/* A cycle over so many ticks. Each tick leaves one dropped palette of one granule behind, and the cue that is filled two granules: the
+ * finish frees these and nothing else. What the ticks leave free is one long run. */
 static void play(unsigned ticks)
 {
-    unsigned room = 64 * CARDS - 1 - LIST_GRANULES - CUE_GRANULES * CUES - ticks;
+    unsigned room = SHOW_STORE_CARD_GRANULES * CARDS - 1 - LIST_GRANULES - CUE_GRANULES * CUES - ticks - 2;
     size_t due, freed;
 
     add(SHOW_STEP_BEGIN, 0, 0, 0, 0);
@@ -99,11 +119,12 @@ static void play(unsigned ticks)
     run();
     for (unsigned n = 0; n < ticks; n++)
         tick(n);
+    fill_cue();
     due = add(SHOW_STEP_DUE, 0, LOW, 0, 0);
     freed = add(SHOW_STEP_FINISH, 0, 0, 0, 0);
     run();
     expect("due", value(due), room < LOW);
-    expect("granules freed", value(freed), ticks);
+    expect("granules freed", value(freed), ticks + 2);
     printf("%u ticks: due %u, %u granules freed\n", ticks, value(due), value(freed));
 }
 

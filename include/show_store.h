@@ -18,9 +18,10 @@ extern "C" {
 #endif
 
 /* The number of words of a store of k cards, k from 1 to SHOW_STORE_MOST_CARDS. A card is 64 granules, a granule four words. Granule 0
- * is never used, so objects have 64 * k - 1 granules between them. */
-#define SHOW_STORE_WORDS(k) (265u * (size_t)(k) + 1384u)
+ * is never used, so objects have 64 * k - 1 granules between them. An object that starts at granule g is on card g / 64. */
+#define SHOW_STORE_WORDS(k) (266u * (size_t)(k) + 1384u)
 #define SHOW_STORE_MOST_CARDS 512
+#define SHOW_STORE_CARD_GRANULES 64
 
 /* A step is a record of so many bytes, and its answer so many words: its number, then its value. */
 #define SHOW_STORE_RECORD_BYTES 8
@@ -53,21 +54,23 @@ enum show_step {
     SHOW_STEP_TRACE = 11,   /* tracer: a little marking */
     SHOW_STEP_CLEAN = 12,   /* tracer: a little marking on cards that barriers have turned dirty */
     SHOW_STEP_FINISH = 13,  /* no field: marks the rest, frees what nothing holds, ends the cycle; value: granules freed */
-    SHOW_STEP_DUE = 14      /* a: "only runs of 8 granules or more count"; value: "1 if the granules in such runs are fewer than a", else 0 */
+    SHOW_STEP_DUE = 14,     /* a: "only runs of 8 granules or more count"; value: "1 if the granules in such runs are fewer than a", else 0 */
+    SHOW_STEP_UNDIRTY = 15  /* a: card a, if it is dirty and nothing on it is marked, turns clean, so that nobody cleans it for nothing */
 };
 
 /* Numbers of an answer: why a step was refused. The lowest that applies is given. A refused step has value 0 and alters nothing. */
 enum show_number {
     SHOW_NUMBER_ACCEPTED = 0,       /* the step was done */
     SHOW_NUMBER_UNKNOWN = 3,        /* no such kind, or a field that the kind does not name is not 0 */
-    SHOW_NUMBER_OFF_THE_DESK = 4,   /* no such player, register or tracer */
+    SHOW_NUMBER_OFF_THE_DESK = 4,   /* no such player, register, tracer or card */
     SHOW_NUMBER_OWING = 5,          /* the player owes a barrier, or the player who would be handed something does */
     SHOW_NUMBER_NO_OBJECT = 6,      /* the register of the object is nil */
     SHOW_NUMBER_PAST_THE_END = 7,   /* the object has no such link or level word */
     SHOW_NUMBER_BAD_SIZE = 8,       /* new: no granule, more than 1,024, or more links than 4 * b - 2 */
     SHOW_NUMBER_NO_ROOM = 9,        /* new: no b free granules side by side */
-    SHOW_NUMBER_WRONG_PHASE = 10,   /* begin in a cycle; scan, trace, clean or finish outside one */
-    SHOW_NUMBER_NOTHING_TO_DO = 11  /* no barrier owed, player scanned already, or nothing left to trace or to clean */
+    SHOW_NUMBER_WRONG_PHASE = 10,   /* begin in a cycle; scan, trace, clean, finish or undirty outside one */
+    SHOW_NUMBER_NOTHING_TO_DO = 11  /* no barrier owed, player scanned already, nothing left to trace or to clean; undirty: the card
+                                     * is not dirty, or an object on it is marked */
 };
 
 /* Writes one step into the 8 bytes at `record`: the kind, the player or tracer, then a, b and c, low byte first. A field that the kind

@@ -25,6 +25,19 @@ static uint16_t *words_of(size_t n)
     return words;
 }
 
+/* The counts, a word a card, lie before the last 1384 words. Nothing is marked here: each must be 0. Of a large store some are tried, the
+ * last one among them. */
+static void counts_of(uint16_t *image, size_t n, unsigned k)
+{
+    for (unsigned c = 0; c < k; c += c < 16 ? 1 : 33) {
+        size_t at = n - 1384 - k + c;
+        image[at] = c % 2 == 0 ? 1 : 0xffff;
+        expect("judge with a wrong count", judge(image, n), SHOW_STORE_DAMAGED);
+        image[at] = 0;
+    }
+    expect("judge with all counts right", judge(image, n), SHOW_STORE_OK);
+}
+
 static void stores_of(unsigned k)
 {
     size_t n = SHOW_STORE_WORDS(k);
@@ -43,13 +56,16 @@ static void stores_of(unsigned k)
     expect("judge with a cycle of 2", judge(image, n), SHOW_STORE_DAMAGED);
     image[n - 8] = 1;
     expect("judge in a cycle", judge(image, n), SHOW_STORE_OK);
+    counts_of(image, n, k);
+    image[n - 8] = 0;
+    counts_of(image, n, k);
     expect("judge one word short", judge(image, n - 1), SHOW_STORE_MISFIT);
     free(image);
 }
 
 static void misfits(void)
 {
-    static const size_t lengths[] = {0, 1, 7, 1384, 1648, 1650, 1913, 1915, 137063, 137065, 137329};
+    static const size_t lengths[] = {0, 1, 7, 1384, 1648, 1649, 1651, 1914, 1915, 1917, 137064, 137575, 137577, 137842};
 
     for (size_t i = 0; i < sizeof lengths / sizeof *lengths; i++) {
         size_t n = lengths[i];

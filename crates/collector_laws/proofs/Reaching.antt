@@ -3,14 +3,15 @@ use mathlib.Core.Path.{_≡_, sym, ap, _∙_}
 use mathlib.Core.Logic.{inl, inr}
 use mathlib.Core.Bool.{Bool, true, false}
 use mathlib.Core.List.{List}
-use Prim.Native.Nat.{ℕ, zero, suc, _+_, _*_, _-_, _/_, _≤_, _<_}
+use Prim.Native.Nat.{ℕ, zero, suc, _+_, _*_, _-_, _/_, _%_, _≤_, _<_}
 use native.Mathlib.Omega.{arith}
 use lib.Seq.{set-getD}
 use borrow.Author.Tests.{eq-eqb, ne-eqb}
-use Rattle.model.specs.Base.{nth, put, some}
-use Rattle.model.specs.Image.{Image, imageOf, image, marked, count, output, withTracers, setMark, dirtyCard, setTracer}
+use Rattle.model.specs.Base.{nth, put, some, bit}
+use Rattle.model.specs.Image.{Image, imageOf, image, marked, cardCount, count, output, withTracers, markObject, dirtyCard, setTracer}
 use Rattle.model.specs.Collect.{emptiest, append, noOutput, takeOutput, enter, reach}
 use Rattle.model.proofs.Laws.{best-ok}
+use Rattle.model.proofs.Counts.{howMany-below}
 use Rattle.theory.specs.Lines.{HeldOk, NilOr, Start, Lines}
 use Rattle.theory.proofs.lines.Sections.{hold-ok}
 use Rattle.theory.proofs.steps.Reaching.{mark-lines, take-lines, took}
@@ -86,8 +87,20 @@ unfolding imageOf image
 start-in w k ws g (inl e) z = absurd (z e)
 start-in w k ws g (inr s) z = s .0
 
-pub marked-lines : (m n : Image) (g : ℕ) → n ≡ setMark m g → Lines m → NilOr (Start m) g → (g ≡ 0 → ⊥) → Lines n
-marked-lines m n g f o s z = rw f (mark-lines o g (elim s [ inl e ↦ absurd (z e) | inr q ↦ q ]))
+module _ (m : Image) (g : ℕ) (o : Lines m) (s : NilOr (Start m) g) (z : g ≡ 0 → ⊥) (b : Bool) (e : b ≡ marked m g) (q : b ≡ false) where
+  is-start : Start m g
+  is-start = elim s [ inl e ↦ absurd (z e) | inr q ↦ q ]
+
+  pub marked-lines : (n : Image) → n ≡ markObject m g → Lines n
+  marked-lines n f = rw f (mark-lines o g is-start (sym e ∙ q))
+
+  -- an object that is not marked is not counted
+  pub count-below : cardCount m (g / 64) < 64
+  unfolding cardCount marked
+  count-below =
+      let here : 64 * (g / 64) + g % 64 ≡ g = omega arith in
+      rw (o .marks-ok .counted (g / 64) (omega (arith, is-start .0)))
+      (howMany-below (λ j. bit (m .width) (m .marks) (64 * (g / 64) + j)) 64 (g % 64) (omega arith) (ap (bit (m .width) (m .marks)) here ∙ (sym e ∙ q)))
 
 module _ (m : Image) (t g : ℕ) where
   pub reach-nil : g ≡ 0 → m ≡ reach m t g
@@ -99,15 +112,15 @@ module _ (m : Image) (t g : ℕ) where
     unfolding reach some
     reach-marked b e q = rw (ne-eqb g 0 z, ← e, q, reach)
 
-    module _ (n₁ : Image) (f : n₁ ≡ setMark m g) where
-      pub reach-new : (b : Bool) → b ≡ marked m g → b ≡ false → (n₂ n₃ : Image) → n₂ ≡ takeOutput n₁ t → n₃ ≡ enter n₂ t g → n₃ ≡ reach m t g
+    module _ (b : Bool) (e : b ≡ marked m g) (q : b ≡ false) (n₁ : Image) (f : n₁ ≡ markObject m g) where
+      pub reach-new : (n₂ n₃ : Image) → n₂ ≡ takeOutput n₁ t → n₃ ≡ enter n₂ t g → n₃ ≡ reach m t g
       unfolding reach some
-      reach-new b e q n₂ n₃ h i = rw (ne-eqb g 0 z, ← e, q, reach, i, h, f)
+      reach-new n₂ n₃ h i = rw (ne-eqb g 0 z, ← e, q, reach, i, h, f)
 
       module _ (o : Lines m) (s : NilOr (Start m) g) (h : t < 8) (n₂ : Image) (i : n₂ ≡ takeOutput n₁ t) where
         pub taken-lines : Lines n₂
-        taken-lines = rw i (take-lines (marked-lines m n₁ g f o s z) t h)
+        taken-lines = rw i (take-lines (marked-lines m g o s z b e q n₁ f) t h)
 
         pub taken-spare : Spare n₂ t
         unfolding takeOutput setTracer withTracers count
-        taken-spare = rw i (record { space = λ p e. took (marked-lines m n₁ g f o s z) t p h e })
+        taken-spare = rw i (record { space = λ p u. took (marked-lines m g o s z b e q n₁ f) t p h u })

@@ -1,4 +1,4 @@
-// The lines of "undamaged" on what a cycle fills: mark bits, packets and tracers.
+// The lines of "undamaged" on what a cycle fills: mark bits and their counts, packets and tracers.
 ghost use mathlib.Core.Path.{_≡_};
 ghost use Rattle.model.specs.Image.{imageOf};
 ghost use Rattle.image_laws.specs.Sized.{Sized};
@@ -6,6 +6,7 @@ ghost use Rattle.image.specs.Layout.{width};
 ghost use Rattle.soundness_laws.specs.Tests.{cycleLines};
 use image::layout::Word;
 
+pub mod counts; // counts.rt: the counts of the cards are those of their mark bits
 pub mod marks; // marks.rt: marks stand only on starts
 pub mod packets; // packets.rt: packets, and no object entered twice
 
@@ -20,4 +21,5 @@ pub fn cycle_ok(im: &[Word], k: usize) -> bool
         & packets::once_ok(im, k)
         & short_sections::hands::tracers_ok(im, k)
         & short_sections::hands::held_ok(im, k)
+        & counts::counts_ok(im, k)
 }

@@ -38,6 +38,7 @@ fn dispatch(im: &mut [Word], k: usize, r: Request) -> Answer
         12 => marking::cleaning::clean(im, k, r.who),
         13 => finish::step::finish(im, k),
         14 => runs::due::due(im, k, r.a),
+        15 => undirty::undirty(im, k, r.a),
         _ => Answer::Unknown,
     }
 }

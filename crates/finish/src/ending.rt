@@ -29,12 +29,13 @@ pub fn unscan(im: &mut [Word], k: usize)
     }
 }
 
-// Marks, packets, tracers, scanned and running become 0.
+// Marks and their counts, packets, tracers, scanned and running become 0.
 pub fn end_cycle(im: &mut [Word], k: usize)
     requires { ⌜ Sized width k (now im) ⌝ }
     ensures { λ _. ⌜ imageOf width k (now (im .exit)) ≡ ended (imageOf width k (now (im .entry))) ⌝ }
 {
     stretches::clearing::clear_marks(im, k);
+    stretches::clearing::clear_counts(im, k);
     stretches::clearing::clear_packets(im, k);
     stretches::clearing::clear_tracers(im, k);
     unscan(im, k);

@@ -11,7 +11,7 @@ use Rattle.model.specs.Finish.{scannedOff}
 use Rattle.model.proofs.Laws.{nth-put-same, nth-put-other, length-put, nth-out}
 use Rattle.theory.proofs.finish.Replaced.{off-length, off-owed, off-scanned}
 use native.Mathlib.Numerals.{add-one}
-use Rattle.model.specs.Image.{Image, withStarts, withMarks, withPackets, withTracers, withPlayers, withGeneral}
+use Rattle.model.specs.Image.{Image, withStarts, withMarks, withCounts, withPackets, withTracers, withPlayers, withGeneral}
 use Rattle.finish_laws.specs.Ending.{copied, StartsKept, scannedOffTo, ended}
 use Rattle.image_laws.proofs.Words.{nth-ext}
 
@@ -97,7 +97,7 @@ off-more m m1 m2 p t e = e ∙ ap (λ (m : Image). withPlayers m (put (m .player
 
 -- ---- the end
 
-pub end-done : (m m1 m2 m3 m4 m5 : Image) → m1 ≡ withMarks m (zeros (m .marks)) → m2 ≡ withPackets m1 (zeros (m1 .packets)) → m3 ≡ withTracers m2 (zeros (m2 .tracers))
-    → m4 ≡ withPlayers m3 (scannedOffTo (m3 .players) 16) → m5 ≡ withGeneral m4 (put (m4 .general) 0 0) → m5 ≡ ended m
+pub end-done : (m m1 m2 m3 m4 m5 m6 : Image) → m1 ≡ withMarks m (zeros (m .marks)) → m2 ≡ withCounts m1 (zeros (m1 .counts)) → m3 ≡ withPackets m2 (zeros (m2 .packets))
+    → m4 ≡ withTracers m3 (zeros (m3 .tracers)) → m5 ≡ withPlayers m4 (scannedOffTo (m4 .players) 16) → m6 ≡ withGeneral m5 (put (m5 .general) 0 0) → m6 ≡ ended m
 unfolding ended
-end-done m m1 m2 m3 m4 m5 e1 e2 e3 e4 e5 = rw (e5, e4, e3, e2, e1)
+end-done m m1 m2 m3 m4 m5 m6 e1 e2 e3 e4 e5 e6 = rw (e6, e5, e4, e3, e2, e1)

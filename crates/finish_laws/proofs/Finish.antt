@@ -7,7 +7,7 @@ use native.Mathlib.Omega.{arith}
 use lib.ListN.{length, replicate, getD, take, drop, length-drop}
 use lib.Seq.{set-comm}
 use Rattle.model.specs.Base.{nth, put, zeros, addBits}
-use Rattle.model.specs.Image.{Image, granules, isStart, marked, firstRun, imageOf, withHeap, withStarts, withMarks, withPackets, withTracers, withPlayers, withGeneral, setFirstRun, words}
+use Rattle.model.specs.Image.{Image, granules, isStart, marked, firstRun, imageOf, withHeap, withStarts, withMarks, withCounts, withPackets, withTracers, withPlayers, withGeneral, setFirstRun, words}
 use Rattle.model.specs.Mutate.{freeFrom, freeGranules}
 use Rattle.model.specs.Finish.{Kept, kept-marked, kept-found, keptSet, Swept, sweptWords, firstOf, sweep, finishWith, finishStep}
 use Rattle.model.proofs.Words.{Fits, parts-words, words-fit}
@@ -103,7 +103,7 @@ module _ {w k : ℕ} {ws ws1 : List ℕ} (z : Sized w k ws) (z1 : Sized w k ws1)
       ∙ rw (granules-image w k ws, width-image w k ws)
 
   pub finish-whole : (a b : ℕ) (m2 m3 m4 : Image) → a ≡ freeGranules m → edged 0 b m2 ≡ sweptAll k m1 → StartsKept w m2 m3 → m4 ≡ ended m3 → finished (b - a) m4 ≡ finishStep m
-  unfolding finishStep finishWith kept-sweep ended withSweep setFirstRun withHeap withStarts withMarks withPackets withTracers withPlayers withGeneral zeros put
+  unfolding finishStep finishWith kept-sweep ended withSweep setFirstRun withHeap withStarts withMarks withCounts withPackets withTracers withPlayers withGeneral zeros put
   finish-whole a b m2 m3 m4 ea e2 s e4 =
       let value-is : b - a ≡ marks-sweep .freed = omega (arith, runs-grow a b m2 ea e2) in
       let i : Image = withSweep m1 (take 4 (m1 .heap) ++ sweptWords marks-sweep) (firstOf 1 marks-sweep) in
@@ -115,6 +115,7 @@ module _ {w k : ℕ} {ws ws1 : List ℕ} (z : Sized w k ws) (z1 : Sized w k ws1)
         starts = starts-is (λ i. rw (ap (λ (i : Image). i .marks) whole) at (s .small i)) x;
         marks = replicate ((marks-words z1 ∙ sym (marks-words z)) x) 0;
         cards = zero-words (m1 .cards) (m .cards) (cards-words z1 ∙ sym (cards-words z)) (q .cards) x;
+        counts = zeros (same-section (q .rest) 5 x);
         regs = same-section (q .rest) 0 x;
         packets = zeros (same-section (q .rest) 1 x);
         tracers = zeros (same-section (q .rest) 2 x);

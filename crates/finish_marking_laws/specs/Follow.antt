@@ -105,7 +105,7 @@ Nowhere g = ⊥
 
 -- the sections that a finish does not touch while it marks, but the heap
 abbrev pub untouched : Image → List (List ℕ)
-untouched m = m .regs ∷ m .packets ∷ m .tracers ∷ m .players ∷ m .general ∷ []
+untouched m = m .regs ∷ m .packets ∷ m .tracers ∷ m .players ∷ m .general ∷ m .counts ∷ []
 
 pub record Followed (k : ℕ) (m₀ m : Image) : Type 0 where
   pub heap : m .heap ≡ m₀ .heap

@@ -8,15 +8,18 @@ width = 16
 abbrev pub most : ℕ
 most = 512
 
--- words a card before the mark bits, before the card states, and in all
+-- words a card before the mark bits, before the card states, before the counts, and in all
 abbrev pub marksFrom : ℕ
 marksFrom = 260
 
 abbrev pub cardsFrom : ℕ
 cardsFrom = 264
 
+abbrev pub countsFrom : ℕ
+countsFrom = 265
+
 abbrev pub perCard : ℕ
-perCard = 265
+perCard = 266
 
 -- words behind these before the packets, before the tracers, before the players, and in all
 abbrev pub packetsFrom : ℕ

@@ -1,7 +1,7 @@
-// Cards: whether one is dirty, and one that turns dirty.
+// Cards: whether one is dirty, one that turns dirty, and an object marked and counted on one.
 ghost use mathlib.Core.Path.{_≡_};
-ghost use Prim.Native.Nat.{_<_};
-ghost use Rattle.model.specs.Image.{imageOf, dirty, dirtyState, dirtyCard};
+ghost use Prim.Native.Nat.{_*_, _/_, _<_};
+ghost use Rattle.model.specs.Image.{imageOf, dirty, dirtyState, dirtyCard, cardCount, markObject};
 ghost use Rattle.image_laws.specs.Sized.{Sized};
 ghost use Rattle.image.specs.Layout.{width};
 use crate::layout::Word;
@@ -33,4 +33,16 @@ pub fn dirty_card(im: &mut [Word], k: usize, c: usize)
 {
     let x = dirtied(crate::sections::card(im, k, c));
     crate::sections::set_card(im, k, c, x);
+}
+
+// An object that is not marked is not counted, so the count of its card is below the number of its granules.
+pub fn mark_object(im: &mut [Word], k: usize, g: usize)
+    requires { ⌜ Sized width k (now im) ⌝ }
+    requires { ⌜ g < 64 * k ⌝ }
+    requires { ⌜ cardCount (imageOf width k (now im)) (g / 64) < 64 ⌝ }
+    ensures { λ _. ⌜ imageOf width k (now (im .exit)) ≡ markObject (imageOf width k (now (im .entry))) g ⌝ }
+{
+    let n = crate::sections::count(im, k, g / 64);
+    crate::bits::set_mark(im, k, g);
+    crate::sections::set_count(im, k, g / 64, n + 1);
 }

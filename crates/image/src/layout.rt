@@ -13,7 +13,9 @@ pub const MARKS: usize = 260;
 
 pub const CARDS: usize = 264;
 
-pub const PER_CARD: usize = 265;
+pub const COUNTS: usize = 265;
+
+pub const PER_CARD: usize = 266;
 
 pub const PACKETS: usize = 256;
 
@@ -25,6 +27,6 @@ pub const GENERAL: usize = 1376;
 
 pub const BEHIND: usize = 1384;
 
-pub const SHORTEST: usize = 1649;
+pub const SHORTEST: usize = 1650;
 
 pub const RECORD: usize = 8;

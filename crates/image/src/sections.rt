@@ -2,10 +2,11 @@
 ghost use mathlib.Core.Path.{_≡_};
 ghost use Prim.Native.Nat.{_+_, _*_, _/_, _<_};
 ghost use Rattle.model.specs.Base.{nth, put};
-ghost use Rattle.model.specs.Image.{imageOf, word, links, owed, scanned, running, firstRun, state, reg, withHeap, withStarts, withMarks, withRegs, withTracers, withPlayers, withGeneral, setState, setReg, setTracer, setOwed, setScanned, setFirstRun, setWord};
+ghost use Rattle.model.specs.Image.{imageOf, word, links, owed, scanned, running, firstRun, state, cardCount, reg, withHeap, withStarts, withMarks, withCounts, withRegs, withTracers, withPlayers, withGeneral, setState, setReg, setTracer, setOwed, setScanned, setFirstRun, setWord};
 ghost use Rattle.image_laws.specs.Sized.{Sized};
 ghost use Rattle.image.specs.Layout.{width};
 use crate::layout::CARDS;
+use crate::layout::COUNTS;
 use crate::layout::GENERAL;
 use crate::layout::MARKS;
 use crate::layout::PACKETS;
@@ -65,6 +66,15 @@ pub fn card(im: &[Word], k: usize, c: usize) -> Word
     ensures { λ r. ⌜ r ≡ state (imageOf width k (now (im .entry))) c ⌝ }
 {
     im[CARDS * k + c]
+}
+
+// The number of marked objects on card c, as the image has it.
+pub fn count(im: &[Word], k: usize, c: usize) -> Word
+    requires { ⌜ Sized width k (now im) ⌝ }
+    requires { ⌜ c < k ⌝ }
+    ensures { λ r. ⌜ r ≡ cardCount (imageOf width k (now (im .entry))) c ⌝ }
+{
+    im[COUNTS * k + c]
 }
 
 pub fn reg_word(im: &[Word], k: usize, i: usize) -> Word
@@ -185,6 +195,14 @@ pub fn set_card(im: &mut [Word], k: usize, c: usize, v: Word)
     ensures { λ _. ⌜ imageOf width k (now (im .exit)) ≡ setState (imageOf width k (now (im .entry))) c v ⌝ }
 {
     im[CARDS * k + c] = v;
+}
+
+pub fn set_count(im: &mut [Word], k: usize, c: usize, v: Word)
+    requires { ⌜ Sized width k (now im) ⌝ }
+    requires { ⌜ c < k ⌝ }
+    ensures { λ _. ⌜ imageOf width k (now (im .exit)) ≡ withCounts (imageOf width k (now (im .entry))) (put (imageOf width k (now (im .entry)) .counts) c v) ⌝ }
+{
+    im[COUNTS * k + c] = v;
 }
 
 pub fn set_reg_word(im: &mut [Word], k: usize, i: usize, v: Word)

@@ -4,7 +4,7 @@ use mathlib.Core.Logic.{_⊎_}
 use mathlib.Core.List.{List, map}
 use Prim.Native.Nat.{ℕ, _*_, _/_}
 use lib.ListN.{length, getD}
-use Rattle.model.specs.Image.{image, imageOf, sections, lengths, heapAt, startsAt, marksAt, cardsAt, packetsAt, generalAt}
+use Rattle.model.specs.Image.{image, imageOf, sections, lengths, heapAt, startsAt, marksAt, cardsAt, countsAt, packetsAt, generalAt}
 use Rattle.model.proofs.Words.{width-cases}
 use Rattle.image_laws.specs.Sized.{Sized}
 use Rattle.image_laws.proofs.Sections.{image-fits}
@@ -45,6 +45,10 @@ module _ {w k : ℕ} {ws : List ℕ} (z : Sized w k ws) where
   pub cards-words : length (imageOf w k ws .cards) ≡ k
   unfolding sections
   cards-words = long-section cardsAt
+
+  pub counts-words : length (imageOf w k ws .counts) ≡ k
+  unfolding sections
+  counts-words = long-section countsAt
 
   pub packets-words : length (imageOf w k ws .packets) ≡ 1024
   unfolding sections

@@ -18,7 +18,6 @@ use native.Mathlib.Numerals.{add-one}
 use native.Mathlib.Decide.{decLt}
 use Rattle.model.proofs.Entries.{nth-drop, nth-take}
 use Rattle.model.proofs.Laws.{and-split, same-test, all-use, all-make}
-use Rattle.model.specs.Examples.{at}
 
 -- ---- all of the numbers below n
 

@@ -1,12 +1,11 @@
 -- Bits as digits 0 and 1, so that what holds of them is arithmetic.
-use mathlib.Core.Bool.{Bool, true, false}
+use mathlib.Core.Bool.{Bool, cond}
 use Prim.Native.Nat.{ℕ}
 use Rattle.model.specs.Base.{testBit}
 use Rattle.model.specs.Image.{Image, isStart, marked}
 
 unfoldable pub digit : Bool → ℕ
-digit true = 1
-digit false = 0
+digit b = cond b 1 0
 
 -- bit j of a word
 abbrev pub bitOf : ℕ → ℕ → ℕ

@@ -7,8 +7,8 @@ use Rattle.model.specs.Undamaged.{sound}
 use Rattle.model.specs.Batch.{judgeOf, finishOf}
 use Rattle.model.specs.Plain.{old, plainOf, feed, plainRun, readings, SameAnswers}
 use Rattle.model.specs.Open.{model-open}
-use Rattle.model.specs.Cases.{bytes, oneCard, ok, refused, cases-open}
-use Rattle.model.specs.Examples.{linkBehind, owedByOne, owedAndHeld, allFreed, scattered, longCue, duesNear, dueBefore, again, againSaid, examples-open}
+use Rattle.model.specs.Cases.{bytes, oneCard, answered, ok, refused, cases-open}
+use Rattle.model.specs.Examples.{linkBehind, owedByOne, owedAndHeld, allFreed, scattered, longCue, duesNear, wiping, wipingSaid, miscounted, dueBefore, again, againSaid, examples-open}
 
 -- a link before the next one of an object in hand: Cover fails, and a finish, which goes by object, keeps what it links to
 pub behind-sound : sound (parts 16 linkBehind) ≡ true
@@ -50,6 +50,16 @@ scattered-due = refl
 pub near-eight : duesNear ≡ bytes (ok 0 ∷ ok 1 ∷ ok 0 ∷ [])
 unfolding model-open cases-open examples-open
 near-eight = refl
+
+-- every number of undirty; it is accepted while the card is owed, and while it is in hand
+pub wiping-said : answered wiping ≡ 0 ∷ bytes wipingSaid
+unfolding model-open cases-open examples-open
+wiping-said = refl
+
+-- one object is marked: a count of 1 is right, no other
+pub counts-judged : judgeOf (miscounted 0) ∷ judgeOf (miscounted 1) ∷ judgeOf (miscounted 2) ∷ [] ≡ 2 ∷ 0 ∷ 2 ∷ []
+unfolding model-open cases-open examples-open
+counts-judged = refl
 
 -- a granule that is used again is another object: the real answers, read, and the plain store's
 pub again-read : readings old 0 again ≡ againSaid

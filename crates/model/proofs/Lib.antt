@@ -1,6 +1,7 @@
 pub mod Laws
 pub mod Rows
 pub mod Bits
+pub mod Counts
 pub mod Closure
 pub mod Words
 pub mod Entries

@@ -1,4 +1,4 @@
--- A kind is known by its number in the table, and the numbers 1 to 14 by their kinds.
+-- A kind is known by its number in the table, and the numbers 1 to 15 by their kinds.
 use mathlib.Core.Path.{_≡_, refl, sym, ap, _∙_}
 use mathlib.Core.Bool.{true, false}
 use mathlib.Core.List.{[], _∷_}
@@ -8,7 +8,7 @@ use lib.Dec.{eqb}
 use lib.ListN.{List·getD-eq-default}
 use borrow.Author.Tests.{eqb-true, ne-eqb}
 use Rattle.model.specs.Base.{all}
-use Rattle.model.specs.Records.{Kind, new, load, store, barrier, handOver, dropReg, read, write, begin, scan, trace, clean, finish, isDue, unknown, kindOf}
+use Rattle.model.specs.Records.{Kind, new, load, store, barrier, handOver, dropReg, read, write, begin, scan, trace, clean, finish, isDue, undirty, unknown, kindOf}
 use Rattle.model.specs.Rows.{rowOf, is}
 use Rattle.model.proofs.Laws.{all-use}
 
@@ -28,18 +28,19 @@ kind-code trace = refl
 kind-code clean = refl
 kind-code finish = refl
 kind-code isDue = refl
+kind-code undirty = refl
 kind-code unknown = refl
 
 pub is-same : (n x : Kind) → is n x ≡ true → n ≡ x
 unfolding is
 is-same n x e = sym (kind-code n) ∙ (ap kindOf (eqb-true ((rowOf n) .code) ((rowOf x) .code) e) ∙ kind-code x)
 
-pub kind-known : (x : ℕ) → 1 ≤ x → x < 15 → is (kindOf x) unknown ≡ false
+pub kind-known : (x : ℕ) → 1 ≤ x → x < 16 → is (kindOf x) unknown ≡ false
 unfolding is all kindOf rowOf
 kind-known x l h =
-    let c : (rowOf (kindOf x)) .code ≡ x = eqb-true _ _ (all-use 15 (λ y. eqb ((rowOf (kindOf y)) .code) y) refl x h) in
+    let c : (rowOf (kindOf x)) .code ≡ x = eqb-true _ _ (all-use 16 (λ y. eqb ((rowOf (kindOf y)) .code) y) refl x h) in
     ne-eqb ((rowOf (kindOf x)) .code) 0 (λ e. omega arith)
 
-pub kind-unknown : (x : ℕ) → 15 ≤ x → kindOf x ≡ unknown
+pub kind-unknown : (x : ℕ) → 16 ≤ x → kindOf x ≡ unknown
 unfolding kindOf
-kind-unknown x h = List·getD-eq-default (unknown ∷ new ∷ load ∷ store ∷ barrier ∷ handOver ∷ dropReg ∷ read ∷ write ∷ begin ∷ scan ∷ trace ∷ clean ∷ finish ∷ isDue ∷ []) unknown h
+kind-unknown x h = List·getD-eq-default (unknown ∷ new ∷ load ∷ store ∷ barrier ∷ handOver ∷ dropReg ∷ read ∷ write ∷ begin ∷ scan ∷ trace ∷ clean ∷ finish ∷ isDue ∷ undirty ∷ []) unknown h

@@ -54,8 +54,8 @@ unfolding cardsOf
 cards-length w k (inl e) = rw e (omega arith)
 cards-length w k (inr e) = rw e (omega arith)
 
--- "Its length is 265 × k + 1384 words", with words of 16 bits
-pub length-sixteen : (k : ℕ) → imageLength 16 k ≡ 265 * k + 1384
+-- document 02, (ii): "an image is then 266 × k + 1384 words", with words of 16 bits
+pub length-sixteen : (k : ℕ) → imageLength 16 k ≡ 266 * k + 1384
 length-sixteen k = omega arith
 
 -- ---- the round trips

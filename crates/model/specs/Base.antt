@@ -88,6 +88,16 @@ best better ok (suc n) =
 unfoldable pub lowest : (ℕ → Bool) → ℕ → ℕ
 lowest ok n = best (λ a b. false) ok n
 
+-- v 0 + v 1 + .. + v (n - 1)
+unfoldable pub sumBelow : (ℕ → ℕ) → ℕ → ℕ
+sumBelow v zero = 0
+sumBelow v (suc n) = sumBelow v n + v n
+
+-- how many numbers below n pass
+unfoldable pub howMany : (ℕ → Bool) → ℕ → ℕ
+unfolding sumBelow
+howMany p n = sumBelow (λ i. cond (p i) 1 0) n
+
 -- the number of the first line that passes, where lines count from n; 0 if none does
 unfoldable pub first : ℕ → List Bool → ℕ
 first n [] = 0
@@ -117,5 +127,5 @@ addBits w p (suc n) l = let r = addBits w p n l in cond (p n) (setBit w r n) r
 
 -- opens all of these where an `unfolding` line names it
 unfoldable pub base-open : ℕ
-unfolding nth put zeros all any every some either implies zeroes elem distinct eachPiece table best lowest first testBit withBit bit setBit addBits
+unfolding nth put zeros all any every some either implies zeroes elem distinct eachPiece table best lowest sumBelow howMany first testBit withBit bit setBit addBits
 base-open = 0

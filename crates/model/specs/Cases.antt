@@ -1,4 +1,4 @@
--- The cases that document 01 marks to be proved, as rows of one table: what is computed, and what document 01 says of it.
+-- The cases that document 01 marks to be proved, as rows of one table: what is computed, and what the documents say of it.
 use mathlib.Core.List.{List, [], _∷_, _++_}
 use Prim.Native.Nat.{ℕ, _*_, _/_, _%_}
 use lib.ListN.{length, replicate}
@@ -58,8 +58,8 @@ cases =
     ∷ row (rec 1 0 0 64 0 ∷ []) (refused 9 ∷ [])
     -- "b = 1,024 on k = 1 gives 9, b = 1,025 gives 8, b = 0 gives 8."
     ∷ row (rec 1 0 0 1024 0 ∷ rec 1 0 0 1025 0 ∷ rec 1 0 0 0 0 ∷ []) (refused 9 ∷ refused 8 ∷ refused 8 ∷ [])
-    -- "1648 words misfit, 1649 fit."
-    ∷ record { computed = judgeOf (replicate 1648 0) ∷ judgeOf ((freshOf (replicate 1649 0)) .image) ∷ []; said = 1 ∷ 0 ∷ [] }
+    -- document 02, (ii): "of the cases, 1649 is now misfit and 1650 fits"
+    ∷ record { computed = judgeOf (replicate 1649 0) ∷ judgeOf ((freshOf (replicate 1650 0)) .image) ∷ []; said = 1 ∷ 0 ∷ [] }
     -- "New, drop, begin, finish: value 1; the next new of 1 is again granule 1."
     ∷ row (rec 1 0 0 1 0 ∷ rec 6 0 0 0 0 ∷ rec 9 0 0 0 0 ∷ rec 13 0 0 0 0 ∷ rec 1 0 0 1 0 ∷ []) (ok 1 ∷ ok 0 ∷ ok 0 ∷ ok 1 ∷ ok 1 ∷ [])
     -- "New, begin, scan, drop, finish: 0. Begin, finish: 1."

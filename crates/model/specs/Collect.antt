@@ -5,7 +5,7 @@ use Prim.Native.Nat.{ℕ, zero, suc, _+_, _*_, _-_, _/_}
 use lib.Dec.{leb, ltb, eqb}
 use lib.ListN.{getD, take, drop}
 use Rattle.model.specs.Base.{put, zeros, any, every, some, best, lowest, first}
-use Rattle.model.specs.Image.{Image, links, link, marked, state, dirty, count, entry, input, output, hand, nextLink, handCard, nextGranule, setMark, setState, dirtyCard, setTracer, setScanned, withPackets, withCards, withGeneral}
+use Rattle.model.specs.Image.{Image, links, link, marked, state, dirty, count, entry, input, output, hand, nextLink, handCard, nextGranule, markObject, setState, dirtyCard, setTracer, setScanned, withPackets, withCards, withGeneral}
 
 module _ (m : Image) where
   -- a tracer holds packet p
@@ -44,7 +44,7 @@ enter m t g = elim (output m t) [ zero ↦ dirtyCard m (g / 64) | suc p ↦ appe
 
 -- "Reach, by a tracer: nil or marked, nothing. Else the object is marked and appended to the output packet."
 unfoldable pub reach : Image → ℕ → ℕ → Image
-reach m t g = elim (some (eqb g 0 ∷ marked m g ∷ [])) [ true ↦ m | false ↦ enter (takeOutput (setMark m g) t) t g ]
+reach m t g = elim (some (eqb g 0 ∷ marked m g ∷ [])) [ true ↦ m | false ↦ enter (takeOutput (markObject m g) t) t g ]
 
 unfoldable pub reachAll : Image → ℕ → List ℕ → Image
 reachAll m t [] = m

@@ -1,18 +1,18 @@
--- Worked images that the starred cases do not reach: a finish on an image without Cover, Cover and its two players, runs joined, runs too
--- short to be usable; and a history with the plain store beside it.
+-- Worked images and lists that the starred cases do not reach: a finish on an image without Cover, Cover and its two players, runs joined, runs
+-- too short to be usable, cards wiped; and a history with the plain store beside it.
 use mathlib.Core.Bool.{cond}
 use mathlib.Core.List.{List, [], _∷_, _++_}
 use Prim.Native.Nat.{ℕ, zero, suc, _+_, _*_}
 use lib.Dec.{ltb}
 use lib.ListN.{length, replicate}
 use Rattle.model.specs.Base.{put, table}
-use Rattle.model.specs.Image.{Image, heapAt, regsAt, playersAt, lengths, place}
+use Rattle.model.specs.Image.{Image, heapAt, countsAt, regsAt, playersAt, lengths, place}
 use Rattle.model.specs.Mutate.{freeGranules}
 use Rattle.model.specs.Batch.{Batch, batchOf}
 use Rattle.model.specs.Steps.{Event}
 use Rattle.model.specs.Plain.{made, as-object, as-is, Reply}
 use Rattle.model.specs.Claim.{history}
-use Rattle.model.specs.Cases.{rec, bytes, oneCard}
+use Rattle.model.specs.Cases.{rec, bytes, oneCard, ok, refused}
 
 -- the place of word i of section s, in a store of one card
 unfoldable pub at : ℕ → ℕ → ℕ
@@ -67,6 +67,26 @@ nearEight = left (rec 1 0 0 7 0 ∷ rec 1 0 1 1 0 ∷ rec 1 0 2 8 0 ∷ rec 1 0 
 unfoldable pub duesNear : List ℕ
 duesNear = let r : Batch = batchOf nearEight (bytes (rec 14 0 8 0 0 ∷ rec 14 0 9 0 0 ∷ rec 14 0 0 0 0 ∷ [])) (replicate 6 0) in r .answers
 
+-- Undirty of card 0, with O = 1 in player 0's r0: outside a cycle, of no card, with a second byte; in a cycle after a barrier while the player owes
+-- the card again, once more, after that barrier and a clean with the card in hand, once more, and when O is marked.
+unfoldable pub wiping : List (List ℕ)
+wiping =
+    rec 1 0 0 1 1 ∷ rec 15 0 0 0 0 ∷ rec 15 0 1 0 0 ∷ rec 15 1 1 0 0 ∷ rec 9 0 0 0 0
+    ∷ rec 3 0 0 0 0 ∷ rec 4 0 0 0 0 ∷ rec 3 0 0 0 0 ∷ rec 15 0 0 0 0 ∷ rec 15 0 0 0 0
+    ∷ rec 4 0 0 0 0 ∷ rec 12 0 0 0 0 ∷ rec 3 0 0 0 0 ∷ rec 4 0 0 0 0 ∷ rec 15 0 0 0 0 ∷ rec 15 0 0 0 0
+    ∷ rec 10 0 0 0 0 ∷ rec 3 0 0 0 0 ∷ rec 4 0 0 0 0 ∷ rec 15 0 0 0 0 ∷ []
+
+unfoldable pub wipingSaid : List (List ℕ)
+wipingSaid =
+    ok 1 ∷ refused 10 ∷ refused 4 ∷ refused 3 ∷ ok 0
+    ∷ ok 0 ∷ ok 0 ∷ ok 0 ∷ ok 0 ∷ refused 11
+    ∷ ok 0 ∷ ok 0 ∷ ok 0 ∷ ok 0 ∷ ok 0 ∷ refused 11
+    ∷ ok 0 ∷ ok 0 ∷ ok 0 ∷ refused 11 ∷ []
+
+-- the image of O in hand, which alone is marked, with n as the count of its card
+unfoldable pub miscounted : ℕ → List ℕ
+miscounted n = put inHand (at countsAt 0) n
+
 -- what document 01's rule says of an image and a: "value 1 if fewer than a granules are free, else 0"
 unfoldable pub dueBefore : Image → ℕ → ℕ
 dueBefore m a = cond (ltb (freeGranules m) a) 1 0
@@ -89,5 +109,5 @@ againSaid =
 
 -- opens all of these
 unfoldable pub examples-open : ℕ
-unfolding at left inHand linkBehind traced owedByOne owedAndHeld allFreed byTurns scattered longCue nearEight duesNear dueBefore again againSaid
+unfolding at left inHand linkBehind traced owedByOne owedAndHeld allFreed byTurns scattered longCue nearEight duesNear wiping wipingSaid miscounted dueBefore again againSaid
 examples-open = 0

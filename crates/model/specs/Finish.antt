@@ -106,7 +106,7 @@ pub record Finish : Type 0 where
   pub image : Image
   pub value : ℕ
 
--- with the set that it keeps: "Cards, marks, packets, tracers, scanned and running become 0"
+-- with the set that it keeps: "Cards, marks, packets, tracers, scanned and running become 0", and with the marks their counts
 unfoldable pub finishWith : Image → List Bool → Finish
 finishWith m keep =
     let r : Swept = sweep (isStart m) (λ g. getD keep g false) (granules m) 1 (drop 4 (m .heap)) in
@@ -118,6 +118,7 @@ finishWith m keep =
         starts = addBits (m .width) (λ g. getD keep g false) (granules m) (zeros (m .starts));
         marks = zeros (m .marks);
         cards = zeros (m .cards);
+        counts = zeros (m .counts);
         regs = m .regs;
         packets = zeros (m .packets);
         tracers = zeros (m .tracers);

@@ -5,7 +5,7 @@ use Prim.Native.Nat.{ℕ, zero, suc, _+_, _*_, _-_, _/_}
 use lib.Dec.{leb, eqb}
 use lib.ListN.{length, getD, take, drop}
 use Rattle.model.specs.Base
-use Rattle.model.specs.Base.{nth, put, every, bit, setBit, some}
+use Rattle.model.specs.Base.{nth, put, every, bit, setBit, some, howMany}
 
 -- An image in its sections, in their order. `width` is the number of bits in a word, `k` the number of cards.
 pub record Image : Type 0 where
@@ -15,6 +15,7 @@ pub record Image : Type 0 where
   pub starts : List ℕ
   pub marks : List ℕ
   pub cards : List ℕ
+  pub counts : List ℕ
   pub regs : List ℕ
   pub packets : List ℕ
   pub tracers : List ℕ
@@ -23,10 +24,11 @@ pub record Image : Type 0 where
 
 -- ---- the layout
 
--- "Heap: 4 × G words", G = 64 × k; "Start bits, then mark bits: G/16 words each"; "Cards, k words"; "Registers: 16 players of 16 words";
--- "Packets: 32 of 32 words"; "Tracers: 8 of 8 words"; "Players, 16 of 2 words"; "General, 8 words"
+-- "Heap: 4 × G words", G = 64 × k; "Start bits, then mark bits: G/16 words each"; "Cards, k words"; document 02, (ii), "one word per
+-- card [..], placed after the card words"; "Registers: 16 players of 16 words"; "Packets: 32 of 32 words"; "Tracers: 8 of 8 words"; "Players, 16 of
+-- 2 words"; "General, 8 words"
 abbrev pub lengths : ℕ → ℕ → List ℕ
-lengths w k = 256 * k ∷ 64 * k / w ∷ 64 * k / w ∷ k ∷ 256 ∷ 1024 ∷ 64 ∷ 32 ∷ 8 ∷ []
+lengths w k = 256 * k ∷ 64 * k / w ∷ 64 * k / w ∷ k ∷ k ∷ 256 ∷ 1024 ∷ 64 ∷ 32 ∷ 8 ∷ []
 
 -- the sections' numbers in this order
 abbrev pub heapAt : ℕ
@@ -41,8 +43,11 @@ marksAt = suc startsAt
 abbrev pub cardsAt : ℕ
 cardsAt = suc marksAt
 
+abbrev pub countsAt : ℕ
+countsAt = suc cardsAt
+
 abbrev pub regsAt : ℕ
-regsAt = suc cardsAt
+regsAt = suc countsAt
 
 abbrev pub packetsAt : ℕ
 packetsAt = suc regsAt
@@ -94,7 +99,7 @@ join [] = []
 join (l ∷ ls) = l ++ join ls
 
 unfoldable pub sections : Image → List (List ℕ)
-sections m = m .heap ∷ m .starts ∷ m .marks ∷ m .cards ∷ m .regs ∷ m .packets ∷ m .tracers ∷ m .players ∷ m .general ∷ []
+sections m = m .heap ∷ m .starts ∷ m .marks ∷ m .cards ∷ m .counts ∷ m .regs ∷ m .packets ∷ m .tracers ∷ m .players ∷ m .general ∷ []
 
 unfoldable pub image : ℕ → ℕ → List (List ℕ) → Image
 image w k s = record {
@@ -104,6 +109,7 @@ image w k s = record {
   starts = getD s startsAt [];
   marks = getD s marksAt [];
   cards = getD s cardsAt [];
+  counts = getD s countsAt [];
   regs = getD s regsAt [];
   packets = getD s packetsAt [];
   tracers = getD s tracersAt [];
@@ -171,6 +177,14 @@ module _ (m : Image) where
 
   unfoldable pub dirty : ℕ → Bool
   dirty c = isDirty (state c)
+
+  -- document 02, (ii): "one word per card with the number of marked objects on it" (marked and not traced, "since an object skipped on a dirty
+  -- card is marked but not traced then"): the count of card c, and the same by the mark bits of its granules
+  unfoldable pub cardCount : ℕ → ℕ
+  cardCount c = nth (m .counts) c
+
+  unfoldable pub marksOn : ℕ → ℕ
+  marksOn c = howMany (λ j. marked (64 * c + j)) 64
 
   -- register r of player p
   unfoldable pub reg : ℕ → ℕ → ℕ
@@ -248,6 +262,10 @@ module _ (m : Image) where
   unfolding replaced
   withCards l = replaced m cardsAt l
 
+  unfoldable pub withCounts : List ℕ → Image
+  unfolding replaced
+  withCounts l = replaced m countsAt l
+
   unfoldable pub withRegs : List ℕ → Image
   unfolding replaced
   withRegs l = replaced m regsAt l
@@ -276,6 +294,12 @@ dirtyState zero = 1
 dirtyState (suc zero) = 1
 dirtyState (suc (suc x)) = 3
 
+-- document 02, (ii): "it turns state 1 to 0 and 3 to 2"
+unfoldable pub cleanState : ℕ → ℕ
+cleanState zero = 0
+cleanState (suc zero) = 0
+cleanState (suc (suc x)) = 2
+
 module _ (m : Image) where
   unfoldable pub setWord : ℕ → ℕ → ℕ → Image
   setWord g i v = withHeap m (put (m .heap) (4 * g + i) v)
@@ -286,11 +310,18 @@ module _ (m : Image) where
   unfoldable pub setMark : ℕ → Image
   setMark g = withMarks m (setBit (m .width) (m .marks) g)
 
+  -- the object at g is marked, and its card counts one marked object more
+  unfoldable pub markObject : ℕ → Image
+  markObject g = withCounts (setMark g) (put (m .counts) (g / 64) (suc (cardCount m (g / 64))))
+
   unfoldable pub setState : ℕ → ℕ → Image
   setState c v = withCards m (put (m .cards) c v)
 
   unfoldable pub dirtyCard : ℕ → Image
   dirtyCard c = setState c (dirtyState (state m c))
+
+  unfoldable pub undirtyCard : ℕ → Image
+  undirtyCard c = setState c (cleanState (state m c))
 
   unfoldable pub setReg : ℕ → ℕ → ℕ → Image
   setReg p r v = withRegs m (put (m .regs) (16 * p + r) v)
@@ -309,7 +340,7 @@ module _ (m : Image) where
 
 -- opens the accessors and the setters
 unfoldable pub fields-open : ℕ
-unfolding granules word isStart marked size links link levels level state isDirty dirty reg count entry entriesOf entries input output hand nextLink handCard nextGranule owed scanned running firstRun setSection replaced withHeap withStarts withMarks withCards withRegs withPackets withTracers withPlayers withGeneral dirtyState setWord setStart setMark setState dirtyCard setReg setTracer setOwed setScanned setFirstRun
+unfolding granules word isStart marked size links link levels level state isDirty dirty cardCount marksOn reg count entry entriesOf entries input output hand nextLink handCard nextGranule owed scanned running firstRun setSection replaced withHeap withStarts withMarks withCards withCounts withRegs withPackets withTracers withPlayers withGeneral dirtyState cleanState setWord setStart setMark markObject setState dirtyCard undirtyCard setReg setTracer setOwed setScanned setFirstRun
 fields-open = 0
 
 -- opens all of these

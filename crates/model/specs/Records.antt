@@ -38,12 +38,12 @@ stepOf w bs =
 unfoldable pub records : ℕ → List ℕ → List Step
 records w bs = table (length bs / recordBytes w) (λ i. stepOf w (take (recordBytes w) (drop (recordBytes w * i) bs)))
 
--- Document 01's kinds 1 to 14 in order; `handOver` is its "hand", `dropReg` its "drop", `isDue` its "due".
+-- Document 01's kinds 1 to 14 in order, and document 02's kind 15; `handOver` is its "hand", `dropReg` its "drop", `isDue` its "due".
 pub data Kind : Type 0 where
-  new load store barrier handOver dropReg read write begin scan trace clean finish isDue unknown : Kind
+  new load store barrier handOver dropReg read write begin scan trace clean finish isDue undirty unknown : Kind
 
 unfoldable pub kindOf : ℕ → Kind
-kindOf n = getD (unknown ∷ new ∷ load ∷ store ∷ barrier ∷ handOver ∷ dropReg ∷ read ∷ write ∷ begin ∷ scan ∷ trace ∷ clean ∷ finish ∷ isDue ∷ []) n unknown
+kindOf n = getD (unknown ∷ new ∷ load ∷ store ∷ barrier ∷ handOver ∷ dropReg ∷ read ∷ write ∷ begin ∷ scan ∷ trace ∷ clean ∷ finish ∷ isDue ∷ undirty ∷ []) n unknown
 
 -- opens all of these
 unfoldable pub records-open : ℕ

@@ -3,13 +3,13 @@ use mathlib.Core.Bool.{Bool, true, false}
 use mathlib.Core.List.{List, [], _∷_}
 use Prim.Native.Nat.{ℕ}
 use lib.Dec.{leb, eqb}
-use Rattle.model.specs.Records.{Step, Kind, new, load, store, barrier, handOver, dropReg, read, write, begin, scan, trace, clean, finish, isDue, unknown}
+use Rattle.model.specs.Records.{Step, Kind, new, load, store, barrier, handOver, dropReg, read, write, begin, scan, trace, clean, finish, isDue, undirty, unknown}
 
 -- ---- the table
 
--- what a field is: not named, the number of a player, a tracer or a register, or any number
+-- what a field is: not named, the number of a player, a tracer, a register or a card, or any number
 pub data Role : Type 0 where
-  unused player tracer register number : Role
+  unused player tracer register card number : Role
 
 pub data Field : Type 0 where
   inA inB inC : Field
@@ -52,6 +52,8 @@ rowOf trace = kindRow 11 tracer unused unused unused false nowhere inCycle
 rowOf clean = kindRow 12 tracer unused unused unused false nowhere inCycle
 rowOf finish = kindRow 13 unused unused unused unused false nowhere inCycle
 rowOf isDue = kindRow 14 unused number unused unused false nowhere anyPhase
+-- document 02, (ii): "Step 15, undirty, names a card in a, with its second byte 0"
+rowOf undirty = kindRow 15 unused card unused unused false nowhere inCycle
 rowOf unknown = kindRow 0 number number number number false nowhere anyPhase
 
 -- ---- one kind and another
@@ -73,6 +75,7 @@ isUnused unused = true
 isUnused player = false
 isUnused tracer = false
 isUnused register = false
+isUnused card = false
 isUnused number = false
 
 unfoldable pub isPlayer : Role → Bool
@@ -80,6 +83,7 @@ isPlayer unused = false
 isPlayer player = true
 isPlayer tracer = false
 isPlayer register = false
+isPlayer card = false
 isPlayer number = false
 
 -- what the numbers of a role stay below, if anything
@@ -87,12 +91,13 @@ pub data Limit : Type 0 where
   noLimit : Limit
   below : ℕ → Limit
 
--- "player or register above 15, tracer above 7"; k is the number of cards, for a role that names a card
+-- "player or register above 15, tracer above 7", "4 if the card doesn't exist"; k is the number of cards
 unfoldable pub limit : ℕ → Role → Limit
 limit k unused = noLimit
 limit k player = below 16
 limit k tracer = below 8
 limit k register = below 16
+limit k card = below k
 limit k number = noLimit
 
 unfoldable pub reaches : Limit → ℕ → Bool

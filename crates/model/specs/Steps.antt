@@ -4,8 +4,8 @@ use mathlib.Core.List.{List, [], _∷_}
 use Prim.Native.Nat.{ℕ, zero, suc, _+_, _*_, _-_, _/_}
 use lib.Dec.{leb, ltb, eqb}
 use Rattle.model.specs.Base.{some, first}
-use Rattle.model.specs.Image.{Image, links, link, levels, level, reg, owed, scanned, running, setWord, setReg, setOwed, dirtyCard}
-use Rattle.model.specs.Records.{Step, Kind, new, load, store, barrier, handOver, dropReg, read, write, begin, scan, trace, clean, finish, isDue, unknown, kindOf}
+use Rattle.model.specs.Image.{Image, links, link, levels, level, reg, owed, scanned, running, dirty, cardCount, setWord, setReg, setOwed, dirtyCard, undirtyCard}
+use Rattle.model.specs.Records.{Step, Kind, new, load, store, barrier, handOver, dropReg, read, write, begin, scan, trace, clean, finish, isDue, undirty, unknown, kindOf}
 use Rattle.model.specs.Rows.{Phase, anyPhase, noCycle, inCycle, rowOf, is, forKind, isUnused, isPlayer, limit, reaches, fields, atTarget, rows-open}
 use Rattle.model.specs.Mutate.{roomFor, newObject, usableGranules}
 use Rattle.model.specs.Collect.{beginCycle, scanPlayer, traceLine, traceStep, cleanLine, cleanStep}
@@ -25,12 +25,13 @@ someSet [] = false
 someSet (x ∷ xs) = not (eqb x 0) || someSet xs
 
 module _ (s : Step) where
-  -- 3 unknown: "kind not 1 to 14, or an unnamed field not 0"
+  -- 3 unknown: "kind not 1 to 14, or an unnamed field not 0"; document 02, (ii): "kind 15 leaves number 3"
   unfoldable pub unnamed : Kind → Bool
   unfolding rowOf isUnused fields
   unnamed n = eqb ((rowOf n) .code) 0 || some (fields s (λ r x. isUnused r && not (eqb x 0)) (rowOf n))
 
-  -- 4 off the desk: "player or register above 15, tracer above 7"; k is the number of cards (0 in the plain store, whose kinds name none)
+  -- 4 off the desk: "player or register above 15, tracer above 7"; "4 if the card doesn't exist"; k is the number of cards (0 in the plain
+  -- store, whose kinds name none)
   unfoldable pub offDesk : ℕ → Kind → Bool
   unfolding rowOf limit reaches fields
   offDesk k n = some (fields s (λ r x. reaches (limit k r) x) (rowOf n))
@@ -76,7 +77,7 @@ module _ (m : Image) (s : Step) where
   unfolding is
   noRoom n = is n new && eqb ((roomFor m (s .b)) .run) 0
 
-  -- 10 wrong phase: "begin in a cycle; 10 to 13 outside one"
+  -- 10 wrong phase: "begin in a cycle; 10 to 13 outside one"; kind 15 "10 outside a cycle"
   unfoldable pub outOf : Phase → Bool
   outOf anyPhase = false
   outOf noCycle = eqb (running m) 1
@@ -86,7 +87,8 @@ module _ (m : Image) (s : Step) where
   unfolding rowOf outOf
   wrongPhase n = outOf ((rowOf n) .phase)
 
-  -- 11 nothing to do: "barrier with none owed; player scanned already; trace or clean where no line applies"
+  -- 11 nothing to do: "barrier with none owed; player scanned already; trace or clean where no line applies"; kind 15 "11 if the card isn't
+  -- dirty or its count isn't 0"
   unfoldable pub nothingToDo : Kind → Bool
   unfolding forKind
   nothingToDo n =
@@ -95,6 +97,7 @@ module _ (m : Image) (s : Step) where
       ∷ (scan, eqb (scanned m (s .a)) 1)
       ∷ (trace, eqb (traceLine m (s .who)) 0)
       ∷ (clean, eqb (cleanLine m (s .who)) 0)
+      ∷ (undirty, some (not (dirty m (s .a)) ∷ not (eqb (cardCount m (s .a)) 0) ∷ []))
       ∷ [])
 
   -- "The lowest that applies is given.": 3 to 11, or 0
@@ -145,6 +148,8 @@ module _ (m : Image) (s : Step) where
     actBy clean = accept (cleanStep m (s .who)) 0
     actBy finish = finishDone (finishStep m)
     actBy isDue = accept m (rule m (s .a))
+    -- document 02, (ii): "Step 15, undirty, names a card in a [..]; it turns state 1 to 0 and 3 to 2"
+    actBy undirty = accept (undirtyCard m (s .a)) 0
     actBy unknown = accept m 0
 
     -- "the others refuse one step, with value 0": what number r leaves

@@ -1,4 +1,4 @@
--- "Undamaged", one named line for each clause of document 01; a fresh store; judging. Defined without the steps.
+-- "Undamaged", one named line for each clause of document 01 and for the counts of document 02, (ii); a fresh store; judging. Defined without the steps.
 use mathlib.Core.Bool.{Bool, true, false, not, cond}
 use mathlib.Core.List.{List, [], _∷_}
 use Prim.Native.Nat.{ℕ, zero, suc, _+_, _*_, _-_, _/_, _%_}
@@ -6,7 +6,7 @@ use lib.Dec.{leb, ltb, eqb}
 use lib.ListN.{length, drop, replicate}
 use Rattle.model.specs.Base.{nth, all, any, every, some, either, implies, zeroes, elem, distinct, eachPiece, first}
 use Rattle.model.specs.Image
-use Rattle.model.specs.Image.{Image, granules, isStart, marked, links, link, state, dirty, reg, entries, hand, nextLink, handCard, nextGranule, owed, scanned, running, firstRun, fits, imageLength, cardsOf, imageOf, parts, words, setWord, setFirstRun}
+use Rattle.model.specs.Image.{Image, granules, isStart, marked, links, link, state, dirty, cardCount, marksOn, reg, entries, hand, nextLink, handCard, nextGranule, owed, scanned, running, firstRun, fits, imageLength, cardsOf, imageOf, parts, words, setWord, setFirstRun}
 
 -- ---- "Objects and runs fill granules 1 to G − 1 without overlap. Start bits are set at every object's first granule and nowhere else."
 
@@ -65,6 +65,10 @@ module _ (m : Image) where
 
   unfoldable pub markOk : ℕ → Bool
   markOk g = implies (marked m g) (isStart m g)
+
+  -- document 02, (ii): "a count that differs from the mark bits makes it damaged"
+  unfoldable pub countOk : ℕ → Bool
+  countOk c = eqb (cardCount m c) (marksOn m c)
 
   -- "entries past the count are 0": entry word g, below the count or past it
   unfoldable pub entryOk : Bool → ℕ → Bool
@@ -130,6 +134,7 @@ module _ (m : Image) where
       ∷ all 8 tracerOk
       ∷ all 16 heldOnce
       ∷ idleOk
+      ∷ all (m .k) countOk
       ∷ [])
 
   -- ---- "Cover: if a marked object O links to an unmarked A, then O's card is dirty; or O is entered; or O is in hand with that link still to
@@ -196,5 +201,5 @@ judgeAt w ws = first 1 (not (fits w (length ws)) ∷ not (undamaged (parts w ws)
 
 -- opens all of these
 unfoldable pub undamaged-open : ℕ
-unfolding Image.image-open bare piece fill zeroGranule filled nilOrStart linksOk regOk playerOk cardOk markOk entryOk packetOk heldAt heldOnce handOk handCardOk tracerOk generalOk idleOk sound entered linkToCome granuleToCome owedWith covered cover undamaged freshStore made freshAt judgeAt
+unfolding Image.image-open bare piece fill zeroGranule filled nilOrStart linksOk regOk playerOk cardOk markOk countOk entryOk packetOk heldAt heldOnce handOk handCardOk tracerOk generalOk idleOk sound entered linkToCome granuleToCome owedWith covered cover undamaged freshStore made freshAt judgeAt
 undamaged-open = 0

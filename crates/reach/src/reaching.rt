@@ -66,7 +66,7 @@ pub fn reach(im: &mut [Word], k: usize, t: usize, g: Word)
     if image::bits::is_marked(im, k, g as usize) {
         return;
     }
-    image::bits::set_mark(im, k, g as usize);
+    image::cards::mark_object(im, k, g as usize);
     take_output(im, k, t);
     enter(im, k, t, g);
 }

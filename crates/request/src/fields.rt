@@ -7,7 +7,7 @@ ghost use Rattle.model.specs.Base.{testBit};
 ghost use Rattle.model.specs.Image.{imageOf, owed};
 ghost use Rattle.model.specs.Records.{kindOf};
 ghost use Rattle.model.specs.Steps.{unnamed, offDesk, owing};
-ghost use Rattle.theory.specs.Fields.{boundAt};
+ghost use Rattle.theory.specs.Fields.{boundAt, beyondLimit, noCard};
 ghost use Rattle.image_laws.specs.Sized.{Sized};
 ghost use Rattle.image.specs.Layout.{width};
 ghost use Rattle.request_laws.specs.Request.{requested, InRange, admissionOf, asksDebt, roleDigit, roleLimit};
@@ -16,24 +16,24 @@ use image::layout::Word;
 use request_laws::Admission;
 use request_laws::Request;
 
-// The roles of each field, two bits a kind, with kind 0 lowest: 0 not named, 1 a player or a register, 2 a tracer, 3 any number. The kinds, from
-// the highest down: due, finish, clean, trace, scan, begin, write, read, drop, hand, barrier, store, load, new, none.
-const WHO: u64 = 0b00_00_10_10_10_00_01_01_01_01_01_01_01_01_11;
+// The roles of each field, two bits a kind, with kind 0 lowest: 0 not named, 1 a player or a register, 2 a tracer, 3 any number, a card too. The
+// kinds, from the highest down: undirty, due, finish, clean, trace, scan, begin, write, read, drop, hand, barrier, store, load, new, none.
+const WHO: u64 = 0b00_00_00_10_10_10_00_01_01_01_01_01_01_01_01_11;
 
-const A: u64 = 0b11_00_00_00_01_00_01_01_01_01_00_01_01_01_11;
+const A: u64 = 0b11_11_00_00_00_01_00_01_01_01_01_00_01_01_01_11;
 
-const B: u64 = 0b00_00_00_00_00_00_11_11_00_01_00_11_01_11_11;
+const B: u64 = 0b00_00_00_00_00_00_00_11_11_00_01_00_11_01_11_11;
 
-const C: u64 = 0b00_00_00_00_00_00_11_00_00_01_00_01_11_11_11;
+const C: u64 = 0b00_00_00_00_00_00_00_11_00_00_01_00_01_11_11_11;
 
 // The kinds whose field is a player who must owe nothing, a bit a kind; a and c never are.
-const WHO_OWES_NONE: u64 = 0b000000111101110;
+const WHO_OWES_NONE: u64 = 0b0000000111101110;
 
-const B_OWES_NONE: u64 = 0b000000000100000;
+const B_OWES_NONE: u64 = 0b0000000000100000;
 
 // What a field of kind n stays below, by the roles t.
 fn limit_by(t: u64, n: usize) -> usize
-    requires { ⌜ n < 15 ⌝ }
+    requires { ⌜ n < 16 ⌝ }
     ensures { λ r. ⌜ r ≡ roleLimit width (roleDigit t n) ⌝ }
 {
     let role = (t >> (2 * n as u64)) & 3;
@@ -45,10 +45,10 @@ fn limit_by(t: u64, n: usize) -> usize
     }
 }
 
-// Field i (who, a, b, c) of kind n, in a store of k cards, which a field that names a card stays below; no kind has one yet.
-fn limit(k: usize, n: usize, i: usize) -> usize
-    requires { ⌜ (n < 15) × (i < 4) ⌝ }
-    ensures { λ r. ⌜ r ≡ boundAt width k (kindOf n) i ⌝ }
+// Field i (who, a, b, c) of kind n.
+fn limit(n: usize, i: usize) -> usize
+    requires { ⌜ (n < 16) × (i < 4) ⌝ }
+    ensures { λ r. ⌜ r ≡ boundAt width (kindOf n) i ⌝ }
 {
     match i {
         0 => limit_by(WHO, n),
@@ -59,14 +59,14 @@ fn limit(k: usize, n: usize, i: usize) -> usize
 }
 
 fn has_kind(t: u64, n: usize) -> bool
-    requires { ⌜ n < 15 ⌝ }
+    requires { ⌜ n < 16 ⌝ }
     ensures { λ r. ⌜ r ≡ testBit t n ⌝ }
 {
     (t >> (n as u64)) & 1 == 1
 }
 
 fn asks_debt(n: usize, i: usize) -> bool
-    requires { ⌜ (n < 15) × (i < 4) ⌝ }
+    requires { ⌜ (n < 16) × (i < 4) ⌝ }
     ensures { λ r. ⌜ r ≡ asksDebt (kindOf n) i ⌝ }
 {
     match i {
@@ -91,36 +91,43 @@ fn beyond(l: usize, x: usize) -> bool
 }
 
 // Number 3, of a kind that there is.
-fn some_stray(k: usize, r: Request) -> bool
-    requires { ⌜ (1 ≤ r .kind) × (r .kind < 15) ⌝ }
+fn some_stray(r: Request) -> bool
+    requires { ⌜ (1 ≤ r .kind) × (r .kind < 16) ⌝ }
     ensures { λ b. ⌜ b ≡ unnamed (requested r) (kindOf (r .kind)) ⌝ }
 {
     let n = r.kind;
-    let w = stray(limit(k, n, 0), r.who);
-    let a = stray(limit(k, n, 1), r.a);
-    let b = stray(limit(k, n, 2), r.b);
-    let c = stray(limit(k, n, 3), r.c);
+    let w = stray(limit(n, 0), r.who);
+    let a = stray(limit(n, 1), r.a);
+    let b = stray(limit(n, 2), r.b);
+    let c = stray(limit(n, 3), r.c);
     w | a | b | c
 }
 
-// Number 4.
-fn some_beyond(k: usize, r: Request) -> bool
-    requires { ⌜ r .kind < 15 ⌝ }
-    requires { ⌜ InRange width r ⌝ }
-    ensures { λ b. ⌜ b ≡ offDesk (requested r) k (kindOf (r .kind)) ⌝ }
+// Number 4, but for cards.
+fn some_beyond(r: Request) -> bool
+    requires { ⌜ r .kind < 16 ⌝ }
+    ensures { λ b. ⌜ b ≡ beyondLimit width (requested r) (kindOf (r .kind)) ⌝ }
 {
     let n = r.kind;
-    let w = beyond(limit(k, n, 0), r.who);
-    let a = beyond(limit(k, n, 1), r.a);
-    let b = beyond(limit(k, n, 2), r.b);
-    let c = beyond(limit(k, n, 3), r.c);
+    let w = beyond(limit(n, 0), r.who);
+    let a = beyond(limit(n, 1), r.a);
+    let b = beyond(limit(n, 2), r.b);
+    let c = beyond(limit(n, 3), r.c);
     w | a | b | c
+}
+
+// Of cards, apart from the table: only undirty names one, and all other kinds would pay for it.
+fn no_card(k: usize, r: Request) -> bool
+    requires { ⌜ r .kind < 16 ⌝ }
+    ensures { λ b. ⌜ b ≡ noCard k (requested r) (kindOf (r .kind)) ⌝ }
+{
+    (r.kind == 15) & (k <= r.a)
 }
 
 // Field i of a request of kind n, which is x, is a player who owes and must not.
 fn owes(im: &[Word], k: usize, n: usize, i: usize, x: usize) -> bool
     requires { ⌜ Sized width k (now im) ⌝ }
-    requires { ⌜ (n < 15) × (i < 4) ⌝ }
+    requires { ⌜ (n < 16) × (i < 4) ⌝ }
     requires { ⌜ (asksDebt (kindOf n) i ≡ true → x < 16) ⌝ }
     ensures { λ b. ⌜ b ≡ (asksDebt (kindOf n) i && not (eqb (owed (imageOf width k (now (im .entry))) x) 0)) ⌝ }
 {
@@ -133,8 +140,7 @@ fn owes(im: &[Word], k: usize, n: usize, i: usize, x: usize) -> bool
 // Number 5, of a request whose fields are on the desk.
 fn some_owing(im: &[Word], k: usize, r: Request) -> bool
     requires { ⌜ Sized width k (now im) ⌝ }
-    requires { ⌜ InRange width r ⌝ }
-    requires { ⌜ (r .kind < 15) × (offDesk (requested r) k (kindOf (r .kind)) ≡ false) ⌝ }
+    requires { ⌜ (r .kind < 16) × (offDesk (requested r) k (kindOf (r .kind)) ≡ false) ⌝ }
     ensures { λ b. ⌜ b ≡ owing (imageOf width k (now (im .entry))) (requested r) (kindOf (r .kind)) ⌝ }
 {
     let n = r.kind;
@@ -154,13 +160,13 @@ pub fn admit(im: &[Word], k: usize, r: Request) -> Admission
     if n == 0 {
         return Admission::Unknown;
     }
-    if 15 <= n {
+    if 16 <= n {
         return Admission::Unknown;
     }
-    if some_stray(k, r) {
+    if some_stray(r) {
         return Admission::Unknown;
     }
-    if some_beyond(k, r) {
+    if some_beyond(r) | no_card(k, r) {
         return Admission::OffDesk;
     }
     if some_owing(im, k, r) {

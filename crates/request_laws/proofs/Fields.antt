@@ -4,16 +4,18 @@ use mathlib.Core.Logic.{inl, inr}
 use mathlib.Core.Bool.{Bool, true, false, not, _&&_, _||_, or-assoc, or-false}
 use mathlib.Core.List.{[], _∷_}
 use Prim.Native.Nat.{ℕ, _^_, _≤_, _<_}
+use native.Mathlib.Decide.{ℕ-discrete}
 use native.Mathlib.Omega.{arith}
+use borrow.Author.Tests.{ne-eqb, not-true}
 use lib.Dec.{leb, ltb, eqb}
-use Rattle.model.specs.Base.{some}
+use Rattle.model.specs.Base.{some, all}
 use Rattle.model.specs.Image.{Image, owed}
 use Rattle.model.specs.Records.{Step, Kind, unknown, kindOf}
-use Rattle.model.specs.Rows.{Role, unused, player, tracer, register, number, rowOf, isPlayer, fields}
+use Rattle.model.specs.Rows.{Role, unused, player, tracer, register, card, number, rowOf, isPlayer, below, limit, fields}
 use Rattle.model.specs.Steps.{unnamed, offDesk, owes, owing, step}
-use Rattle.model.proofs.Laws.{false≢, bool-cases, and-split}
+use Rattle.model.proofs.Laws.{false≢, bool-cases, and-split, all-use}
 use Rattle.model.proofs.Rows.{kind-known, kind-unknown}
-use Rattle.theory.specs.Fields.{fieldAt, roleAt, bound, boundAt}
+use Rattle.theory.specs.Fields.{fieldAt, roleAt, bound, boundAt, isCard, beyondLimit, noCard}
 use Rattle.theory.proofs.steps.Fields.{four, unnamed-by, off-by, field-below}
 use Rattle.request_laws.specs.Answer.{done}
 use Rattle.request_laws.specs.Passed.{Passed}
@@ -29,7 +31,7 @@ some-four a b c d = simp (or-assoc, or-false)
 
 -- ---- the three tests, as code makes them: l is a field's limit, the others what was found of each
 
-module _ (w k : ℕ) (r : Request) where
+module _ (w : ℕ) (r : Request) where
   abbrev n : Kind
   n = kindOf (r .kind)
 
@@ -42,34 +44,56 @@ module _ (w k : ℕ) (r : Request) where
 
   -- the tests of four fields by their limits
   module _ (f : ℕ → ℕ → Bool) {l₀ l₁ l₂ l₃ : ℕ} {t u v x : Bool} where
-    found : l₀ ≡ boundAt w k n 0 → l₁ ≡ boundAt w k n 1 → l₂ ≡ boundAt w k n 2 → l₃ ≡ boundAt w k n 3 → t ≡ f l₀ (r .who) → u ≡ f l₁ (r .a) → v ≡ f l₂ (r .b) → x ≡ f l₃ (r .c)
-        → (((t || u) || v) || x) ≡ some (fields s (λ x y. f (bound w k x) y) (rowOf n))
+    found : l₀ ≡ boundAt w n 0 → l₁ ≡ boundAt w n 1 → l₂ ≡ boundAt w n 2 → l₃ ≡ boundAt w n 3 → t ≡ f l₀ (r .who) → u ≡ f l₁ (r .a) → v ≡ f l₂ (r .b) → x ≡ f l₃ (r .c)
+        → (((t || u) || v) || x) ≡ some (fields s (λ x y. f (bound w x) y) (rowOf n))
     unfolding requested fields boundAt roleAt
     found e₀ e₁ e₂ e₃ f₀ f₁ f₂ f₃ = some-four t u v x ∙ rw (f₀, f₁, f₂, f₃, e₀, e₁, e₂, e₃)
 
-  module _ {l₀ l₁ l₂ l₃ : ℕ} {t u v x : Bool} (e₀ : l₀ ≡ boundAt w k n 0) (e₁ : l₁ ≡ boundAt w k n 1) (e₂ : l₂ ≡ boundAt w k n 2) (e₃ : l₃ ≡ boundAt w k n 3) where
-    pub stray-found : 1 ≤ r .kind → r .kind < 15 → t ≡ (eqb l₀ 0 && not (eqb (r .who) 0)) → u ≡ (eqb l₁ 0 && not (eqb (r .a) 0)) → v ≡ (eqb l₂ 0 && not (eqb (r .b) 0)) → x ≡ (eqb l₃ 0 && not (eqb (r .c) 0))
+  module _ {l₀ l₁ l₂ l₃ : ℕ} {t u v x : Bool} (e₀ : l₀ ≡ boundAt w n 0) (e₁ : l₁ ≡ boundAt w n 1) (e₂ : l₂ ≡ boundAt w n 2) (e₃ : l₃ ≡ boundAt w n 3) where
+    pub stray-found : 1 ≤ r .kind → r .kind < 16 → t ≡ (eqb l₀ 0 && not (eqb (r .who) 0)) → u ≡ (eqb l₁ 0 && not (eqb (r .a) 0)) → v ≡ (eqb l₂ 0 && not (eqb (r .b) 0)) → x ≡ (eqb l₃ 0 && not (eqb (r .c) 0))
         → (((t || u) || v) || x) ≡ unnamed (requested r) (kindOf (r .kind))
     unfolding some
     stray-found l h f₀ f₁ f₂ f₃ =
         found (λ y z. eqb y 0 && not (eqb z 0)) e₀ e₁ e₂ e₃ f₀ f₁ f₂ f₃
-        ∙ sym (unnamed-by w k s n ∙ ap (λ b. b || some (fields s (λ y z. eqb (bound w k y) 0 && not (eqb z 0)) (rowOf n))) (kind-known (r .kind) l h))
+        ∙ sym (unnamed-by w s n ∙ ap (λ b. b || some (fields s (λ y z. eqb (bound w y) 0 && not (eqb z 0)) (rowOf n))) (kind-known (r .kind) l h))
 
-    pub beyond-found : InRange w r → t ≡ (ltb 0 l₀ && leb l₀ (r .who)) → u ≡ (ltb 0 l₁ && leb l₁ (r .a)) → v ≡ (ltb 0 l₂ && leb l₂ (r .b)) → x ≡ (ltb 0 l₃ && leb l₃ (r .c))
-        → (((t || u) || v) || x) ≡ offDesk (requested r) k (kindOf (r .kind))
-    beyond-found q f₀ f₁ f₂ f₃ = found (λ y z. ltb 0 y && leb y z) e₀ e₁ e₂ e₃ f₀ f₁ f₂ f₃ ∙ sym (off-by w k s n (in-range q))
+    pub beyond-found : t ≡ (ltb 0 l₀ && leb l₀ (r .who)) → u ≡ (ltb 0 l₁ && leb l₁ (r .a)) → v ≡ (ltb 0 l₂ && leb l₂ (r .b)) → x ≡ (ltb 0 l₃ && leb l₃ (r .c))
+        → (((t || u) || v) || x) ≡ beyondLimit w (requested r) (kindOf (r .kind))
+    unfolding beyondLimit
+    beyond-found f₀ f₁ f₂ f₃ = found (λ y z. ltb 0 y && leb y z) e₀ e₁ e₂ e₃ f₀ f₁ f₂ f₃
 
-  -- a field that must owe nothing is a player's number
-  pub debtor-below : InRange w r → offDesk (requested r) k (kindOf (r .kind)) ≡ false → (i : ℕ) → i < 4 → asksDebt (kindOf (r .kind)) i ≡ true → fieldAt (requested r) i < 16
-  unfolding asksDebt boundAt isPlayer bound
-  debtor-below q e i h d = go (roleAt n i) ((and-split ((rowOf n) .unowing) (isPlayer (roleAt n i)) d) .1) (field-below w k s n e i h (in-range q i h))
-    where
-      go : (x : Role) → isPlayer x ≡ true → (0 < bound w k x → fieldAt s i < bound w k x) → fieldAt s i < 16
-      go player p f = f (omega arith)
-      go unused p f = false≢ p
-      go tracer p f = false≢ p
-      go register p f = false≢ p
-      go number p f = false≢ p
+  -- both parts of number 4
+  pub off-found : (k : ℕ) → InRange w r → {t u : Bool} → t ≡ beyondLimit w (requested r) (kindOf (r .kind)) → u ≡ noCard k (requested r) (kindOf (r .kind)) → (t || u) ≡ offDesk (requested r) k (kindOf (r .kind))
+  off-found k q e f = rw (e, f) (sym (off-by w s n k (in-range q)))
+
+-- only field a of kind 15 names a card
+no-card-at : (n : ℕ) → n < 15 → (i : ℕ) → i < 4 → isCard (roleAt (kindOf n) i) ≡ false
+unfolding all kindOf roleAt isCard
+no-card-at n h i l = not-true (isCard (roleAt (kindOf n) i)) (all-use 4 (λ i. not (isCard (roleAt (kindOf n) i))) (all-use 15 (λ n. all 4 (λ i. not (isCard (roleAt (kindOf n) i)))) refl n h) i l)
+
+pub card-found : (k : ℕ) (r : Request) → r .kind < 16 → (eqb (r .kind) 15 && leb k (r .a)) ≡ noCard k (requested r) (kindOf (r .kind))
+unfolding noCard isCard requested fields kindOf rowOf roleAt some
+card-found k r h = elim (ℕ-discrete (r .kind) 15) [
+  | yes e ↦ rw e (sym (or-false (leb k (r .a))))
+  | no e ↦
+      let c : (i : ℕ) → i < 4 → isCard (roleAt (kindOf (r .kind)) i) ≡ false = no-card-at (r .kind) (omega arith) in
+      rw (ne-eqb (r .kind) 15 e, c 0 (omega arith), c 1 (omega arith), c 2 (omega arith), c 3 (omega arith)) refl
+]
+
+-- a field that must owe nothing is a player's number
+pub debtor-below : (k : ℕ) (r : Request) → offDesk (requested r) k (kindOf (r .kind)) ≡ false → (i : ℕ) → i < 4 → asksDebt (kindOf (r .kind)) i ≡ true → fieldAt (requested r) i < 16
+unfolding asksDebt isPlayer limit
+debtor-below k r e i h d =
+    let n : Kind = kindOf (r .kind) in
+    field-below (requested r) n k e i h 16 (is-limit (roleAt n i) ((and-split ((rowOf n) .unowing) (isPlayer (roleAt n i)) d) .1))
+  where
+    is-limit : (x : Role) → isPlayer x ≡ true → limit k x ≡ below 16
+    is-limit player p = refl
+    is-limit unused p = false≢ p
+    is-limit tracer p = false≢ p
+    is-limit register p = false≢ p
+    is-limit card p = false≢ p
+    is-limit number p = false≢ p
 
 -- a field that is asked for its debt, and one that is not
 module _ (d : Bool) {t : Bool} (e : t ≡ d) where
@@ -96,7 +120,7 @@ module _ (m : Image) (r : Request) where
   unfolding kindOf
   admit-none e = unknown-kinds (ap kindOf e)
 
-  pub admit-many : 15 ≤ r .kind → Unknown ≡ admissionOf m (requested r)
+  pub admit-many : 16 ≤ r .kind → Unknown ≡ admissionOf m (requested r)
   admit-many h = unknown-kinds (kind-unknown (r .kind) h)
 
   module _ {t : Bool} (f : t ≡ unnamed (requested r) (kindOf (r .kind))) where

@@ -39,18 +39,18 @@ same-bool : (a b : Bool) → cond a b (not b) ≡ true → a ≡ b
 same-bool true b e = sym e
 same-bool false b e = sym (not-true b e)
 
-module _ (n : ℕ) (h : n < 15) (i j : ℕ) (q : j ≡ i) where
-  pub limit-at : (w k t r : ℕ) → r ≡ roleLimit w (roleDigit t n) → all 15 (λ n. eqb (roleLimit w (roleDigit t n)) (boundAt w k (kindOf n) i)) ≡ true → r ≡ boundAt w k (kindOf n) j
-  limit-at w k t r f e = f ∙ (eqb-true _ _ (all-use 15 (λ n. eqb (roleLimit w (roleDigit t n)) (boundAt w k (kindOf n) i)) e n h) ∙ rw q)
+module _ (n : ℕ) (h : n < 16) (i j : ℕ) (q : j ≡ i) where
+  pub limit-at : (w t r : ℕ) → r ≡ roleLimit w (roleDigit t n) → all 16 (λ n. eqb (roleLimit w (roleDigit t n)) (boundAt w (kindOf n) i)) ≡ true → r ≡ boundAt w (kindOf n) j
+  limit-at w t r f e = f ∙ (eqb-true _ _ (all-use 16 (λ n. eqb (roleLimit w (roleDigit t n)) (boundAt w (kindOf n) i)) e n h) ∙ rw q)
 
-  pub debt-at : (t : ℕ) (r : Bool) → r ≡ testBit t n → all 15 (λ n. cond (testBit t n) (asksDebt (kindOf n) i) (not (asksDebt (kindOf n) i))) ≡ true → r ≡ asksDebt (kindOf n) j
-  debt-at t r f e = f ∙ (same-bool _ _ (all-use 15 (λ n. cond (testBit t n) (asksDebt (kindOf n) i) (not (asksDebt (kindOf n) i))) e n h) ∙ rw q)
+  pub debt-at : (t : ℕ) (r : Bool) → r ≡ testBit t n → all 16 (λ n. cond (testBit t n) (asksDebt (kindOf n) i) (not (asksDebt (kindOf n) i))) ≡ true → r ≡ asksDebt (kindOf n) j
+  debt-at t r f e = f ∙ (same-bool _ _ (all-use 16 (λ n. cond (testBit t n) (asksDebt (kindOf n) i) (not (asksDebt (kindOf n) i))) e n h) ∙ rw q)
 
 -- fields a and c never are players who must owe nothing
-module _ (n : ℕ) (h : n < 15) where
+module _ (n : ℕ) (h : n < 16) where
   pub no-debt : (j : ℕ) → j < 4 → (j ≡ 0 → ⊥) → (j ≡ 2 → ⊥) → false ≡ asksDebt (kindOf n) j
   unfolding all kindOf asksDebt
   no-debt =
       four (λ j. (j ≡ 0 → ⊥) → (j ≡ 2 → ⊥) → false ≡ asksDebt (kindOf n) j)
-      (λ a b. absurd (a refl)) (λ a b. sym (not-true _ (all-use 15 (λ n. not (asksDebt (kindOf n) 1)) refl n h)))
-      (λ a b. absurd (b refl)) (λ a b. sym (not-true _ (all-use 15 (λ n. not (asksDebt (kindOf n) 3)) refl n h)))
+      (λ a b. absurd (a refl)) (λ a b. sym (not-true _ (all-use 16 (λ n. not (asksDebt (kindOf n) 1)) refl n h)))
+      (λ a b. absurd (b refl)) (λ a b. sym (not-true _ (all-use 16 (λ n. not (asksDebt (kindOf n) 3)) refl n h)))

@@ -44,7 +44,7 @@ asksDebt n i = (rowOf n) .unowing && isPlayer (roleAt n i)
 unfoldable pub roleDigit : ℕ → ℕ → ℕ
 roleDigit t n = t / 2 ^ (2 * n) % 4
 
--- what a field stays below by its two bits: not named, a player or a register, a tracer, any number of w bits
+-- what a field stays below by its two bits: not named, a player or a register, a tracer, any number of w bits (a card too)
 unfoldable pub roleLimit : ℕ → ℕ → ℕ
 roleLimit w zero = 0
 roleLimit w (suc zero) = 16

@@ -97,4 +97,5 @@ pub fn is_idle(im: &[Word], k: usize) -> bool
         & stretches::parts::zero_packets(im, k)
         & stretches::parts::zero_tracers(im, k)
         & all_unscanned(im, k)
+        & stretches::parts::zero_counts(im, k)
 }

@@ -6,17 +6,16 @@ use native.Mathlib.Decide.{decLt}
 use native.Mathlib.Omega.{arith}
 use Rattle.model.specs.Image.{Image, owed}
 use Rattle.model.specs.Records.{unknown, kindOf}
-use Rattle.model.specs.Rows.{rowOf, player}
+use Rattle.model.specs.Rows.{unused, player, below, limit, rowOf}
 use Rattle.model.specs.Steps as steps
 use Rattle.model.specs.Steps.{unnamed, step}
 use Rattle.model.proofs.Rows.{kind-unknown}
-use Rattle.theory.specs.Fields.{fieldAt, roleAt, boundAt}
+use Rattle.theory.specs.Fields.{fieldAt, roleAt}
 use Rattle.theory.proofs.steps.Fields.{field-zero, field-below, field-paid}
 use Rattle.request_laws.specs.Answer.{done, asked}
 use Rattle.request_laws.proofs.Numbers.{number-3}
-use Rattle.request_laws.proofs.Fields.{in-range}
 use Rattle.request_laws.specs.Passed.{Passed}
-use Rattle.request_laws.specs.Request.{requested, InRange}
+use Rattle.request_laws.specs.Request.{requested}
 use Rattle.request_laws.specs.declared.Request.{Request}
 
 -- the step of a request, by the fields that its kind names; the others are 0
@@ -24,16 +23,14 @@ by-kind : (m : Image) (r : Request) (n w a b c : ℕ) (d : steps.Done) → r .ki
 unfolding requested asked
 by-kind m r n w a b c d e f g h i q = rw (e, f, g, h, i) q
 
-module _ (w : ℕ) {m : Image} (r : Request) (v : InRange w r) (q : Passed m (requested r) (kindOf (r .kind))) where
+module _ {m : Image} (r : Request) (q : Passed m (requested r) (kindOf (r .kind))) where
   -- a field that its kind n does not name, one that has a limit, and a player who must owe nothing
   module _ (n : ℕ) (e : r .kind ≡ n) (i : ℕ) (h : i < 4) where
-    zero-at : boundAt w (m .k) (kindOf n) i ≡ 0 → fieldAt (requested r) i ≡ 0
-    zero-at z = field-zero w (m .k) (requested r) (kindOf (r .kind)) (q .named) i h (rw e z)
+    zero-at : roleAt (kindOf n) i ≡ unused → fieldAt (requested r) i ≡ 0
+    zero-at z = field-zero (requested r) (kindOf (r .kind)) (q .named) i h (rw e z)
 
-    below-at : (l : ℕ) → boundAt w (m .k) (kindOf n) i ≡ suc l → fieldAt (requested r) i < suc l
-    below-at l b =
-        let s : boundAt w (m .k) (kindOf (r .kind)) i ≡ suc l = rw e b in
-        rw s at (field-below w (m .k) (requested r) (kindOf (r .kind)) (q .on-desk) i h (in-range w (m .k) r v i h) (omega arith))
+    below-at : (l : ℕ) → limit (m .k) (roleAt (kindOf n) i) ≡ below l → fieldAt (requested r) i < l
+    below-at l b = field-below (requested r) (kindOf (r .kind)) (m .k) (q .on-desk) i h l (rw e b)
 
     paid-at : (rowOf (kindOf n)) .unowing ≡ true → roleAt (kindOf n) i ≡ player → owed m (fieldAt (requested r) i) ≡ 0
     paid-at u p = field-paid m (requested r) (kindOf (r .kind)) (q .none-owed) (rw e u) i h (rw e p)
@@ -41,99 +38,107 @@ module _ (w : ℕ) {m : Image} (r : Request) (v : InRange w r) (q : Passed m (re
   -- ---- kind by kind: the limits of its fields and who must owe nothing; its step, where the fields that it does not name are 0
 
   pub new-fields : r .kind ≡ 1 → ((r .who < 16) × (r .a < 16)) × (owed m (r .who) ≡ 0)
-  unfolding kindOf boundAt roleAt fieldAt requested
-  new-fields e = ((below-at 1 e 0 (omega arith) 15 refl, below-at 1 e 1 (omega arith) 15 refl), paid-at 1 e 0 (omega arith) refl refl)
+  unfolding kindOf roleAt limit fieldAt requested
+  new-fields e = ((below-at 1 e 0 (omega arith) 16 refl, below-at 1 e 1 (omega arith) 16 refl), paid-at 1 e 0 (omega arith) refl refl)
 
   pub new-dispatched : r .kind ≡ 1 → (d : steps.Done) → d ≡ step m (asked 1 (r .who) (r .a) (r .b) (r .c)) → d ≡ step m (requested r)
   new-dispatched e d = by-kind m r 1 (r .who) (r .a) (r .b) (r .c) d e refl refl refl refl
 
   pub load-fields : r .kind ≡ 2 → ((r .who < 16) × (r .a < 16) × (r .b < 16)) × (owed m (r .who) ≡ 0)
-  unfolding kindOf boundAt roleAt fieldAt requested
-  load-fields e = ((below-at 2 e 0 (omega arith) 15 refl, below-at 2 e 1 (omega arith) 15 refl, below-at 2 e 2 (omega arith) 15 refl), paid-at 2 e 0 (omega arith) refl refl)
+  unfolding kindOf roleAt limit fieldAt requested
+  load-fields e = ((below-at 2 e 0 (omega arith) 16 refl, below-at 2 e 1 (omega arith) 16 refl, below-at 2 e 2 (omega arith) 16 refl), paid-at 2 e 0 (omega arith) refl refl)
 
   pub load-dispatched : r .kind ≡ 2 → (d : steps.Done) → d ≡ step m (asked 2 (r .who) (r .a) (r .b) (r .c)) → d ≡ step m (requested r)
   load-dispatched e d = by-kind m r 2 (r .who) (r .a) (r .b) (r .c) d e refl refl refl refl
 
   pub store-fields : r .kind ≡ 3 → ((r .who < 16) × (r .a < 16) × (r .c < 16)) × (owed m (r .who) ≡ 0)
-  unfolding kindOf boundAt roleAt fieldAt requested
-  store-fields e = ((below-at 3 e 0 (omega arith) 15 refl, below-at 3 e 1 (omega arith) 15 refl, below-at 3 e 3 (omega arith) 15 refl), paid-at 3 e 0 (omega arith) refl refl)
+  unfolding kindOf roleAt limit fieldAt requested
+  store-fields e = ((below-at 3 e 0 (omega arith) 16 refl, below-at 3 e 1 (omega arith) 16 refl, below-at 3 e 3 (omega arith) 16 refl), paid-at 3 e 0 (omega arith) refl refl)
 
   pub store-dispatched : r .kind ≡ 3 → (d : steps.Done) → d ≡ step m (asked 3 (r .who) (r .a) (r .b) (r .c)) → d ≡ step m (requested r)
   store-dispatched e d = by-kind m r 3 (r .who) (r .a) (r .b) (r .c) d e refl refl refl refl
 
   pub barrier-fields : r .kind ≡ 4 → r .who < 16
-  unfolding kindOf boundAt roleAt fieldAt requested
-  barrier-fields e = below-at 4 e 0 (omega arith) 15 refl
+  unfolding kindOf roleAt limit fieldAt requested
+  barrier-fields e = below-at 4 e 0 (omega arith) 16 refl
 
   pub barrier-dispatched : r .kind ≡ 4 → (d : steps.Done) → d ≡ step m (asked 4 (r .who) 0 0 0) → d ≡ step m (requested r)
-  unfolding kindOf boundAt roleAt fieldAt requested
+  unfolding kindOf roleAt limit fieldAt requested
   barrier-dispatched e d = by-kind m r 4 (r .who) 0 0 0 d e refl (zero-at 4 e 1 (omega arith) refl) (zero-at 4 e 2 (omega arith) refl) (zero-at 4 e 3 (omega arith) refl)
 
   pub hand-fields : r .kind ≡ 5 → ((r .who < 16) × (r .a < 16) × (r .b < 16) × (r .c < 16)) × ((owed m (r .who) ≡ 0) × (owed m (r .b) ≡ 0))
-  unfolding kindOf boundAt roleAt fieldAt requested
-  hand-fields e = ((below-at 5 e 0 (omega arith) 15 refl, below-at 5 e 1 (omega arith) 15 refl, below-at 5 e 2 (omega arith) 15 refl, below-at 5 e 3 (omega arith) 15 refl), (paid-at 5 e 0 (omega arith) refl refl, paid-at 5 e 2 (omega arith) refl refl))
+  unfolding kindOf roleAt limit fieldAt requested
+  hand-fields e = ((below-at 5 e 0 (omega arith) 16 refl, below-at 5 e 1 (omega arith) 16 refl, below-at 5 e 2 (omega arith) 16 refl, below-at 5 e 3 (omega arith) 16 refl), (paid-at 5 e 0 (omega arith) refl refl, paid-at 5 e 2 (omega arith) refl refl))
 
   pub hand-dispatched : r .kind ≡ 5 → (d : steps.Done) → d ≡ step m (asked 5 (r .who) (r .a) (r .b) (r .c)) → d ≡ step m (requested r)
   hand-dispatched e d = by-kind m r 5 (r .who) (r .a) (r .b) (r .c) d e refl refl refl refl
 
   pub drop-fields : r .kind ≡ 6 → ((r .who < 16) × (r .a < 16)) × (owed m (r .who) ≡ 0)
-  unfolding kindOf boundAt roleAt fieldAt requested
-  drop-fields e = ((below-at 6 e 0 (omega arith) 15 refl, below-at 6 e 1 (omega arith) 15 refl), paid-at 6 e 0 (omega arith) refl refl)
+  unfolding kindOf roleAt limit fieldAt requested
+  drop-fields e = ((below-at 6 e 0 (omega arith) 16 refl, below-at 6 e 1 (omega arith) 16 refl), paid-at 6 e 0 (omega arith) refl refl)
 
   pub drop-dispatched : r .kind ≡ 6 → (d : steps.Done) → d ≡ step m (asked 6 (r .who) (r .a) 0 0) → d ≡ step m (requested r)
-  unfolding kindOf boundAt roleAt fieldAt requested
+  unfolding kindOf roleAt limit fieldAt requested
   drop-dispatched e d = by-kind m r 6 (r .who) (r .a) 0 0 d e refl refl (zero-at 6 e 2 (omega arith) refl) (zero-at 6 e 3 (omega arith) refl)
 
   pub read-fields : r .kind ≡ 7 → ((r .who < 16) × (r .a < 16)) × (owed m (r .who) ≡ 0)
-  unfolding kindOf boundAt roleAt fieldAt requested
-  read-fields e = ((below-at 7 e 0 (omega arith) 15 refl, below-at 7 e 1 (omega arith) 15 refl), paid-at 7 e 0 (omega arith) refl refl)
+  unfolding kindOf roleAt limit fieldAt requested
+  read-fields e = ((below-at 7 e 0 (omega arith) 16 refl, below-at 7 e 1 (omega arith) 16 refl), paid-at 7 e 0 (omega arith) refl refl)
 
   pub read-dispatched : r .kind ≡ 7 → (d : steps.Done) → d ≡ step m (asked 7 (r .who) (r .a) (r .b) 0) → d ≡ step m (requested r)
-  unfolding kindOf boundAt roleAt fieldAt requested
+  unfolding kindOf roleAt limit fieldAt requested
   read-dispatched e d = by-kind m r 7 (r .who) (r .a) (r .b) 0 d e refl refl refl (zero-at 7 e 3 (omega arith) refl)
 
   pub write-fields : r .kind ≡ 8 → ((r .who < 16) × (r .a < 16)) × (owed m (r .who) ≡ 0)
-  unfolding kindOf boundAt roleAt fieldAt requested
-  write-fields e = ((below-at 8 e 0 (omega arith) 15 refl, below-at 8 e 1 (omega arith) 15 refl), paid-at 8 e 0 (omega arith) refl refl)
+  unfolding kindOf roleAt limit fieldAt requested
+  write-fields e = ((below-at 8 e 0 (omega arith) 16 refl, below-at 8 e 1 (omega arith) 16 refl), paid-at 8 e 0 (omega arith) refl refl)
 
   pub write-dispatched : r .kind ≡ 8 → (d : steps.Done) → d ≡ step m (asked 8 (r .who) (r .a) (r .b) (r .c)) → d ≡ step m (requested r)
   write-dispatched e d = by-kind m r 8 (r .who) (r .a) (r .b) (r .c) d e refl refl refl refl
 
   pub begin-dispatched : r .kind ≡ 9 → (d : steps.Done) → d ≡ step m (asked 9 0 0 0 0) → d ≡ step m (requested r)
-  unfolding kindOf boundAt roleAt fieldAt requested
+  unfolding kindOf roleAt limit fieldAt requested
   begin-dispatched e d = by-kind m r 9 0 0 0 0 d e (zero-at 9 e 0 (omega arith) refl) (zero-at 9 e 1 (omega arith) refl) (zero-at 9 e 2 (omega arith) refl) (zero-at 9 e 3 (omega arith) refl)
 
   pub scan-fields : r .kind ≡ 10 → (r .who < 8) × (r .a < 16)
-  unfolding kindOf boundAt roleAt fieldAt requested
-  scan-fields e = (below-at 10 e 0 (omega arith) 7 refl, below-at 10 e 1 (omega arith) 15 refl)
+  unfolding kindOf roleAt limit fieldAt requested
+  scan-fields e = (below-at 10 e 0 (omega arith) 8 refl, below-at 10 e 1 (omega arith) 16 refl)
 
   pub scan-dispatched : r .kind ≡ 10 → (d : steps.Done) → d ≡ step m (asked 10 (r .who) (r .a) 0 0) → d ≡ step m (requested r)
-  unfolding kindOf boundAt roleAt fieldAt requested
+  unfolding kindOf roleAt limit fieldAt requested
   scan-dispatched e d = by-kind m r 10 (r .who) (r .a) 0 0 d e refl refl (zero-at 10 e 2 (omega arith) refl) (zero-at 10 e 3 (omega arith) refl)
 
   pub trace-fields : r .kind ≡ 11 → r .who < 8
-  unfolding kindOf boundAt roleAt fieldAt requested
-  trace-fields e = below-at 11 e 0 (omega arith) 7 refl
+  unfolding kindOf roleAt limit fieldAt requested
+  trace-fields e = below-at 11 e 0 (omega arith) 8 refl
 
   pub trace-dispatched : r .kind ≡ 11 → (d : steps.Done) → d ≡ step m (asked 11 (r .who) 0 0 0) → d ≡ step m (requested r)
-  unfolding kindOf boundAt roleAt fieldAt requested
+  unfolding kindOf roleAt limit fieldAt requested
   trace-dispatched e d = by-kind m r 11 (r .who) 0 0 0 d e refl (zero-at 11 e 1 (omega arith) refl) (zero-at 11 e 2 (omega arith) refl) (zero-at 11 e 3 (omega arith) refl)
 
   pub clean-fields : r .kind ≡ 12 → r .who < 8
-  unfolding kindOf boundAt roleAt fieldAt requested
-  clean-fields e = below-at 12 e 0 (omega arith) 7 refl
+  unfolding kindOf roleAt limit fieldAt requested
+  clean-fields e = below-at 12 e 0 (omega arith) 8 refl
 
   pub clean-dispatched : r .kind ≡ 12 → (d : steps.Done) → d ≡ step m (asked 12 (r .who) 0 0 0) → d ≡ step m (requested r)
-  unfolding kindOf boundAt roleAt fieldAt requested
+  unfolding kindOf roleAt limit fieldAt requested
   clean-dispatched e d = by-kind m r 12 (r .who) 0 0 0 d e refl (zero-at 12 e 1 (omega arith) refl) (zero-at 12 e 2 (omega arith) refl) (zero-at 12 e 3 (omega arith) refl)
 
   pub finish-dispatched : r .kind ≡ 13 → (d : steps.Done) → d ≡ step m (asked 13 0 0 0 0) → d ≡ step m (requested r)
-  unfolding kindOf boundAt roleAt fieldAt requested
+  unfolding kindOf roleAt limit fieldAt requested
   finish-dispatched e d = by-kind m r 13 0 0 0 0 d e (zero-at 13 e 0 (omega arith) refl) (zero-at 13 e 1 (omega arith) refl) (zero-at 13 e 2 (omega arith) refl) (zero-at 13 e 3 (omega arith) refl)
 
   pub due-dispatched : r .kind ≡ 14 → (d : steps.Done) → d ≡ step m (asked 14 0 (r .a) 0 0) → d ≡ step m (requested r)
-  unfolding kindOf boundAt roleAt fieldAt requested
+  unfolding kindOf roleAt limit fieldAt requested
   due-dispatched e d = by-kind m r 14 0 (r .a) 0 0 d e (zero-at 14 e 0 (omega arith) refl) refl (zero-at 14 e 2 (omega arith) refl) (zero-at 14 e 3 (omega arith) refl)
+
+  pub undirty-fields : r .kind ≡ 15 → r .a < m .k
+  unfolding kindOf roleAt limit fieldAt requested
+  undirty-fields e = below-at 15 e 1 (omega arith) (m .k) refl
+
+  pub undirty-dispatched : r .kind ≡ 15 → (d : steps.Done) → d ≡ step m (asked 15 0 (r .a) 0 0) → d ≡ step m (requested r)
+  unfolding kindOf roleAt limit fieldAt requested
+  undirty-dispatched e d = by-kind m r 15 0 (r .a) 0 0 d e (zero-at 15 e 0 (omega arith) refl) refl (zero-at 15 e 2 (omega arith) refl) (zero-at 15 e 3 (omega arith) refl)
 
 -- ---- a number that is no kind's
 
@@ -146,11 +151,11 @@ none-to : (n j : ℕ) → NoneTo n j → 1 ≤ n → n ≤ j → ⊥
 none-to n zero h p q = omega arith
 none-to n (suc j) h p q = none-to n j (h .0) p (omega (arith, h .1))
 
-no-kind : (n : ℕ) → NoneTo n 14 → kindOf n ≡ unknown
+no-kind : (n : ℕ) → NoneTo n 15 → kindOf n ≡ unknown
 unfolding kindOf
 no-kind zero h = refl
-no-kind (suc n) h = kind-unknown (suc n) (elim (decLt (suc n) 15) [ yes l ↦ absurd (none-to (suc n) 14 h (omega arith) (omega arith)) | no l ↦ omega arith ])
+no-kind (suc n) h = kind-unknown (suc n) (elim (decLt (suc n) 16) [ yes l ↦ absurd (none-to (suc n) 15 h (omega arith) (omega arith)) | no l ↦ omega arith ])
 
-pub no-step : (m : Image) (r : Request) → NoneTo (r .kind) 14 → done 3 0 m ≡ step m (requested r)
+pub no-step : (m : Image) (r : Request) → NoneTo (r .kind) 15 → done 3 0 m ≡ step m (requested r)
 unfolding requested unnamed
 no-step m r h = number-3 m (requested r) unknown (no-kind (r .kind) h) refl

@@ -1,16 +1,16 @@
 // Starts counted.
 ghost use mathlib.Core.Path.{_≡_};
 ghost use Prim.Native.Nat.{_*_};
-ghost use Rattle.model.specs.Image.{imageOf};
+ghost use Rattle.model.specs.Base.{howMany};
+ghost use Rattle.model.specs.Image.{imageOf, isStart};
 ghost use Rattle.image_laws.specs.Sized.{Sized};
-ghost use Rattle.soundness_laws.specs.Tests.{startsIn};
 ghost use Rattle.image.specs.Layout.{width};
 use image::layout::BITS;
 use image::layout::Word;
 
 pub fn count_starts(im: &[Word], k: usize) -> usize
     requires { ⌜ Sized width k (now im) ⌝ }
-    ensures { λ r. ⌜ r ≡ startsIn (imageOf width k (now (im .entry))) 0 (64 * k) ⌝ }
+    ensures { λ r. ⌜ r ≡ howMany (isStart (imageOf width k (now (im .entry)))) (64 * k) ⌝ }
 {
     // In 32 bits, which the processor counts in half the time of 64.
     let mut n: u32 = 0;

@@ -10,18 +10,19 @@ use lib.Dec.{eqb}
 use lib.ListN.{drop, drop-of-length-le, take}
 use lib.Seq.{drop-drop}
 use borrow.Author.Tests.{not-true, not-false, eq-eqb, ne-eqb}
-use Rattle.model.specs.Base.{nth, all, implies, every, zeroes}
+use Rattle.model.specs.Base.{nth, all, implies, every, zeroes, howMany}
 use Rattle.model.specs.Image.{image, imageOf, granules, word, isStart, links, firstRun, mostCards}
 use Rattle.model.specs.Undamaged.{bare, piece, fill, filled, linksOk, zeroGranule}
 use Rattle.model.proofs.Laws.{false≢, bool-cases, and-split, all-use, all-make, every-use}
-use Rattle.soundness_laws.specs.Tests.{startsIn, linkOk, objectOk, pieceOk, nextRun, LinksInside}
+use Rattle.soundness_laws.specs.Tests.{linkOk, objectOk, pieceOk, nextRun, LinksInside}
 use Rattle.soundness_laws.proofs.Checks.{all-append}
 use Rattle.soundness_laws.proofs.Pieces.{head-use, piece-split, piece-size, tail-at, tail-long, head-is, object-is}
-use Rattle.soundness_laws.proofs.Starts.{notStart, clear, count-le, seen-more, seen-few}
+use Rattle.soundness_laws.proofs.Starts.{notStart, clear, seen-more, seen-few}
 use Rattle.image_laws.specs.Sized.{Sized}
 use Rattle.image_laws.proofs.Parts.{all-first, zero-stretch}
 use Rattle.image_laws.proofs.Lengths.{heap-words}
 use Rattle.image_laws.specs.Digits.{digit, startBit}
+use Rattle.model.proofs.Counts.{howMany-most}
 
 -- ---- the end of the last run, behind a piece from g to g + s
 
@@ -50,9 +51,9 @@ module _ (w k : ℕ) (l : List ℕ) where
     pub inside : g ≤ 64 * k
     pub behind : end ≤ g
     pub enough : 64 * k < g + fuel
-    pub few : seen ≤ startsIn (imageOf w k l) 0 g
-    pub same : filled (imageOf w k l) ≡ (eqb seen (startsIn (imageOf w k l) 0 g) && fillFrom fuel g next (eqb g end))
-    pub so-far : eqb seen (startsIn (imageOf w k l) 0 g) ≡ true → all g (linksOk (imageOf w k l)) ≡ true
+    pub few : seen ≤ howMany (isStart (imageOf w k l)) g
+    pub same : filled (imageOf w k l) ≡ (eqb seen (howMany (isStart (imageOf w k l)) g) && fillFrom fuel g next (eqb g end))
+    pub so-far : eqb seen (howMany (isStart (imageOf w k l)) g) ≡ true → all g (linksOk (imageOf w k l)) ≡ true
 
   abbrev pub heapLines : Bool
   heapLines = filled (imageOf w k l) && all (granules (imageOf w k l)) (linksOk (imageOf w k l))
@@ -75,12 +76,12 @@ module _ (w k : ℕ) (l : List ℕ) where
         ∙ ap (λ b. all g (linksOk (imageOf w k l)) && b) ((rw e at (all-first (s - 1) (λ i. linksOk (imageOf w k l) (g + i)))) ∙ rw (a, add-zero) (and-true _))
 
     pub w-start : (first : ℕ) → first ≡ firstRun (imageOf w k l) → isStart (imageOf w k l) 0 ≡ false → HeapWalk 1 first 0 0
-    unfolding filled all granules startsIn digit imageOf image
+    unfolding filled all granules howMany digit imageOf image
     w-start first e h = record { fuel = 64 * k; inside = omega (arith, z .low); behind = omega arith; enough = omega arith; few = omega arith; same = rw (e, h); so-far = λ _. links-none 0 h }
 
     module _ (g next end seen : ℕ) (v : HeapWalk g next end seen) where
       pub w-small : seen ≤ 64 * mostCards w
-      w-small = omega (arith, v .few, count-le (imageOf w k l) 0 g, v .inside, z .high)
+      w-small = omega (arith, v .few, howMany-most (isStart (imageOf w k l)) g, v .inside, z .high)
 
       module _ (hg : g < 64 * k) where
         -- a link that is neither nil nor a start
@@ -95,7 +96,7 @@ module _ (w k : ℕ) (l : List ℕ) where
           abbrev rest : Bool
           rest = fillFrom (v .fuel - 1) (g + word (imageOf w k l) g 0) (nextRun (imageOf w k l) g next) (not (isStart (imageOf w k l) g))
 
-          here : filled (imageOf w k l) ≡ (eqb seen (startsIn (imageOf w k l) 0 g) && ((t && clear (imageOf w k l) (g + 1) (word (imageOf w k l) g 0 - 1)) && rest))
+          here : filled (imageOf w k l) ≡ (eqb seen (howMany (isStart (imageOf w k l)) g) && ((t && clear (imageOf w k l) (g + 1) (word (imageOf w k l) g 0 - 1)) && rest))
           unfolding pieceOk nextRun bare clear notStart
           here =
               let q : suc (v .fuel - 1) ≡ v .fuel = omega (arith, v .enough) in
@@ -104,7 +105,7 @@ module _ (w k : ℕ) (l : List ℕ) where
               rw (← q, head, fill-more (isStart (imageOf w k l)), piece-split (isStart (imageOf w k l)), tail-at w k l z g hg 0, ← head, drop-drop, s, ← e) at (v .same)
 
           pub w-stop : not t ≡ true → false ≡ heapLines
-          w-stop q = let h : filled (imageOf w k l) ≡ false = here ∙ rw (not-true t q) (and-false (eqb seen (startsIn (imageOf w k l) 0 g))) in rw h
+          w-stop q = let h : filled (imageOf w k l) ≡ false = here ∙ rw (not-true t q) (and-false (eqb seen (howMany (isStart (imageOf w k l)) g))) in rw h
 
           module _ (q : not t ≡ false) where
             -- a piece that is in order is not empty, and lies inside
@@ -124,7 +125,7 @@ module _ (w k : ℕ) (l : List ℕ) where
             pub w-less : (s : ℕ) → s ≡ word (imageOf w k l) g 0 → 64 * k - (g + s) < 64 * k - g
             w-less s es = omega (arith, found)
 
-            seen-is : eqb (seen + startBit (imageOf w k l) g) (startsIn (imageOf w k l) 0 (g + word (imageOf w k l) g 0)) ≡ (eqb seen (startsIn (imageOf w k l) 0 g) && clear (imageOf w k l) (g + 1) (word (imageOf w k l) g 0 - 1))
+            seen-is : eqb (seen + startBit (imageOf w k l) g) (howMany (isStart (imageOf w k l)) (g + word (imageOf w k l) g 0)) ≡ (eqb seen (howMany (isStart (imageOf w k l)) g) && clear (imageOf w k l) (g + 1) (word (imageOf w k l) g 0 - 1))
             seen-is = seen-more (imageOf w k l) g (word (imageOf w k l) g 0) seen (found .0) (v .few)
 
             pub w-more : (s next′ end′ seen′ : ℕ) (b c : Bool) → b ≡ isStart (imageOf w k l) g → c ≡ linksOk (imageOf w k l) g → not c ≡ false → seen′ ≡ seen + digit b → next′ ≡ nextRun (imageOf w k l) g next → s ≡ word (imageOf w k l) g 0 → end′ ≡ cond b end (g + s) → HeapWalk (g + s) next′ end′ seen′
@@ -134,13 +135,13 @@ module _ (w k : ℕ) (l : List ℕ) where
               behind = rw eend (run-behind g s end b (v .behind));
               enough = omega (arith, found, v .enough);
               few = rw (eseen, eb, es) (seen-few (imageOf w k l) g (word (imageOf w k l) g 0) seen (found .0) (v .few));
-              same = rw (eend, run-end g s end b (v .behind) (rw es (found .0)), eseen, eb, es, en, seen-is) (here ∙ rw (not-false t q) (sym (and-assoc (eqb seen (startsIn (imageOf w k l) 0 g)) (clear (imageOf w k l) (g + 1) (word (imageOf w k l) g 0 - 1)) rest)));
+              same = rw (eend, run-end g s end b (v .behind) (rw es (found .0)), eseen, eb, es, en, seen-is) (here ∙ rw (not-false t q) (sym (and-assoc (eqb seen (howMany (isStart (imageOf w k l)) g)) (clear (imageOf w k l) (g + 1) (word (imageOf w k l) g 0 - 1)) rest)));
               so-far = λ h.
                   let p = and-split _ _ (sym seen-is ∙ rw (eseen, eb, es) at h) in
                   rw (es, links-more g (word (imageOf w k l) g 0) (found .0) (p .1), v .so-far (p .0), ← ec, not-false c r);
             }
 
-      pub w-end : 64 * k ≤ g → (n : ℕ) → n ≡ startsIn (imageOf w k l) 0 (64 * k) → (eqb next 0 && eqb seen n) ≡ heapLines
+      pub w-end : 64 * k ≤ g → (n : ℕ) → n ≡ howMany (isStart (imageOf w k l)) (64 * k) → (eqb next 0 && eqb seen n) ≡ heapLines
       unfolding granules imageOf image fill
       w-end h n en =
           let q : suc (v .fuel - 1) ≡ v .fuel = omega (arith, v .enough, v .inside) in

@@ -1,10 +1,12 @@
 pub mod Checks
+pub mod Ones
 pub mod Starts
 pub mod Sets
 pub mod Marks
 pub mod Pieces
 pub mod Heap
 pub mod Packets
+pub mod Counts
 pub mod Hands
 pub mod Lines
 pub mod Small

@@ -1,23 +1,24 @@
--- The lines together: with no cycle those on marks, packets and tracers follow from their words being 0; the ways out of a cycle's lines and of all lines.
+-- The lines together: with no cycle those on marks, counts, packets and tracers follow from their words being 0; the ways out of a cycle's lines and of all lines.
 use Prim.Native.Nat.{ℕ, _+_, _*_, suc, _/_, zero, _%_}
-use Rattle.model.proofs.Laws.{bool-cases, all-make, every-use, every-cons, every-nil, zeroes-use}
+use Rattle.model.proofs.Laws.{all-make, every-use, every-cons, every-nil, zeroes-use, and-split, and-join, same-test}
 use Rattle.model.specs.Base.{nth, all, distinct, bit, every, implies, either, zeroes}
-use Rattle.model.specs.Image.{entries, entriesOf, count, entry, image, imageOf, granules, marked, hand, nextLink, handCard, nextGranule, running, owed, scanned}
-use Rattle.model.specs.Undamaged.{zeroGranule, filled, linksOk, regOk, cardOk, playerOk, generalOk, markOk, entryOk, handOk, handCardOk, tracerOk, heldAt, heldOnce, idleOk, sound}
+use Rattle.model.specs.Image.{entries, entriesOf, count, entry, image, imageOf, granules, marked, hand, nextLink, handCard, nextGranule, running, owed, scanned, cardCount, marksOn}
+use Rattle.model.specs.Undamaged.{zeroGranule, filled, linksOk, regOk, cardOk, playerOk, generalOk, markOk, entryOk, handOk, handCardOk, tracerOk, heldAt, heldOnce, idleOk, sound, countOk}
 use borrow.Author.Tests.{eq-eqb, ne-eqb, le-ltb, not-true, not-false}
 use lib.Dec.{leb}
 use lib.ListN.{take, drop}
-use mathlib.Core.Bool.{Bool, true, false, not, _&&_, and-true, and-assoc, and-false}
-use mathlib.Core.Logic.{inl, inr}
+use mathlib.Core.Bool.{Bool, true, false, not, _&&_, and-true, and-assoc, and-comm, and-false}
 use mathlib.Core.List.{List, []}
-use mathlib.Core.Path.{_≡_, refl, sym, _∙_}
+use mathlib.Core.Path.{_≡_, refl, sym, ap, _∙_}
 use native.Mathlib.Omega.{arith}
-use Rattle.soundness_laws.specs.Tests.{packetOkAt, entryOkAt, layout, cycleLines, notScanned, idle, Packed}
+use Rattle.soundness_laws.specs.Tests.{packetOkAt, entryOkAt, layout, cycleLines, notScanned, still, idle, Packed}
 use Rattle.soundness_laws.proofs.Packets.{entries-more, packet-is, all-packets, packed}
 use Rattle.image_laws.specs.Sized.{Sized}
 use Rattle.image_laws.proofs.Bits.{zero-bit}
-use Rattle.image_laws.proofs.Parts.{zero-stretch}
-use Rattle.image_laws.proofs.Lengths.{general-words}
+use Rattle.image_laws.proofs.Parts.{zero-stretch, all-cong, zeroes-all}
+use Rattle.image_laws.proofs.Lengths.{cards-image, general-words, counts-words}
+use Rattle.model.proofs.Counts.{howMany-none}
+use Rattle.image_laws.specs.Parts.{isZero}
 
 no-entries : (n : ℕ) (ps : List ℕ) → ((i : ℕ) → nth ps i ≡ 0) → entriesOf n ps ≡ []
 unfolding entriesOf
@@ -50,16 +51,33 @@ module _ (w k : ℕ) (l : List ℕ) where
   tracer-idle z t = simp z
 
   module _ (s : Sized w k l) where
+    -- with no mark, counts that are 0 are right
+    idle-counts : zeroes (imageOf w k l .marks) ≡ true → zeroes (imageOf w k l .counts) ≡ all (imageOf w k l .k) (countOk (imageOf w k l))
+    unfolding isZero countOk cardCount marksOn
+    idle-counts e =
+        rw (counts-words s ∙ sym (cards-image w k l)) at (sym (zeroes-all (imageOf w k l .counts)))
+        ∙ all-cong (imageOf w k l .k) _ _ (λ c h. rw (howMany-none _ 64 (λ j q. no-mark e (64 * c + j))))
+
     pub idle-cycle : idle (imageOf w k l) ≡ true → cycleLines (imageOf w k l) ≡ true
-    unfolding idle cycleLines markOk implies entries distinct heldOnce heldAt either
+    unfolding idle still cycleLines markOk implies entries distinct heldOnce heldAt either
     idle-cycle e =
-        let p : (i : ℕ) → nth (imageOf w k l .packets) i ≡ 0 = zeroes-use (imageOf w k l .packets) (every-use _ e 1) in
-        let t : (i : ℕ) → nth (imageOf w k l .tracers) i ≡ 0 = zeroes-use (imageOf w k l .tracers) (every-use _ e 2) in
-        every-cons _ _ (all-make (granules (imageOf w k l)) _ (λ g h. rw (no-mark (every-use _ e 0) g)))
+        let z = every-use _ (every-use _ e 0) in
+        let p : (i : ℕ) → nth (imageOf w k l .packets) i ≡ 0 = zeroes-use (imageOf w k l .packets) (z 1) in
+        let t : (i : ℕ) → nth (imageOf w k l .tracers) i ≡ 0 = zeroes-use (imageOf w k l .tracers) (z 2) in
+        every-cons _ _ (all-make (granules (imageOf w k l)) _ (λ g h. rw (no-mark (z 0) g)))
         (every-cons _ _ (all-packets w k l s ∙ all-make 32 (packetOkAt (imageOf w k l)) (λ i h. packet-idle p s i))
         (every-cons _ _ (rw (no-entries 32 (imageOf w k l .packets) p))
         (every-cons _ _ (all-make 8 _ (λ i h. tracer-idle t i))
-        (every-cons _ _ (all-make 16 _ (λ x h. rw (t (8 * (x / 2) + x % 2)))) every-nil))))
+        (every-cons _ _ (all-make 16 _ (λ x h. rw (t (8 * (x / 2) + x % 2))))
+        (every-cons _ _ (sym (idle-counts (z 0)) ∙ every-use _ e 1) every-nil)))))
+
+    -- and counts that are right are 0
+    still-is : idle (imageOf w k l) ≡ (cycleLines (imageOf w k l) && still (imageOf w k l))
+    unfolding idle still cycleLines
+    still-is =
+        same-test _ _
+        (λ e. and-join _ _ (idle-cycle e) (every-use _ e 0))
+        (λ e. let c = and-split _ _ e in every-cons _ _ (c .1) (every-cons _ _ (idle-counts (every-use _ (c .1) 0) ∙ every-use _ (c .0) 5) every-nil))
 
     -- ---- the ways out of `cycle_ok`
 
@@ -68,10 +86,12 @@ module _ (w k : ℕ) (l : List ℕ) where
       unfolding cycleLines every
       cycle-no h = rw (all-packets w k l s, ← e, not-true t h) (simp and-false)
 
-      pub cycle-yes : (a b c d : Bool) → not t ≡ false → a ≡ all (granules (imageOf w k l)) (markOk (imageOf w k l)) → b ≡ distinct (entries (imageOf w k l)) → c ≡ all 8 (tracerOk (imageOf w k l)) → d ≡ all 16 (heldOnce (imageOf w k l))
-          → (((a && b) && c) && d) ≡ cycleLines (imageOf w k l)
+      pub cycle-yes : (a b c d f : Bool) → not t ≡ false → a ≡ all (granules (imageOf w k l)) (markOk (imageOf w k l)) → b ≡ distinct (entries (imageOf w k l)) → c ≡ all 8 (tracerOk (imageOf w k l)) → d ≡ all 16 (heldOnce (imageOf w k l)) → f ≡ all k (countOk (imageOf w k l))
+          → ((((a && b) && c) && d) && f) ≡ cycleLines (imageOf w k l)
       unfolding cycleLines every
-      cycle-yes a b c d h ea eb ec ed = rw (all-packets w k l s, ← e, not-false t h, ← ea, ← eb, ← ec, ← ed) (simp (and-assoc, and-true))
+      cycle-yes a b c d f h ea eb ec ed ef =
+          let eg : f ≡ all (imageOf w k l .k) (countOk (imageOf w k l)) = ef ∙ ap (λ j. all j (countOk (imageOf w k l))) (sym (cards-image w k l)) in
+          rw (all-packets w k l s, ← e, not-false t h, ← ea, ← eb, ← ec, ← ed, ← eg) (simp (and-assoc, and-true))
 
       pub cycle-packed : not t ≡ false → Packed (imageOf w k l)
       cycle-packed h = packed w k l s (sym e ∙ not-false t h)
@@ -86,12 +106,12 @@ module _ (w k : ℕ) (l : List ℕ) where
     module _ (a : Bool) (ea : a ≡ layout (imageOf w k l)) where
       sound-is : sound (imageOf w k l) ≡ (a && (cycleLines (imageOf w k l) && idleOk (imageOf w k l)))
       unfolding sound every cycleLines layout
-      sound-is = rw ea (simp (and-assoc, and-true))
+      sound-is = rw (ea, and-comm (idleOk (imageOf w k l)) _) (simp (and-assoc, and-true))
 
       module _ (v : ℕ) (ev : v ≡ running (imageOf w k l)) where
         pub sound-still : (i : Bool) → v ≡ 0 → i ≡ idle (imageOf w k l) → (a && i) ≡ sound (imageOf w k l)
-        unfolding idleOk implies idle notScanned
-        sound-still i h q = rw (sound-is, ← ev, eq-eqb v 0 h, ← q) (elim (bool-cases i) [ inl e ↦ rw (e, idle-cycle (sym q ∙ e)) | inr e ↦ rw e (simp and-false) ])
+        unfolding idleOk implies still notScanned
+        sound-still i h q = rw (sound-is, ← ev, eq-eqb v 0 h, q, still-is)
 
         pub sound-cycle : (y : Bool) → (v ≡ 0 → ⊥) → y ≡ cycleLines (imageOf w k l) → (a && y) ≡ sound (imageOf w k l)
         unfolding idleOk implies

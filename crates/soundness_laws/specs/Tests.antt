@@ -2,13 +2,12 @@
 use mathlib.Core.Path.{_≡_}
 use mathlib.Core.Bool.{Bool, true, false, not, cond}
 use mathlib.Core.List.{[], _∷_}
-use Prim.Native.Nat.{ℕ, zero, suc, _+_, _*_, _≤_, _<_}
+use Prim.Native.Nat.{ℕ, suc, _+_, _*_, _≤_, _<_}
 use lib.Dec.{eqb, ltb}
 use lib.ListN.{take, drop}
 use Rattle.model.specs.Base.{all, every, distinct, eachPiece, zeroes}
 use Rattle.model.specs.Image.{Image, granules, word, isStart, marked, links, link, count, entry, entries, scanned}
-use Rattle.image_laws.specs.Digits.{startBit}
-use Rattle.model.specs.Undamaged.{piece, zeroGranule, filled, nilOrStart, linksOk, regOk, playerOk, cardOk, generalOk, markOk, entryOk, packetOk, tracerOk, heldAt, heldOnce}
+use Rattle.model.specs.Undamaged.{piece, zeroGranule, filled, nilOrStart, linksOk, regOk, playerOk, cardOk, generalOk, markOk, entryOk, packetOk, tracerOk, heldAt, heldOnce, countOk}
 use Rattle.model.specs.Steps.{run}
 
 -- the granules of bit word i pass, where a word has w bits
@@ -24,11 +23,6 @@ onward a p i = p (a + i)
 
 module _ (m : Image) where
   -- ---- the heap
-
-  -- how many of the n granules from a on are starts
-  unfoldable pub startsIn : ℕ → ℕ → ℕ
-  startsIn a zero = 0
-  startsIn a (suc n) = startsIn a n + startBit m (a + n)
 
   unfoldable pub linkOk : ℕ → ℕ → Bool
   linkOk g i = nilOrStart m (link m g i)
@@ -68,13 +62,17 @@ module _ (m : Image) where
   layout = every (zeroGranule m ∷ filled m ∷ all (granules m) (linksOk m) ∷ all 256 (regOk m) ∷ all (m .k) (cardOk m) ∷ all 16 (playerOk m) ∷ generalOk m ∷ [])
 
   unfoldable pub cycleLines : Bool
-  cycleLines = every (all (granules m) (markOk m) ∷ eachPiece 32 32 (packetOk m) (m .packets) ∷ distinct (entries m) ∷ all 8 (tracerOk m) ∷ all 16 (heldOnce m) ∷ [])
+  cycleLines = every (all (granules m) (markOk m) ∷ eachPiece 32 32 (packetOk m) (m .packets) ∷ distinct (entries m) ∷ all 8 (tracerOk m) ∷ all 16 (heldOnce m) ∷ all (m .k) (countOk m) ∷ [])
 
   unfoldable pub notScanned : ℕ → Bool
   notScanned p = eqb (scanned m p) 0
 
+  -- what the model asks with no cycle, and the counts
+  unfoldable pub still : Bool
+  still = every (zeroes (m .marks) ∷ zeroes (m .packets) ∷ zeroes (m .tracers) ∷ all 16 notScanned ∷ [])
+
   unfoldable pub idle : Bool
-  idle = every (zeroes (m .marks) ∷ zeroes (m .packets) ∷ zeroes (m .tracers) ∷ all 16 notScanned ∷ [])
+  idle = every (still ∷ zeroes (m .counts) ∷ [])
 
 -- the links of an object that starts at g lie in the heap of k cards
 pub record LinksInside (k : ℕ) (m : Image) (g : ℕ) : Type 0 where

@@ -37,7 +37,7 @@ fn print_lines(steps: &[u8], answers: &[u16], n: usize)
 
 // Runs n records on a fresh store of 16 cards.
 fn run(steps: &[u8], answers: &mut [u16]) {
-    let mut image = [0u16; 5624];
+    let mut image = [0u16; 5640];
     show_store::fresh(&mut image);
     show_store::batch(&mut image, steps, answers);
 }

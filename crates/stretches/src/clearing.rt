@@ -3,11 +3,12 @@ ghost use mathlib.Core.Path.{_≡_};
 ghost use Prim.Native.Nat.{_+_, _*_, _≤_};
 ghost use lib.ListN.{length, replicate};
 ghost use Rattle.model.specs.Base.{zeros};
-ghost use Rattle.model.specs.Image.{imageOf, withHeap, withMarks, withCards, withPackets, withTracers};
+ghost use Rattle.model.specs.Image.{imageOf, withHeap, withMarks, withCards, withCounts, withPackets, withTracers};
 ghost use Rattle.image_laws.specs.Sized.{Sized};
 ghost use Rattle.image_laws.specs.Clearing.{zeroed};
 ghost use Rattle.image.specs.Layout.{width};
 use image::layout::CARDS;
+use image::layout::COUNTS;
 use image::layout::MARKS;
 use image::layout::PACKETS;
 use image::layout::PER_CARD;
@@ -46,6 +47,15 @@ pub fn clear_cards(im: &mut [Word], k: usize)
     ensures { λ _. ⌜ imageOf width k (now (im .exit)) ≡ withCards (imageOf width k (now (im .entry))) (zeros (imageOf width k (now (im .entry)) .cards)) ⌝ }
 {
     let a = CARDS * k;
+    let e = COUNTS * k;
+    clear(&mut im[a..e]);
+}
+
+pub fn clear_counts(im: &mut [Word], k: usize)
+    requires { ⌜ Sized width k (now im) ⌝ }
+    ensures { λ _. ⌜ imageOf width k (now (im .exit)) ≡ withCounts (imageOf width k (now (im .entry))) (zeros (imageOf width k (now (im .entry)) .counts)) ⌝ }
+{
+    let a = COUNTS * k;
     let e = PER_CARD * k;
     clear(&mut im[a..e]);
 }

@@ -8,6 +8,7 @@ ghost use Rattle.image_laws.specs.Sized.{Sized};
 ghost use Rattle.image.specs.Layout.{width};
 use image::layout::BEHIND;
 use image::layout::CARDS;
+use image::layout::COUNTS;
 use image::layout::GENERAL;
 use image::layout::MARKS;
 use image::layout::PACKETS;
@@ -59,6 +60,15 @@ pub fn zero_marks(im: &[Word], k: usize) -> bool
 {
     let a = MARKS * k;
     let e = CARDS * k;
+    zeros(&im[a..e])
+}
+
+pub fn zero_counts(im: &[Word], k: usize) -> bool
+    requires { ⌜ Sized width k (now im) ⌝ }
+    ensures { λ r. ⌜ r ≡ zeroes (imageOf width k (now (im .entry)) .counts) ⌝ }
+{
+    let a = COUNTS * k;
+    let e = PER_CARD * k;
     zeros(&im[a..e])
 }
 

@@ -7,6 +7,7 @@ pub mod Cleaning
 pub mod Beginning
 pub mod Written
 pub mod Mutating
+pub mod Undirty
 pub mod EachKind
 pub mod Kept
 pub mod Numbers

@@ -5,7 +5,7 @@ use mathlib.Core.Bool.{true, false}
 use mathlib.Core.List.{List}
 use Prim.Native.Nat.{ℕ, suc, _+_, _*_, _-_, _/_, _≤_, _<_}
 use lib.ListN.{length, drop}
-use Rattle.model.specs.Base.{nth, bit}
+use Rattle.model.specs.Base.{nth, bit, howMany}
 use Rattle.model.specs.Image.{Image, mostCards}
 use Rattle.model.specs.Undamaged.{fill}
 use Rattle.theory.specs.Cover.{Cover}
@@ -81,11 +81,13 @@ pub record RegsOk (St : ℕ → Type 0) (rs : List ℕ) : Type 0 where
   pub sized : length rs ≡ 256
   pub values : (i : ℕ) → NilOr St (nth rs i)
 
--- "Marks stand only on starts."
-pub record MarksOk (w k : ℕ) (St : ℕ → Type 0) (ms : List ℕ) : Type 0 where
+-- "Marks stand only on starts."; document 02, (ii), "a count that differs from the mark bits makes it damaged": ms the marks, cs the counts
+pub record MarksOk (w k : ℕ) (St : ℕ → Type 0) (ms cs : List ℕ) : Type 0 where
   pub exact : length ms ≡ 64 * k / w
   pub sized : (g : ℕ) → g < 64 * k → g / w < length ms
   pub on-starts : (g : ℕ) → bit w ms g ≡ true → St g
+  pub counts-sized : length cs ≡ k
+  pub counted : (c : ℕ) → c < k → nth cs c ≡ howMany (λ j. bit w ms (64 * c + j)) 64
 
 -- "cycle running 0 or 1, first free run or 0, six zeros"
 pub record GeneralOk (gs : List ℕ) : Type 0 where
@@ -125,7 +127,7 @@ pub record Lines (m : Image) : Type 0 where
   pub heap-ok : HeapOk (m .width) (m .k) (m .heap) (m .starts) (nth (m .general) 1)
   pub regs-ok : RegsOk (Start m) (m .regs)
   pub cards-ok : CardsOk (m .k) (m .cards)
-  pub marks-ok : MarksOk (m .width) (m .k) (Start m) (m .marks)
+  pub marks-ok : MarksOk (m .width) (m .k) (Start m) (m .marks) (m .counts)
   pub packets-ok : PacketsOk (Marked m) (m .packets)
   pub tracers-ok : TracersOk (InHand m) (CardInHand m) (m .tracers)
   pub players-ok : PlayersOk (m .k) (m .players)
@@ -157,6 +159,7 @@ pub record Sizes (m : Image) : Type 0 where
   pub marks-in : (g : ℕ) → bit (m .width) (m .marks) g ≡ true → g < 64 * m .k
   pub marks-room : (g : ℕ) → g < 64 * m .k → g / m .width < length (m .marks)
   pub cards-size : length (m .cards) ≡ m .k
+  pub counts-size : length (m .counts) ≡ m .k
   pub regs-size : length (m .regs) ≡ 256
   pub packets-size : length (m .packets) ≡ 1024
   pub tracers-size : length (m .tracers) ≡ 64

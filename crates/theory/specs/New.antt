@@ -26,6 +26,7 @@ reheaped m hs ss gs = record {
   starts = ss;
   marks = m .marks;
   cards = m .cards;
+  counts = m .counts;
   regs = m .regs;
   packets = m .packets;
   tracers = m .tracers;

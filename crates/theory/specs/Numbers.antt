@@ -1,8 +1,9 @@
 -- The conditions of numbers 9 and 11, written out as propositions: where a step with good fields is refused.
 use mathlib.Core.Path.{_≡_}
 use mathlib.Core.Logic.{_⊎_}
-use Prim.Native.Nat.{ℕ, suc, _+_, _*_, _-_, _≤_, _<_}
-use Rattle.model.specs.Image.{Image, state, count, input, output, hand, handCard, owed, running}
+use mathlib.Core.Bool.{true, false}
+use Prim.Native.Nat.{ℕ, suc, _+_, _*_, _-_, _/_, _≤_, _<_}
+use Rattle.model.specs.Image.{Image, marked, dirty, state, count, input, output, hand, handCard, owed, running}
 use Rattle.model.specs.Records.{Step}
 use Rattle.model.specs.Steps.{step}
 
@@ -41,6 +42,12 @@ pub record GoodTracer (m : Image) (s : Step) : Type 0 where
   pub no-fields : (s .a ≡ 0) × (s .b ≡ 0) × (s .c ≡ 0)
   pub in-cycle : running m ≡ 1
 
+-- undirty of a card that exists, in a cycle
+pub record GoodUndirty (m : Image) (s : Step) : Type 0 where
+  pub card : s .a < m .k
+  pub no-fields : (s .who ≡ 0) × (s .b ≡ 0) × (s .c ≡ 0)
+  pub in-cycle : running m ≡ 1
+
 -- ---- "trace or clean where no line applies"
 
 -- the packet + 1 that is held as x is absent or has no entries
@@ -63,3 +70,9 @@ pub record NoCleanLine (m : Image) (t : ℕ) : Type 0 where
   pub hand-empty : hand m t ≡ 0
   pub no-card : handCard m t ≡ 0
   pub none-dirty : (c : ℕ) → c < m .k → state m c ≡ 1 → ⊥
+
+-- ---- document 02, (ii): "11 if the card isn't dirty or its count isn't 0"
+
+-- card c is not dirty, or a marked object lies on it
+abbrev pub NothingToWipe : Image → ℕ → Type 0
+NothingToWipe m c = (dirty m c ≡ false) ⊎ ((g : ℕ) × (g / 64 ≡ c) × (marked m g ≡ true))

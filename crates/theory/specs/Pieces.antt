@@ -5,7 +5,7 @@ use mathlib.Core.List.{List, [], _∷_}
 use mathlib.Core.Bool.{Bool, true, false, not, cond, _&&_}
 use Prim.Native.Nat.{ℕ, zero, suc, _+_, _*_, _-_, _≤_, _<_}
 use lib.Dec.{leb, ltb}
-use Rattle.model.specs.Base.{nth, all, any, every}
+use Rattle.model.specs.Base.{nth, all, any, every, sumBelow, howMany}
 use Rattle.model.specs.Image.{Image, granules, word, isStart, size}
 use Rattle.theory.specs.Heap.{Bare}
 
@@ -91,11 +91,6 @@ pub record InRun (m : Image) (y : ℕ) : Type 0 where
 
 -- ---- granules counted
 
--- v 0 + v 1 + .. + v (n - 1)
-unfoldable pub sumBelow : (ℕ → ℕ) → ℕ → ℕ
-sumBelow v zero = 0
-sumBelow v (suc n) = sumBelow v n + v n
-
 -- the granules of the objects that are starts in st
 abbrev pub sizes : (ℕ → Bool) → (ℕ → ℕ → ℕ) → ℕ → ℕ
 sizes st rd g = cond (st g) (rd g 0) 0
@@ -125,4 +120,4 @@ inStretch least m y = any (suc y) (λ x. any (granules m) (λ n. every (leb leas
 
 -- the number of granules that lie in one
 unfoldable pub granulesInStretches : ℕ → Image → ℕ
-granulesInStretches least m = sumBelow (λ y. cond (inStretch least m y) 1 0) (granules m)
+granulesInStretches least m = howMany (inStretch least m) (granules m)

@@ -17,13 +17,14 @@ use timing::Goals;
 
 type Part = fn(&mut Goals);
 
-const PARTS: [(&str, Part); 9] = [
+const PARTS: [(&str, Part); 10] = [
     ("judge", judging::judging),
     ("growth", judging::growing),
     ("fresh", judging::making),
     ("steps", stepping::stepping),
     ("finish", stepping::finishing),
     ("due", stepping::asking),
+    ("undirty", stepping::wiping),
     ("pauses", pauses::pauses),
     ("show", |_| halts::longest()),
     ("trees", trees::trees),

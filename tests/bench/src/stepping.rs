@@ -1,12 +1,13 @@
-//! Timings of batches: the steps of a show, a finish, and due.
+//! Timings of batches: the steps of a show, a finish, due, and undirty.
 
 use crate::calls::{Batch, Call};
 use crate::shows::{show, Free, Sizes};
 use crate::timing::{in_turn, Goals, NOT_SLOWER};
 use crate::work::{self, BEGIN, DUE_OF_NONE, FINISH};
 
-/// Dues in a batch: enough to show beside the judging of the image.
+/// Dues in a batch, and stores: enough to show beside the judging of the image.
 const DUES: usize = 100;
+const STORES: usize = 2_000;
 
 pub fn stepping(goals: &mut Goals) {
     println!("steps, a realistic mix      library ns  second ns  library/second  (a step)");
@@ -51,6 +52,27 @@ pub fn asking(goals: &mut Goals) {
     });
     println!("  a due at k = 512 against k = 64: {:.1}", linear[1] / linear[0]);
     goals.at_most("a due at k = 512 against k = 64", linear[1] / linear[0], 10.0);
+}
+
+/// A player fills cues in a cycle: each store with its barrier, and then with an undirty of the card too.
+pub fn wiping(goals: &mut Goals) {
+    println!("undirty                     library ns  second ns  library/second  (a store)");
+    let constant = [64, 512].map(|k| {
+        let image = work::open_cues(k);
+        let timed = |what: &str, is_wiped| {
+            let steps = work::filling(&image, STORES, is_wiped);
+            let runs = [(library::batch as Batch, &image[..]), (reference::batch, &image)];
+            let [ours, theirs] = alone(4, &steps, runs).map(|all| all / STORES as f64);
+            println!("  k = {k:3}, {what:18} {ours:10.0} {theirs:10.0} {:14.2}", ours / theirs);
+            (ours, ours / theirs)
+        };
+        timed("store and barrier", false);
+        let (ours, ratio) = timed("and undirty", true);
+        goals.at_most("undirty against the second implementation", ratio, NOT_SLOWER);
+        ours
+    });
+    println!("  a store with its undirty at k = 512 against k = 64: {:.1}", constant[1] / constant[0]);
+    goals.at_most("a store with its undirty at k = 512 against k = 64", constant[1] / constant[0], 2.0);
 }
 
 pub fn finishing(goals: &mut Goals) {

@@ -1,10 +1,11 @@
 //! Images and lists for the timings, made by the second implementation.
 
 use reference::generate::{list, Pace};
-use reference::image::Store;
+use reference::image::{Image, Store};
+use reference::layout::{card_of, LARGEST_OBJECT, REGISTERS};
 use reference::made::fresh_image;
 use reference::random::Random;
-use reference::record::{Record, CLEAN, SCAN, TRACE};
+use reference::record::{Record, BARRIER, CLEAN, NEW, SCAN, STORE, TRACE, UNDIRTY};
 use reference::steps::step;
 
 pub const BEGIN: [u8; 8] = [9, 0, 0, 0, 0, 0, 0, 0];
@@ -80,7 +81,32 @@ pub fn half_marked(k: usize) -> Vec<u16> {
 pub fn show(k: usize, count: usize) -> (Vec<u16>, Vec<u8>) {
     let mut random = Random::new(11);
     let image = compact_show(k);
-    let pace = Pace { wild: 1, finish: 1, tracers: 30 };
+    let pace = Pace { wild: 1, finish: 1, tracers: 30, undirty: 0 };
     let steps = list(&mut random, &mut image.clone(), count, pace);
     (image, steps)
+}
+
+/// A cycle in which nothing is marked yet: each register of player 0 holds a cue with a link, all of them on cards of their own.
+pub fn open_cues(k: usize) -> Vec<u16> {
+    let size = (64 * k / REGISTERS - 1).min(LARGEST_OBJECT);
+    let news = (0..REGISTERS).flat_map(|r| Record::new(NEW, 0, r as u16, size as u16, 1).to_bytes());
+    after(&fresh_image(k), &news.chain(BEGIN).collect::<Vec<u8>>())
+}
+
+/// So many stores into these cues, each with its barrier and, if wanted, an undirty of the card behind it.
+pub fn filling(image: &[u16], stores: usize, is_wiped: bool) -> Vec<u8> {
+    let cues: Vec<usize> = Image::of(image).expect("a fitting length").registers_of(0).collect();
+    let mut steps = Vec::new();
+    for (register, &cue) in cues.iter().enumerate().cycle().take(stores) {
+        let register = register as u16;
+        steps.extend(Record::new(STORE, 0, register, 0, register).to_bytes());
+        steps.extend(Record::new(BARRIER, 0, 0, 0, 0).to_bytes());
+        if is_wiped {
+            steps.extend(Record::new(UNDIRTY, 0, card_of(cue) as u16, 0, 0).to_bytes());
+        }
+    }
+    let mut answers = vec![0; steps.len() / 4];
+    assert_eq!(reference::batch(&mut image.to_vec(), &steps, &mut answers), 0);
+    assert!(answers.iter().all(|&word| word == 0), "a step that is refused");
+    steps
 }

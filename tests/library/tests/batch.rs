@@ -1,37 +1,40 @@
 //! `batch` of the proved library against the second implementation, memory for memory.
 
 use library::guarded::Guarded;
-use reference::demand::found_no_packet;
-use reference::generate::{batches, list, list_with_dues, spoil, Pace};
-use reference::image::Image;
-use reference::made::{fresh_image, holes, idle, running, starved, STARVED_CARDS};
+use reference::demand::{found_no_packet, Wiped};
+use reference::generate::{batches, list, list_with_dues, list_with_wiping, miscount, spoil, Pace};
+use reference::image::{Image, Store};
+use reference::made::{bare, fresh_image, holes, idle, running, starved, STARVED_CARDS};
 use reference::random::Random;
-use reference::record::{records, Record, DUE, RECORD_BYTES};
-use reference::vectors::{parse, parse_batches, BatchCase, Case, UNTOUCHED};
+use reference::record::{records, Record, DUE, RECORD_BYTES, UNDIRTY};
+use reference::vectors::{parse_batches, parse_older, parse_older_batches, BatchCase, Case, UNTOUCHED};
 use reference::{whole_list, Counts};
 
 const GUARD: u16 = 0xa55a;
 const BYTE_GUARD: u8 = 0x77;
 
-/// What a run has shown: steps, accepted ones by kind, dues that said 1, steps of no kind, numbers, refused batches, and in batches of
-/// one step those that found no packet for an object.
+/// What a run has shown: steps, accepted ones by kind, dues that said 1, steps of no kind, numbers, those of undirty steps, refused
+/// batches, and in batches of one step those that found no packet for an object, and the cards that were wiped.
 #[derive(Debug, Default)]
 struct Seen {
     steps: usize,
-    accepted: [usize; 15],
+    accepted: [usize; 16],
     due: usize,
     unknown_kinds: usize,
     numbers: [usize; 12],
+    undirty_numbers: [usize; 12],
     refused: usize,
     without_packet: usize,
+    wiped: Wiped,
 }
 
 impl Seen {
     fn count(&mut self, steps: &[u8], answers: &[u16]) {
         for (record, answer) in records(steps).zip(answers.chunks(2)) {
             self.steps += 1;
-            self.unknown_kinds += usize::from(!(1..=14).contains(&record.kind));
+            self.unknown_kinds += usize::from(!(1..=15).contains(&record.kind));
             self.numbers[usize::from(answer[0])] += 1;
+            self.undirty_numbers[usize::from(answer[0])] += usize::from(record.kind == UNDIRTY);
             if answer[0] == 0 {
                 self.accepted[usize::from(record.kind)] += 1;
                 self.due += usize::from(record.kind == DUE && answer[1] == 1);
@@ -39,8 +42,16 @@ impl Seen {
         }
     }
 
+    fn every_kind(&self) -> bool {
+        (1..=15).all(|kind| self.accepted[kind] > 0)
+    }
+
     fn every_refusal(&self) -> bool {
         (3..=11).all(|number| self.numbers[number] > 0)
+    }
+
+    fn every_refusal_of_undirty(&self) -> bool {
+        [3, 4, 10, 11].iter().all(|&number| self.undirty_numbers[number] > 0)
     }
 }
 
@@ -69,6 +80,7 @@ fn same(image: &mut [u16], steps: &[u8], answer_words: usize, seen: &mut Seen) {
     if steps.len() == RECORD_BYTES && others[0] == 0 {
         let (got, left) = (Image::of(&got).unwrap(), Image::of(image).unwrap());
         seen.without_packet += usize::from(found_no_packet(steps, got, left));
+        seen.wiped.count(steps, got);
     }
 }
 
@@ -92,8 +104,8 @@ fn assert_worth_running(seen: &Seen, steps: usize) {
     println!("{seen:?}");
     assert!(seen.steps >= steps, "{} steps", seen.steps);
     assert!(seen.numbers[0] * 100 >= seen.steps * 60);
-    assert!((1..=14).all(|kind| seen.accepted[kind] > 0), "a kind was never accepted");
-    assert!(seen.every_refusal(), "a number was never given");
+    assert!(seen.every_kind(), "a kind was never accepted");
+    assert!(seen.every_refusal() && seen.every_refusal_of_undirty(), "a number was never given");
     assert!(seen.unknown_kinds > 0 && seen.refused > 0);
 }
 
@@ -137,7 +149,7 @@ fn from_images_without_packets() {
         // The more cards, the more objects are left that no packet has room for.
         let k = random.from_to(STARVED_CARDS, STARVED_CARDS + 8);
         let mut image = starved(&mut random, k);
-        let pace = Pace { wild: 3, finish: 1, tracers: 40 };
+        let pace = Pace { wild: 3, finish: 1, tracers: 40, undirty: 5 };
         let steps = list(&mut random, &mut image.clone(), 150, pace);
         // One step a batch: what a step finds is seen from the images before and after.
         for step in steps.chunks(RECORD_BYTES) {
@@ -168,7 +180,7 @@ fn from_large_images() {
     }
     println!("{seen:?}");
     assert!(seen.steps == 12_000 && seen.every_refusal());
-    assert!((1..=14).all(|kind| seen.accepted[kind] > 0), "a kind was never accepted");
+    assert!(seen.every_kind(), "a kind was never accepted");
 }
 
 /// Runs of about 8 granules, and a due behind every step that may take from them, or join them.
@@ -182,6 +194,73 @@ fn with_dues_between() {
     }
     assert_worth_running(&seen, 240_000);
     assert!(seen.accepted[14] > 100_000 && seen.due > 20_000 && seen.accepted[14] - seen.due > 20_000, "{seen:?}");
+}
+
+/// Players fill the store in a cycle while undirty steps run after them.
+#[test]
+fn with_wiping() {
+    let mut random = Random::new(110);
+    let mut seen = Seen::default();
+    for round in 0..1_200 {
+        let k = 1 + round % 12;
+        let image = if round % 3 == 0 { fresh_image(k) } else { bare(&mut random, k) };
+        run_drawn(&mut random, image, 300, list_with_wiping, &mut seen);
+    }
+    assert_worth_running(&seen, 360_000);
+    assert!(seen.undirty_numbers[0] > 20_000 && seen.undirty_numbers[11] > 5_000, "{seen:?}");
+    assert!(seen.wiped.all_at_least(100), "{:?}", seen.wiped);
+}
+
+/// The image with a card in another state, if that does no damage and the card exists.
+fn with_state(image: &[u16], card: usize, state: usize) -> Option<Vec<u16>> {
+    let mut image = image.to_vec();
+    let mut store = Store::of(&mut image).unwrap();
+    if card >= store.layout.cards {
+        return Some(image);
+    }
+    store.set_card(card, state);
+    (reference::judge(&image) == 0).then_some(image)
+}
+
+/// Undirty with each field named or not: of cards in each state, in a cycle and outside one, with marked objects on them and without,
+/// and of cards that do not exist.
+#[test]
+fn undirty_in_every_way() {
+    let mut random = Random::new(111);
+    let mut seen = Seen::default();
+    for round in 0..61 {
+        let k = if round == 60 { 512 } else { 1 + round % 5 };
+        let made = [running, bare, idle][round % 3](&mut random, k);
+        let cards = [0, k - 1, k, 65_535];
+        let images = cards.iter().flat_map(|&card| (0..4).map(move |state| (card, state)));
+        for (card, state) in images {
+            let Some(image) = with_state(&made, card, state) else { continue };
+            for (who, b, c) in [(0, 0, 0), (1, 0, 0), (0, 1, 0), (0, 0, 256), (7, 0, 0), (16, 0, 0)] {
+                same(&mut image.clone(), &Record::new(UNDIRTY, who, card as u16, b, c).to_bytes(), 2, &mut seen);
+            }
+        }
+    }
+    println!("{seen:?}");
+    let at_least = |number: usize, least| seen.undirty_numbers[number] >= least;
+    assert!(at_least(0, 40) && at_least(3, 1_000) && at_least(4, 400) && at_least(10, 100) && at_least(11, 100));
+    assert!(seen.wiped.all_at_least(5), "{:?}", seen.wiped);
+}
+
+/// A wrong count stops a batch, in a cycle or not, whatever the steps are.
+#[test]
+fn wrong_counts() {
+    let mut random = Random::new(112);
+    let mut seen = Seen::default();
+    for round in 0..6_000 {
+        let k = 1 + round % 4;
+        let make = [running, bare, idle, |_: &mut Random, k| fresh_image(k)][round % 4];
+        let mut image = make(&mut random, k);
+        let pace = Pace::draw(&mut random);
+        let steps = list(&mut random, &mut image.clone(), 3, pace);
+        miscount(&mut random, &mut image);
+        same(&mut image, &steps, 6, &mut seen);
+    }
+    assert_eq!((seen.refused, seen.steps), (6_000, 0));
 }
 
 #[test]
@@ -210,7 +289,7 @@ fn random_records() {
         let mut image = if round % 2 == 0 { running(&mut random, 2) } else { idle(&mut random, 2) };
         let mut steps: Vec<u8> = (0..100 * RECORD_BYTES).map(|_| random.word() as u8).collect();
         let of_a_kind = steps.chunks_mut(RECORD_BYTES).take(50);
-        of_a_kind.for_each(|record| record[0] = random.from_to(1, 14) as u8);
+        of_a_kind.for_each(|record| record[0] = random.from_to(1, 15) as u8);
         same(&mut image, &steps, 200, &mut seen);
     }
     println!("{seen:?}");
@@ -231,7 +310,7 @@ fn misfits_before_damage() {
 /// "Empty batch: only the image is judged."
 #[test]
 fn empty_batches() {
-    for (mut image, result) in [(fresh_image(1), 0), (vec![0; 1648], 1), (vec![0; 1649], 2)] {
+    for (mut image, result) in [(fresh_image(1), 0), (vec![0; 1649], 1), (vec![0; 1650], 2)] {
         let was = image.clone();
         assert_eq!(library::batch(&mut image, &[], &mut []), result);
         assert_eq!(image, was);
@@ -248,8 +327,8 @@ fn worked_example() {
     assert_eq!(answers, [0, 1, 0, 0, 0, 0]);
 }
 
-/// The library's answers for the cases of a file of vectors, whose results and images must be right.
-fn run_vectors(text: &str) -> Vec<(BatchCase, Vec<u16>)> {
+/// The library's answers for cases of the vectors, whose results and images must be right.
+fn run_vectors(cases: Vec<BatchCase>) -> Vec<(BatchCase, Vec<u16>)> {
     let run = |case: BatchCase| {
         let mut image = case.image.clone();
         let mut answers = vec![UNTOUCHED; case.answers];
@@ -257,24 +336,33 @@ fn run_vectors(text: &str) -> Vec<(BatchCase, Vec<u16>)> {
         assert_eq!((result, &image), (case.result, &case.left), "case {}", case.name);
         (case, answers)
     };
-    parse_batches(text).unwrap().into_iter().map(run).collect()
+    cases.into_iter().map(run).collect()
 }
 
 /// The vectors of document 01: of all that they give, only dues have moved since.
 #[test]
 fn outside_vectors() {
-    let ran = run_vectors(include_str!("../../vectors/batches.txt"));
-    assert_eq!(ran.len(), 120);
-    for (case, answers) in ran {
+    let (cases, left_out) = parse_older_batches(include_str!("../../vectors/batches.txt")).unwrap();
+    assert_eq!((cases.len(), left_out), (115, 5));
+    for (case, answers) in run_vectors(cases) {
         assert!(case.gives_but_for_due(&answers), "case {}", case.name);
     }
 }
 
 #[test]
 fn outside_dues() {
-    let ran = run_vectors(include_str!("../../vectors/document_02/01-i.txt"));
-    assert_eq!(ran.len(), 70);
-    for (case, answers) in ran {
+    let (cases, left_out) = parse_older_batches(include_str!("../../vectors/document_02/01-i.txt")).unwrap();
+    assert_eq!((cases.len(), left_out), (66, 4));
+    for (case, answers) in run_vectors(cases) {
+        assert_eq!(answers, case.given, "case {}", case.name);
+    }
+}
+
+#[test]
+fn outside_wiping() {
+    let cases = parse_batches(include_str!("../../vectors/document_02/02-ii.txt")).unwrap();
+    assert_eq!(cases.len(), 70);
+    for (case, answers) in run_vectors(cases) {
         assert_eq!(answers, case.given, "case {}", case.name);
     }
 }
@@ -284,7 +372,7 @@ fn outside_dues() {
 fn outside_finishes() {
     let text = include_str!("../../vectors/finishes.txt");
     let mut run = 0;
-    for case in parse(text).unwrap() {
+    for case in parse_older(text).unwrap().0 {
         let Case::Finish(case) = case else { continue };
         if case.cover {
             let mut image = case.image.clone();
@@ -304,15 +392,21 @@ fn whole_lists() {
     let mut counts = Counts::default();
     for round in 0..120 {
         let k = 1 + round % 6;
-        let image = if round % 2 == 0 { fresh_image(k) } else { running(&mut random, k) };
+        let image = match round % 3 {
+            0 => fresh_image(k),
+            1 => running(&mut random, k),
+            _ => bare(&mut random, k),
+        };
         let pace = Pace::draw(&mut random);
-        let steps = list(&mut random, &mut image.clone(), 1_000, pace);
+        let draw = if round % 4 == 0 { list_with_wiping } else { list };
+        let steps = draw(&mut random, &mut image.clone(), 1_000, pace);
         let batches = batches(&mut random, &steps);
         counts.add(&whole_list(&image, &batches, library::batch).unwrap());
     }
     println!("{counts:?}");
     assert!((3..=11).all(|number| counts.numbers[number] > 0) && counts.unknown_kinds > 0);
-    assert!((1..=14).all(|kind| counts.accepted[kind] > 0), "a kind was never accepted");
+    assert!((1..=15).all(|kind| counts.accepted[kind] > 0), "a kind was never accepted");
+    assert!(counts.wiped.all_at_least(10), "{:?}", counts.wiped);
     assert!(counts.finishes_that_find > 50 && counts.refused_batches > 0);
     assert!(counts.steps >= 100_000 && counts.garbage_freed > 100 && counts.finishes_that_free > 100);
 }

@@ -3,9 +3,10 @@
 use std::ops::Range;
 
 use library::guarded::Guarded;
-use reference::generate::spoil;
+use reference::generate::{miscount, spoil};
+use reference::image::Store;
 use reference::layout::Layout;
-use reference::made::{fresh_image, idle, loose, running, starved, uncovered_image, STARVED_CARDS};
+use reference::made::{bare, fresh_image, idle, loose, running, starved, uncovered_image, STARVED_CARDS};
 use reference::random::Random;
 
 const GUARD: u16 = 0xa55a;
@@ -33,11 +34,12 @@ impl Verdicts {
 }
 
 fn image(random: &mut Random, k: usize) -> Vec<u16> {
-    match random.below(6) {
+    match random.below(7) {
         0 => fresh_image(k),
         1 => idle(random, k),
         2 => loose(random, k),
         3 => uncovered_image(random, k),
+        4 => bare(random, k),
         _ => running(random, k),
     }
 }
@@ -89,21 +91,25 @@ fn random_words() {
     assert_eq!(verdicts.of, [0, 0, 3_000]);
 }
 
-/// A part of an image, the largest word drawn for it, and whether another word may stand in it undamaged.
+/// A part of an image, the largest word drawn for it, and whether another word may stand in it undamaged. Another mark may where the
+/// counts follow it.
 struct Part {
     what: &'static str,
     places: Range<usize>,
     most: u16,
     is_free: bool,
+    counts_follow: bool,
 }
 
-fn parts(layout: Layout) -> [Part; 9] {
-    let part = |what, from, to, most, is_free| Part { what, places: from..to, most, is_free };
+fn parts(layout: Layout) -> [Part; 11] {
+    let part = |what, from, to, most, is_free| Part { what, places: from..to, most, is_free, counts_follow: false };
     [
         part("heap", 0, layout.start_bits(), 64, true),
         part("start bits", layout.start_bits(), layout.mark_bits(), u16::MAX, false),
-        part("mark bits", layout.mark_bits(), layout.card(0), u16::MAX, true),
-        part("cards", layout.card(0), layout.register(0, 0), 4, true),
+        part("mark bits", layout.mark_bits(), layout.card(0), u16::MAX, false),
+        Part { counts_follow: true, ..part("mark bits, counted", layout.mark_bits(), layout.card(0), u16::MAX, true) },
+        part("cards", layout.card(0), layout.count(0), 4, true),
+        part("counts", layout.count(0), layout.register(0, 0), 64, false),
         part("registers", layout.register(0, 0), layout.packet(0), 64, true),
         part("packets", layout.packet(0), layout.tracer(0), 30, false),
         part("tracers", layout.tracer(0), layout.player(0), 32, true),
@@ -126,6 +132,9 @@ fn random_words_in_each_part() {
             for _ in 0..random.from_to(1, 3) {
                 let place = random.from_to(part.places.start, part.places.end - 1);
                 words[place] = random.from_to(0, usize::from(part.most)) as u16;
+            }
+            if part.counts_follow {
+                Store::of(&mut words).unwrap().count_marks();
             }
             altered += usize::from(verdicts.same(&words) == 0 && words != made);
         }
@@ -150,9 +159,46 @@ fn every_length() {
             verdicts.same(&fresh_image(k));
         }
     }
-    // Lengths that fit are 512 from 1 to 512 cards, all zero and damaged; 11 of them are among the first 3,001 too.
+    // Lengths that fit are 512 from 1 to 512 cards, all zero and damaged; 6 of them are among the first 3,001 too.
     assert_eq!(verdicts.of[0], 512);
     assert!(verdicts.of[2] >= 512 && verdicts.of[1] > 4_000);
+}
+
+/// Each count off by one, with its highest bit set, or the greatest word; and each two that differ swapped, in images of few cards.
+fn wrong_counts(image: &[u16]) -> Vec<Vec<u16>> {
+    let layout = Layout::of_length(image.len()).unwrap();
+    let places: Vec<usize> = (0..layout.cards).map(|c| layout.count(c)).collect();
+    let mut wrong = Vec::new();
+    for (n, &at) in places.iter().enumerate() {
+        for word in [image[at].wrapping_add(1), image[at].wrapping_sub(1), image[at] | 1 << 15, u16::MAX] {
+            let mut altered = image.to_vec();
+            altered[at] = word;
+            wrong.push(altered);
+        }
+        for &other in places[..n].iter().filter(|&&other| layout.cards < 10 && image[other] != image[at]) {
+            let mut altered = image.to_vec();
+            altered.swap(at, other);
+            wrong.push(altered);
+        }
+    }
+    wrong
+}
+
+#[test]
+fn counts_of_every_card() {
+    let mut random = Random::new(47);
+    let mut verdicts = Verdicts::default();
+    for k in [1, 2, 3, 4, 5, 6, 7, 64] {
+        for make in [running, bare, idle, |_: &mut Random, k| fresh_image(k)] {
+            let made = make(&mut random, k);
+            assert_eq!(verdicts.same(&made), 0);
+            for altered in wrong_counts(&made) {
+                assert_eq!(verdicts.same(&altered), 2, "a wrong count, {k} cards");
+            }
+        }
+    }
+    println!("{:?}", verdicts.of);
+    assert!(verdicts.of[0] == 32 && verdicts.of[2] > 1_500);
 }
 
 #[test]
@@ -167,8 +213,11 @@ fn large_images() {
             verdicts.same(&words);
             verdicts.same(&idle(&mut random, k));
         }
+        let mut words = running(&mut random, k);
+        miscount(&mut random, &mut words);
+        assert_eq!(verdicts.same(&words), 2, "a wrong count, {k} cards");
     }
-    assert!(verdicts.sum() == 60 && verdicts.of[0] >= 40 && verdicts.of[2] > 0, "{:?}", verdicts.of);
+    assert!(verdicts.sum() == 65 && verdicts.of[0] >= 40 && verdicts.of[2] > 0, "{:?}", verdicts.of);
 }
 
 #[test]

@@ -45,7 +45,7 @@ fn stored_list_has_every_kind() {
     let steps = std::fs::read(top().join("crates/steprun/stdin")).unwrap();
     let stored = std::fs::read_to_string(top().join("crates/steprun/stdout")).unwrap();
     assert_eq!(stored, lines(&steps));
-    for kind in 1..=14 {
+    for kind in 1..=15 {
         assert!(stored.lines().any(|line| line.contains(&format!(" {kind} 0 "))), "kind {kind} is never accepted");
     }
 }

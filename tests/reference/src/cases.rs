@@ -1,10 +1,10 @@
 //! Random cases for the format of the vectors, with what this implementation does on them.
 
 use crate::finish::finish;
-use crate::generate::{list, list_with_dues, misfit, spoil, Pace};
+use crate::generate::{list, list_with_dues, list_with_wiping, miscount, misfit, spoil, Pace};
 use crate::judge::cover;
 use crate::layout::{PLAYERS, TRACERS};
-use crate::made::{fresh_image, holes, idle, loose, running, starved, uncovered_image, STARVED_CARDS};
+use crate::made::{bare, fresh_image, holes, idle, loose, running, starved, uncovered_image, STARVED_CARDS};
 use crate::random::Random;
 use crate::record::{Record, RECORD_BYTES, SCAN};
 use crate::steps::batch;
@@ -44,47 +44,61 @@ fn batch_case(random: &mut Random, number: u64) -> Case {
 
 /// What it is, the image, the step bytes and the number of answer words.
 fn call(random: &mut Random) -> (&'static str, Vec<u16>, Vec<u8>, usize) {
-    let k = cards(random);
     let what = random.weighted(&[
         (8, "fresh"),
         (12, "evolved"),
-        (40, "made"),
+        (30, "made"),
         (6, "idle"),
         (12, "dues"),
+        (14, "wiping"),
         (1, "starved"),
-        (12, "spoiled"),
+        (8, "spoiled"),
+        (6, "miscounted"),
         (6, "loose"),
         (5, "misfit"),
         (3, "length"),
     ]);
-    let mut image = match what {
+    let mut image = image(random, what);
+    // The list is drawn for the sound image, whatever happens to the image or the lengths then.
+    let steps = steps(random, what, &mut image.clone());
+    let words = steps.len() / RECORD_BYTES * 2;
+    let (steps, answers) = if what == "misfit" { misfit(random, &steps) } else { (steps, words) };
+    match what {
+        "spoiled" => spoil(random, &mut image),
+        "miscounted" => miscount(random, &mut image),
+        "length" => change_length(random, &mut image),
+        _ => {}
+    }
+    (what, image, steps, answers)
+}
+
+fn image(random: &mut Random, what: &str) -> Vec<u16> {
+    let k = cards(random);
+    match what {
         "fresh" => fresh_image(k),
         "evolved" => evolved(random, k),
         "idle" => idle(random, k),
         "dues" => holes(random, k),
+        "wiping" => bare(random, k),
         "starved" => starved(random, STARVED_CARDS),
         "loose" => uncovered_image(random, k),
         _ => running(random, k),
-    };
+    }
+}
+
+fn steps(random: &mut Random, what: &str, image: &mut [u16]) -> Vec<u8> {
     let count = random.from_to(1, 8);
     let mut pace = Pace { wild: 20, ..Pace::draw(random) };
     if what == "loose" {
         // A finish may leave links to freed objects where Cover fails: no list can be drawn past it.
         pace = Pace { wild: 0, finish: 0, ..pace };
     }
-    // The list is drawn for the sound image, whatever happens to the image or the lengths then.
-    let mut sound = image.clone();
-    let mut steps = if what == "starved" { scans(random, &mut sound) } else { Vec::new() };
-    let draw = if what == "dues" { list_with_dues } else { list };
-    steps.extend(draw(random, &mut sound, count, pace));
-    let words = steps.len() / RECORD_BYTES * 2;
-    let (steps, answers) = if what == "misfit" { misfit(random, &steps) } else { (steps, words) };
     match what {
-        "spoiled" => spoil(random, &mut image),
-        "length" => change_length(random, &mut image),
-        _ => {}
+        "dues" => list_with_dues(random, image, count, pace),
+        "wiping" => list_with_wiping(random, image, 2 * count, pace),
+        "starved" => [scans(random, image), list(random, image, count, pace)].concat(),
+        _ => list(random, image, count, pace),
     }
-    (what, image, steps, answers)
 }
 
 /// Some scans, which reach many objects at once.
@@ -109,6 +123,6 @@ fn evolved(random: &mut Random, k: usize) -> Vec<u16> {
 }
 
 fn change_length(random: &mut Random, image: &mut Vec<u16>) {
-    let length = random.pick(&[0, 1, 264, 1383, 1384, 1648, image.len() - 1, image.len() + 1, 1650]);
+    let length = random.pick(&[0, 1, 264, 1383, 1384, 1648, image.len() - 1, image.len() + 1, 1649, 1651]);
     image.resize(length.unwrap_or(0), 0);
 }

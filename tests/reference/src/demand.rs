@@ -6,7 +6,7 @@ use std::collections::{BTreeMap, BTreeSet};
 
 use crate::image::{Image, Object};
 use crate::judge::first_damage;
-use crate::layout::{card_of, GRANULE_WORDS};
+use crate::layout::{card_of, GRANULE_WORDS, PLAYERS};
 use crate::plain::record::is_of_a_player;
 use crate::plain::{Name, Plain, Reference, Value};
 use crate::vectors::UNTOUCHED;
@@ -14,21 +14,22 @@ use crate::vectors::UNTOUCHED;
 /// "records of 8 bytes with no header"
 const RECORD_BYTES: usize = 8;
 
-/// The kinds that the check tells apart, as document 01 numbers them.
+/// The kinds that the check tells apart, as the documents number them.
 const NEW: u8 = 1;
 const LOAD: u8 = 2;
 const BEGIN: u8 = 9;
 const SCAN: u8 = 10;
 const CLEAN: u8 = 12;
 const FINISH: u8 = 13;
+const UNDIRTY: u8 = 15;
 
 /// What a list has shown, so that a test can see that it was worth running.
 #[derive(Clone, Debug, Default, PartialEq, Eq)]
 pub struct Counts {
     pub steps: usize,
     /// Accepted steps by kind.
-    pub accepted: [usize; 15],
-    /// Steps with a kind not 1 to 14.
+    pub accepted: [usize; 16],
+    /// Steps with a kind not 1 to 15.
     pub unknown_kinds: usize,
     /// Steps by number.
     pub numbers: [usize; 12],
@@ -41,6 +42,46 @@ pub struct Counts {
     pub garbage_freed: usize,
     /// Tracers' steps that found no packet for an object.
     pub without_packet: usize,
+    /// Steps of kind 15 by number.
+    pub undirty_numbers: [usize; 12],
+    pub wiped: Wiped,
+}
+
+/// The cards that accepted undirty steps found.
+#[derive(Clone, Debug, Default, PartialEq, Eq)]
+pub struct Wiped {
+    /// In state 1, and in state 3.
+    pub dirty: usize,
+    pub dirty_and_taken: usize,
+    /// In a tracer's hand, and owed by a player.
+    pub in_hand: usize,
+    pub owed: usize,
+}
+
+impl Wiped {
+    /// Counts a record that the image accepts.
+    pub fn count(&mut self, bytes: &[u8], got: Image) {
+        if bytes[0] != UNDIRTY {
+            return;
+        }
+        let card = card_named(bytes);
+        self.dirty += usize::from(got.card(card) == 1);
+        self.dirty_and_taken += usize::from(got.card(card) == 3);
+        self.in_hand += usize::from(got.tracers().any(|t| t.card.is_some_and(|(c, _)| c == card)));
+        self.owed += usize::from((0..PLAYERS).any(|p| got.owed_card(p) == Some(card)));
+    }
+
+    pub fn add(&mut self, other: &Wiped) {
+        self.dirty += other.dirty;
+        self.dirty_and_taken += other.dirty_and_taken;
+        self.in_hand += other.in_hand;
+        self.owed += other.owed;
+    }
+
+    /// Each of the four is seen at least so often.
+    pub fn all_at_least(&self, least: usize) -> bool {
+        [self.dirty, self.dirty_and_taken, self.in_hand, self.owed].iter().all(|&seen| seen >= least)
+    }
 }
 
 impl Counts {
@@ -55,6 +96,8 @@ impl Counts {
         self.finishes_that_find += other.finishes_that_find;
         self.garbage_freed += other.garbage_freed;
         self.without_packet += other.without_packet;
+        self.undirty_numbers.iter_mut().zip(other.undirty_numbers).for_each(|(a, b)| *a += b);
+        self.wiped.add(&other.wiped);
     }
 }
 
@@ -63,10 +106,29 @@ impl Counts {
 pub fn whole_list(
     first_image: &[u16],
     batches: &[(Vec<u8>, usize)],
+    run: impl FnMut(&mut [u16], &[u8], &mut [u16]) -> u16,
+) -> Result<Counts, String> {
+    check_list(true, first_image, batches, run)
+}
+
+/// Only "what players and sweeps may rely on": the images that steps leave are not judged, and an undirty is not held to its rule.
+/// What is told of a wrong step is then what comes of it, and not the step.
+pub fn players_and_sweeps(
+    first_image: &[u16],
+    batches: &[(Vec<u8>, usize)],
+    run: impl FnMut(&mut [u16], &[u8], &mut [u16]) -> u16,
+) -> Result<Counts, String> {
+    check_list(false, first_image, batches, run)
+}
+
+fn check_list(
+    is_strict: bool,
+    first_image: &[u16],
+    batches: &[(Vec<u8>, usize)],
     mut run: impl FnMut(&mut [u16], &[u8], &mut [u16]) -> u16,
 ) -> Result<Counts, String> {
     ensure_undamaged(first_image, "the first image")?;
-    let mut list = List::new(first_image);
+    let mut list = List::new(first_image, is_strict);
     let mut image = first_image.to_vec();
     for (n, (steps, answer_words)) in batches.iter().enumerate() {
         list.run_batch(&mut image, steps, *answer_words, &mut run).map_err(|e| format!("batch {n}: {e}"))?;
@@ -105,6 +167,8 @@ struct List {
     /// What no chain reached at the last accepted begin, until the next accepted finish.
     garbage: Option<Vec<usize>>,
     counts: Counts,
+    /// Each step is looked at, and not only what comes of it.
+    is_strict: bool,
 }
 
 fn ensure(holds: bool, what: impl Fn() -> String) -> Result<(), String> {
@@ -121,9 +185,9 @@ fn ensure_undamaged(image: &[u16], what: &str) -> Result<(), String> {
 }
 
 impl List {
-    fn new(first_image: &[u16]) -> List {
+    fn new(first_image: &[u16], is_strict: bool) -> List {
         let plain = Plain::of(first_image);
-        List { plain, last_new: BTreeMap::new(), garbage: None, counts: Counts::default() }
+        List { plain, last_new: BTreeMap::new(), garbage: None, counts: Counts::default(), is_strict }
     }
 
     /// Runs a batch whole, and beside it one record at a time to get the images between.
@@ -164,7 +228,9 @@ impl List {
         let mut answer = [UNTOUCHED; 2];
         let result = run(&mut left, bytes, &mut answer);
         ensure(result == 0, || say(format!("the result is {result}")))?;
-        ensure_undamaged(&left, "the image left").map_err(say)?;
+        if self.is_strict {
+            ensure_undamaged(&left, "the image left").map_err(say)?;
+        }
         let [number, value] = answer;
         let got = Image::of(image).ok_or("an image of another length")?;
         let left_image = Image::of(&left).ok_or("an image of another length")?;
@@ -177,6 +243,9 @@ impl List {
         ensure(moment.number <= 11, || format!("number {}", moment.number))?;
         ensure(moment.number == 0 || moment.value == 0, || "a refused step has a value".to_string())?;
         check_phase(moment)?;
+        if self.is_strict && moment.kind() == UNDIRTY {
+            check_undirty(moment)?;
+        }
         if moment.is_accepted(FINISH) {
             self.check_finish(moment)?;
         }
@@ -274,11 +343,15 @@ impl List {
         let kind = usize::from(moment.kind());
         self.counts.steps += 1;
         self.counts.numbers[usize::from(moment.number)] += 1;
-        if !(1..=14).contains(&kind) {
+        if moment.kind() == UNDIRTY {
+            self.counts.undirty_numbers[usize::from(moment.number)] += 1;
+        }
+        if !(1..=15).contains(&kind) {
             self.counts.unknown_kinds += 1;
         } else if moment.number == 0 {
             self.counts.accepted[kind] += 1;
             self.counts.without_packet += usize::from(found_no_packet(moment.bytes, moment.got, moment.left));
+            self.counts.wiped.count(moment.bytes, moment.got);
         }
     }
 }
@@ -297,6 +370,32 @@ fn check_phase(moment: &Moment) -> Result<(), String> {
         (true, false) => 0,
     };
     ensure(moment.number == number, || format!("number {}, not {number}", moment.number))
+}
+
+/// An undirty gets 3, 4, 10, 11 or 0, and alters nothing but its card's state. Marked objects are counted here and not read.
+fn check_undirty(moment: &Moment) -> Result<(), String> {
+    let got = moment.got;
+    let card = card_named(moment.bytes);
+    let names_more = moment.bytes[1] != 0 || moment.bytes[4..].iter().any(|&byte| byte != 0);
+    let is_marked_there = |g: usize| got.is_marked(g) && card_of(g) == card;
+    let number = match () {
+        _ if names_more => 3,
+        _ if card >= got.cards() => 4,
+        _ if !got.is_running() => 10,
+        _ if !got.is_dirty(card) || got.starts().any(is_marked_there) => 11,
+        _ => 0,
+    };
+    ensure((moment.number, moment.value) == (number, 0), || format!("number {}, not {number}", moment.number))?;
+    let mut wanted = got.words.to_vec();
+    if number == 0 {
+        wanted[got.layout.card(card)] = if got.card(card) == 1 { 0 } else { 2 };
+    }
+    ensure(moment.left.words == wanted, || "an undirty leaves another image".to_string())
+}
+
+/// The card in a, "low byte first".
+fn card_named(bytes: &[u8]) -> usize {
+    usize::from(bytes[2]) + 256 * usize::from(bytes[3])
 }
 
 /// Whether an accepted step found no packet for an object: its tracer has marked something and then holds no output.

@@ -89,7 +89,8 @@ fn lay_runs(store: &mut Store, runs: &[(usize, usize)]) {
     store.set_first_run(next);
 }
 
-/// "Cards, marks, packets, tracers, scanned and running become 0; owed cards stay."
+/// "Cards, marks, packets, tracers, scanned and running become 0; owed cards stay." With the marks the counts, which lie behind the
+/// cards, become 0.
 fn end_cycle(store: &mut Store) {
     let layout = store.layout;
     store.zero(layout.mark_bits(), layout.register(0, 0));

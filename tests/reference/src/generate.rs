@@ -16,6 +16,9 @@ pub struct Pace {
     pub finish: usize,
     /// Weight of the tracers' steps.
     pub tracers: usize,
+    /// Weight of undirty in a cycle. With 0 a list has none that is drawn for its image, and is drawn as it was before there was such
+    /// a kind, so that timings of it stay comparable.
+    pub undirty: usize,
 }
 
 impl Pace {
@@ -24,6 +27,7 @@ impl Pace {
             wild: random.weighted(&[(1, 0), (3, 8), (1, 30)]),
             finish: random.weighted(&[(1, 1), (2, 4), (1, 15)]),
             tracers: random.weighted(&[(1, 30), (2, 100), (1, 300)]),
+            undirty: random.weighted(&[(1, 5), (2, 20), (1, 60)]),
         }
     }
 }
@@ -50,6 +54,38 @@ pub fn list_with_dues(random: &mut Random, image: &mut [u16], count: usize, pace
         steps.extend(due(random, left).to_bytes());
     }
     steps
+}
+
+/// A list in which players fill the store in a cycle, and undirty steps run after them; one record in ten is drawn as in `list`.
+pub fn list_with_wiping(random: &mut Random, image: &mut [u16], count: usize, pace: Pace) -> Vec<u8> {
+    let mut store = Store::of(image).expect("a fitting length");
+    let mut steps = Vec::with_capacity(RECORD_BYTES * count);
+    for _ in 0..count {
+        let any = random.chance(10);
+        let record = if any { record(random, store.image(), pace) } else { filling(random, store.image()) };
+        step(&mut store, record);
+        steps.extend(record.to_bytes());
+    }
+    steps
+}
+
+/// A record of a player who fills the store, or an undirty; a full store is finished and filled again.
+fn filling(random: &mut Random, image: Image) -> Record {
+    let owing: Vec<usize> = (0..PLAYERS).filter(|&p| image.owed_card(p).is_some()).collect();
+    let paying = 25 * owing.len();
+    let ending = if image.first_run() == 0 { 10 } else { 1 };
+    let kind = match image.is_running() {
+        true => {
+            random.weighted(&[(30, NEW), (35, STORE), (paying, BARRIER), (40, UNDIRTY), (8, DROP), (ending, FINISH)])
+        }
+        false => random.weighted(&[(9, BEGIN), (1, UNDIRTY)]),
+    };
+    match kind {
+        BARRIER => Record::new(BARRIER, random.pick(&owing).unwrap_or(0) as u8, 0, 0, 0),
+        BEGIN | FINISH => Record::new(kind, 0, 0, 0, 0),
+        UNDIRTY => undirty(random, image),
+        _ => of_a_player(random, image, kind),
+    }
 }
 
 /// Cuts a list into batches, as step bytes and number of answer words, with misfits between.
@@ -93,7 +129,8 @@ pub fn spoil(random: &mut Random, image: &mut [u16]) {
         (6, (0, layout.start_bits())),
         (2, (layout.start_bits(), layout.mark_bits())),
         (2, (layout.mark_bits(), layout.card(0))),
-        (1, (layout.card(0), layout.register(0, 0))),
+        (1, (layout.card(0), layout.count(0))),
+        (1, (layout.count(0), layout.register(0, 0))),
         (1, (layout.register(0, 0), layout.packet(0))),
         (3, (layout.packet(0), layout.tracer(0))),
         (4, (layout.tracer(0), layout.player(0))),
@@ -111,9 +148,20 @@ pub fn spoil(random: &mut Random, image: &mut [u16]) {
     image[at] = random.weighted(&[(1, word ^ bit), (1, up), (1, down), (1, small), (1, any), (1, 0)]);
 }
 
+/// Makes the count of one card wrong.
+pub fn miscount(random: &mut Random, image: &mut [u16]) {
+    let layout = Layout::of_length(image.len()).expect("a fitting length");
+    let at = layout.count(random.below(layout.cards));
+    let right = image[at];
+    let (up, down) = (right.wrapping_add(1), right.wrapping_sub(1));
+    let any = random.word();
+    let wrong = random.weighted(&[(3, up), (3, down), (2, 0), (1, u16::MAX), (1, any)]);
+    image[at] = if wrong == right { up } else { wrong };
+}
+
 pub fn record(random: &mut Random, image: Image, pace: Pace) -> Record {
     if random.chance(pace.wild) {
-        return wild(random);
+        return wild(random, pace);
     }
     let mut record = sensible(random, image, pace);
     if random.chance(pace.wild / 2) {
@@ -130,10 +178,11 @@ fn small_field(random: &mut Random) -> u16 {
 }
 
 /// A record drawn without looking at the image.
-fn wild(random: &mut Random) -> Record {
-    let known = random.from_to(1, 14) as u8;
+fn wild(random: &mut Random, pace: Pace) -> Record {
+    let last = if pace.undirty == 0 { DUE } else { UNDIRTY };
+    let known = random.from_to(1, usize::from(last)) as u8;
     let any = random.word() as u8;
-    let unknown = random.weighted(&[(1, 0), (1, 15), (1, 16), (1, 255), (1, any)]);
+    let unknown = random.weighted(&[(1, 0), (1, UNDIRTY), (1, 16), (1, 255), (1, any)]);
     let kind = random.weighted(&[(12, known), (1, unknown)]);
     let on_desk = random.below(PLAYERS) as u8;
     let anyone = random.word() as u8;
@@ -150,7 +199,7 @@ fn zero_unnamed(record: &mut Record) {
     let named = match record.kind {
         BEGIN | FINISH => 0,
         BARRIER | TRACE | CLEAN => 1,
-        DROP | SCAN | DUE => 2,
+        DROP | SCAN | DUE | UNDIRTY => 2,
         READ => 3,
         _ => 4,
     };
@@ -163,7 +212,7 @@ fn zero_unnamed(record: &mut Record) {
     if named < 2 {
         record.a = 0;
     }
-    if named < 1 || record.kind == DUE {
+    if named < 1 || matches!(record.kind, DUE | UNDIRTY) {
         record.who = 0;
     }
 }
@@ -201,6 +250,7 @@ fn sensible(random: &mut Random, image: Image, pace: Pace) -> Record {
         (running * pace.tracers / 3, CLEAN),
         (running * pace.finish, FINISH),
         (4, DUE),
+        (running * pace.undirty, UNDIRTY),
     ]);
     match kind {
         BARRIER => Record::new(BARRIER, random.pick(&owing).unwrap_or(0) as u8, 0, 0, 0),
@@ -208,8 +258,36 @@ fn sensible(random: &mut Random, image: Image, pace: Pace) -> Record {
         SCAN => scan(random, image),
         TRACE | CLEAN => tracer_step(random, image, kind),
         DUE => due(random, image),
+        UNDIRTY => undirty(random, image),
         _ => of_a_player(random, image, kind),
     }
+}
+
+/// An undirty of a card that may be wiped, most often of one that is in hand or owed; of one that is dirty, whatever its count; of
+/// any card; or of the first that does not exist. Where no card may be wiped, mostly a store, which may come to dirty one.
+fn undirty(random: &mut Random, image: Image) -> Record {
+    let dirty: Vec<usize> = (0..image.cards()).filter(|&c| image.is_dirty(c)).collect();
+    let bare: Vec<usize> = dirty.iter().copied().filter(|&c| image.card_count(c) == 0).collect();
+    if bare.is_empty() && random.chance(60) {
+        return of_a_player(random, image, STORE);
+    }
+    let busy: Vec<usize> = bare.iter().copied().filter(|&c| is_in_hand(image, c) || is_owed(image, c)).collect();
+    let any = random.below(image.cards() + 1);
+    let card = match random.below(10) {
+        0..=3 => random.pick(&busy).or(random.pick(&bare)).or(random.pick(&dirty)),
+        4..=6 => random.pick(&bare),
+        7 | 8 => random.pick(&dirty),
+        _ => None,
+    };
+    Record::new(UNDIRTY, 0, card.unwrap_or(any) as u16, 0, 0)
+}
+
+fn is_in_hand(image: Image, c: usize) -> bool {
+    image.tracers().any(|t| t.card.is_some_and(|(card, _)| card == c))
+}
+
+fn is_owed(image: Image, c: usize) -> bool {
+    (0..PLAYERS).any(|p| image.owed_card(p) == Some(c))
 }
 
 /// A due that asks for as many granules as are usable or free, for one more, or for any number.

@@ -1,6 +1,6 @@
 //! Reading and writing the parts of an image of fitting length.
 
-use crate::layout::{Layout, ENTRIES, GRANULE_WORDS, PACKETS, PLAYERS, REGISTERS, TRACERS};
+use crate::layout::{card_of, Layout, CARD_GRANULES, ENTRIES, GRANULE_WORDS, PACKETS, PLAYERS, REGISTERS, TRACERS};
 
 /// An image to read. Nothing is promised of its words.
 #[derive(Clone, Copy)]
@@ -65,6 +65,11 @@ impl<'a> Image<'a> {
 
     pub fn is_dirty(self, c: usize) -> bool {
         matches!(self.card(c), 1 | 3)
+    }
+
+    /// A card's count: the number of marked objects on it, if the image is right.
+    pub fn card_count(self, c: usize) -> usize {
+        self.word(self.layout.count(c))
     }
 
     pub fn register(self, player: usize, r: usize) -> usize {
@@ -191,6 +196,27 @@ impl<'a> Store<'a> {
         self.set_bit(self.layout.mark_bits(), g, on);
     }
 
+    /// Marks an object that is not marked, and counts it on its card: an object counts on its first granule's.
+    pub fn mark(&mut self, g: usize) {
+        assert!(!self.image().is_marked(g));
+        self.set_mark(g, true);
+        let c = card_of(g);
+        self.set_card_count(c, self.image().card_count(c) + 1);
+    }
+
+    /// Makes every count the number of mark bits on its card.
+    pub fn count_marks(&mut self) {
+        for c in 0..self.layout.cards {
+            let on_card = CARD_GRANULES * c..CARD_GRANULES * (c + 1);
+            let count = on_card.filter(|&g| self.image().is_marked(g)).count();
+            self.set_card_count(c, count);
+        }
+    }
+
+    pub fn set_card_count(&mut self, c: usize, count: usize) {
+        self.set(self.layout.count(c), count);
+    }
+
     pub fn set_card(&mut self, c: usize, state: usize) {
         self.set(self.layout.card(c), state);
     }
@@ -199,6 +225,12 @@ impl<'a> Store<'a> {
     pub fn dirty(&mut self, c: usize) {
         let state = self.image().card(c);
         self.set_card(c, state | 1);
+    }
+
+    /// Document 02, (ii): "it turns state 1 to 0 and 3 to 2".
+    pub fn undirty(&mut self, c: usize) {
+        let state = self.image().card(c);
+        self.set_card(c, state - 1);
     }
 
     pub fn set_register(&mut self, player: usize, r: usize, object: usize) {

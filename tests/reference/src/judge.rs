@@ -1,4 +1,4 @@
-//! The lines of "undamaged", each on its own, in the paper's order.
+//! The lines of "undamaged", each on its own, in document 01's order; that on counts, of document 02, follows the marks.
 
 use crate::image::{Image, Object};
 use crate::layout::{card_of, CARD_GRANULES, ENTRIES, GRANULE_WORDS, LARGEST_OBJECT, PACKETS, PLAYERS, TRACERS};
@@ -15,6 +15,8 @@ pub enum Line {
     References,
     /// Marks on starts, entries marked and single, packets held once.
     Marks,
+    /// The count of each card is the number of mark bits on it.
+    Counts,
     /// Objects and cards in hand.
     Hands,
     /// With no cycle, what belongs to one is zero.
@@ -47,11 +49,12 @@ type Holds = fn(Image) -> bool;
 /// The first line that does not hold. A line may read the image as the lines before it allow.
 pub fn first_damage(words: &[u16]) -> Option<Line> {
     let Some(image) = Image::of(words) else { return Some(Line::Length) };
-    let lines: [(Line, Holds); 7] = [
+    let lines: [(Line, Holds); 8] = [
         (Line::Words, words_have_values),
         (Line::Filling, heap_is_filled),
         (Line::References, references_are_sound),
         (Line::Marks, marks_are_sound),
+        (Line::Counts, counts_are_right),
         (Line::Hands, hands_are_sound),
         (Line::Idle, idle_is_zero),
         (Line::Cover, |image| uncovered(image).is_empty()),
@@ -157,6 +160,15 @@ fn marks_are_sound(image: Image) -> bool {
         && image.entered().all(|g| is_marked(image, g))
         && all_differ(image.entered().collect())
         && all_differ(held)
+}
+
+/// Document 02, (ii): "a count that differs from the mark bits makes it damaged".
+fn counts_are_right(image: Image) -> bool {
+    let marks_on = |c: usize| {
+        let granules = CARD_GRANULES * c..CARD_GRANULES * (c + 1);
+        granules.filter(|&g| image.is_marked(g)).count()
+    };
+    (0..image.cards()).all(|c| image.card_count(c) == marks_on(c))
 }
 
 fn hands_are_sound(image: Image) -> bool {

@@ -30,7 +30,7 @@ pub fn card_of(g: usize) -> usize {
     g / CARD_GRANULES
 }
 
-/// The first word of each part. The order is that of the paper; each part begins where the last ends.
+/// The first word of each part. The order is that of the documents; each part begins where the last ends.
 #[derive(Clone, Copy, Debug, PartialEq, Eq)]
 pub struct Layout {
     pub cards: usize,
@@ -61,8 +61,13 @@ impl Layout {
         self.mark_bits() + self.granules() / 16 + c
     }
 
+    /// Document 02, (ii): "one word per card with the number of marked objects on it, placed after the card words".
+    pub fn count(self, c: usize) -> usize {
+        self.card(self.cards) + c
+    }
+
     pub fn register(self, player: usize, r: usize) -> usize {
-        self.card(self.cards) + REGISTERS * player + r
+        self.count(self.cards) + REGISTERS * player + r
     }
 
     pub fn packet(self, n: usize) -> usize {
@@ -91,9 +96,9 @@ mod tests {
     use super::*;
 
     #[test]
-    fn length_is_the_papers_formula() {
+    fn length_is_document_02s_formula() {
         for k in 1..=MOST_CARDS {
-            assert_eq!(length(k), 265 * k + 1384);
+            assert_eq!(length(k), 266 * k + 1384);
             assert_eq!(cards_of_length(length(k)), Some(k));
             assert_eq!(cards_of_length(length(k) + 1), None);
         }

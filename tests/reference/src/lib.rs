@@ -17,7 +17,7 @@ pub mod steps;
 mod tracing;
 pub mod vectors;
 
-pub use demand::{whole_list, Counts};
+pub use demand::{players_and_sweeps, whole_list, Counts};
 pub use finish::finish;
 pub use judge::{cover, judge, undamaged_but_cover};
 pub use layout::{cards_of_length, length};

@@ -38,12 +38,29 @@ pub fn running(random: &mut Random, k: usize) -> Vec<u16> {
     words
 }
 
+/// An undamaged image in a cycle with cards on which nothing is marked, most of them dirty.
+pub fn bare(random: &mut Random, k: usize) -> Vec<u16> {
+    let mut words = vec![0; length(k)];
+    let mut store = Store::of(&mut words).expect("a fitting length");
+    fill(random, &mut store);
+    let bare_percent = random.weighted(&[(1, 30), (2, 60), (1, 100)]);
+    let is_bare: Vec<bool> = (0..k).map(|_| random.chance(bare_percent)).collect();
+    start_cycle(random, &mut store, |g| !is_bare[card_of(g)]);
+    cover_all(random, &mut store);
+    for c in 0..k {
+        if store.image().card_count(c) == 0 && random.chance(70) {
+            store.dirty(c);
+        }
+    }
+    words
+}
+
 /// An image in a cycle that is undamaged but for Cover, which may hold or not.
 pub fn loose(random: &mut Random, k: usize) -> Vec<u16> {
     let mut words = vec![0; length(k)];
     let mut store = Store::of(&mut words).expect("a fitting length");
     fill(random, &mut store);
-    start_cycle(random, &mut store);
+    start_cycle(random, &mut store, |_| true);
     words
 }
 
@@ -178,13 +195,15 @@ fn set_cards(random: &mut Random, store: &mut Store) {
     }
 }
 
-fn start_cycle(random: &mut Random, store: &mut Store) {
+/// A cycle in which some of the objects are marked that may be.
+fn start_cycle(random: &mut Random, store: &mut Store, may_be_marked: impl Fn(usize) -> bool) {
     store.set_running(true);
     set_cards(random, store);
     let starts: Vec<usize> = store.image().starts().collect();
     let marked_percent = random.weighted(&[(1, 0), (4, 40), (3, 70), (1, 100)]);
-    let mut marked: Vec<usize> = starts.into_iter().filter(|_| random.chance(marked_percent)).collect();
-    marked.iter().for_each(|&g| store.set_mark(g, true));
+    let drawn = starts.into_iter().filter(|_| random.chance(marked_percent));
+    let mut marked: Vec<usize> = drawn.filter(|&g| may_be_marked(g)).collect();
+    marked.iter().for_each(|&g| store.mark(g));
     random.shuffle(&mut marked);
     let entered_percent = random.weighted(&[(1, 0), (3, 20), (2, 60), (1, 100)]);
     let used_packets = random.from_to(1, PACKETS);
@@ -264,7 +283,7 @@ fn starve(random: &mut Random, store: &mut Store) {
         enter_all(store, n, &mut objects, count.min(spare));
     }
     let marked_too = random.below(objects.len() / 2);
-    objects[..marked_too].iter().for_each(|&g| store.set_mark(g, true));
+    objects[..marked_too].iter().for_each(|&g| store.mark(g));
 }
 
 /// Puts unmarked objects in registers, where scans reach them. Cover may rest on the registers of
@@ -282,7 +301,7 @@ fn hold_unmarked(random: &mut Random, store: &mut Store) {
 fn enter_all(store: &mut Store, packet: usize, objects: &mut Vec<usize>, count: usize) {
     for _ in 0..count {
         let g = objects.pop().expect("objects enough for the packets");
-        store.set_mark(g, true);
+        store.mark(g);
         store.append(packet, g);
     }
 }
@@ -337,7 +356,7 @@ fn cover_link(random: &mut Random, store: &mut Store, ways: Ways, g: usize, i: u
     match random.weighted(&weights) {
         DirtyCard => store.dirty(card_of(g)),
         Enter => enter(random, store, g, PACKETS),
-        Mark => store.set_mark(target, true),
+        Mark => store.mark(target),
         Nil => store.set_link(g, i, 0),
         Hand => put_in_hand(random, store, g, i),
         Owe => let_owe(random, store, card_of(g), target),

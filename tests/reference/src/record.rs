@@ -18,6 +18,7 @@ pub const TRACE: u8 = 11;
 pub const CLEAN: u8 = 12;
 pub const FINISH: u8 = 13;
 pub const DUE: u8 = 14;
+pub const UNDIRTY: u8 = 15;
 
 #[derive(Clone, Copy, Debug, PartialEq, Eq)]
 pub struct Record {
@@ -68,7 +69,7 @@ impl Record {
         usize::from(self.c)
     }
 
-    /// Number 3: "kind not 1 to 14, or an unnamed field not 0".
+    /// Number 3: "kind not 1 to 14, or an unnamed field not 0"; "kind 15 leaves number 3".
     pub fn is_unknown(self) -> bool {
         let named = match self.kind {
             NEW | LOAD | STORE | HAND | WRITE => [true; 4],
@@ -76,15 +77,16 @@ impl Record {
             DROP | SCAN => [true, true, false, false],
             BARRIER | TRACE | CLEAN => [true, false, false, false],
             BEGIN | FINISH => [false; 4],
-            DUE => [false, true, false, false],
+            DUE | UNDIRTY => [false, true, false, false],
             _ => return true,
         };
         let fields = [u16::from(self.who), self.a, self.b, self.c];
         fields.iter().zip(named).any(|(&field, named)| !named && field != 0)
     }
 
-    /// Number 4: "player or register above 15, tracer above 7". No link, level word or size counts.
-    pub fn is_off_the_desk(self) -> bool {
+    /// Number 4: "player or register above 15, tracer above 7", and "if the card doesn't exist", of a store with so many cards. No
+    /// link, level word or size counts.
+    pub fn is_off_the_desk(self, cards: usize) -> bool {
         let who_beyond = match self.kind {
             NEW..=WRITE => self.who() >= PLAYERS,
             SCAN..=CLEAN => self.who() >= TRACERS,
@@ -98,7 +100,8 @@ impl Record {
             SCAN => (&[self.a()], &[]),
             _ => (&[], &[]),
         };
-        who_beyond || players.iter().any(|&p| p >= PLAYERS) || registers.iter().any(|&r| r >= REGISTERS)
+        let card_beyond = self.kind == UNDIRTY && self.a() >= cards;
+        who_beyond || card_beyond || players.iter().any(|&p| p >= PLAYERS) || registers.iter().any(|&r| r >= REGISTERS)
     }
 
     /// The players who must owe nothing (number 5): the acting one, and in hand the receiving one.

@@ -49,7 +49,7 @@ type Applies = fn(Image, Record) -> bool;
 fn refusal(image: Image, record: Record) -> u16 {
     let conditions: [(u16, Applies); 9] = [
         (3, |_, record| record.is_unknown()),
-        (4, |_, record| record.is_off_the_desk()),
+        (4, |image, record| record.is_off_the_desk(image.cards())),
         (5, is_owing),
         (6, has_no_object),
         (7, is_past_the_end),
@@ -83,7 +83,7 @@ fn has_no_room(image: Image, record: Record) -> bool {
 fn is_wrong_phase(image: Image, record: Record) -> bool {
     match record.kind {
         BEGIN => image.is_running(),
-        SCAN..=FINISH => !image.is_running(),
+        SCAN..=FINISH | UNDIRTY => !image.is_running(),
         _ => false,
     }
 }
@@ -94,6 +94,8 @@ fn has_nothing_to_do(image: Image, record: Record) -> bool {
         SCAN => image.is_scanned(record.a()),
         TRACE => !can_trace(image, record.who()),
         CLEAN => !can_clean(image, record.who()),
+        // "11 if the card isn't dirty or its count isn't 0"
+        UNDIRTY => !image.is_dirty(record.a()) || image.card_count(record.a()) != 0,
         _ => false,
     }
 }
@@ -121,7 +123,8 @@ fn act(store: &mut Store, record: Record) -> u16 {
         CLEAN => clean(store, record.who()),
         FINISH => return finish_store(store),
         DUE => return due(store.image(), record.a()),
-        _ => unreachable!("kinds beyond 14 are refused"),
+        UNDIRTY => store.undirty(record.a()),
+        _ => unreachable!("kinds beyond 15 are refused"),
     }
     0
 }
@@ -176,6 +179,7 @@ fn level_word(image: Image, record: Record) -> usize {
     image.layout.granule(object.start) + 2 + object.links.len() + record.b()
 }
 
+/// "cards become 0, the cycle runs": the marks are 0 outside a cycle, and so are the counts.
 fn begin(store: &mut Store) {
     for c in 0..store.layout.cards {
         store.set_card(c, 0);

@@ -29,7 +29,7 @@ fn reach(store: &mut Store, t: usize, object: usize) {
     if object == 0 || store.image().is_marked(object) {
         return;
     }
-    store.set_mark(object, true);
+    store.mark(object);
     let mut tracer = store.image().tracer(t);
     if tracer.output.is_none_or(|n| store.image().count(n) == ENTRIES) {
         tracer.output = None;

@@ -2,7 +2,8 @@
 
 use std::collections::BTreeMap;
 
-use crate::record::{records, DUE};
+use crate::layout::cards_of_length;
+use crate::record::{records, DUE, UNDIRTY};
 
 /// The word that answer space holds before a call.
 pub const UNTOUCHED: u16 = 0x5aa5;
@@ -66,11 +67,59 @@ pub fn parse(text: &str) -> Result<Vec<Case>, String> {
 
 /// The cases of a text that has none but of `batch`.
 pub fn parse_batches(text: &str) -> Result<Vec<BatchCase>, String> {
+    batches_of(parse(text)?)
+}
+
+fn batches_of(cases: Vec<Case>) -> Result<Vec<BatchCase>, String> {
     let of_batch = |case| match case {
         Case::Batch(case) => Ok(case),
         Case::Finish(case) => Err(format!("{} is no case of batch", case.name)),
     };
-    parse(text)?.into_iter().map(of_batch).collect()
+    cases.into_iter().map(of_batch).collect()
+}
+
+/// The cases of a text that was made before document 02, (ii), when images had no counts: they get them here. Kind 15 was unknown
+/// then, so cases with a record of it are left out; how many they are is given too.
+pub fn parse_older(text: &str) -> Result<(Vec<Case>, usize), String> {
+    let (cases, left_out): (Vec<Case>, Vec<Case>) = parse(text)?.into_iter().partition(|case| !case.has_undirty());
+    Ok((cases.into_iter().map(Case::with_counts).collect(), left_out.len()))
+}
+
+/// The same, of a text that has none but of `batch`.
+pub fn parse_older_batches(text: &str) -> Result<(Vec<BatchCase>, usize), String> {
+    let (cases, left_out) = parse_older(text)?;
+    Ok((batches_of(cases)?, left_out))
+}
+
+impl Case {
+    fn has_undirty(&self) -> bool {
+        matches!(self, Case::Batch(case) if records(&case.steps).any(|record| record.kind == UNDIRTY))
+    }
+
+    fn with_counts(self) -> Case {
+        match self {
+            Case::Batch(case) => {
+                let (image, left) = (with_counts(&case.image), with_counts(&case.left));
+                Case::Batch(BatchCase { image, left, ..case })
+            }
+            Case::Finish(case) => {
+                let (image, left) = (with_counts(&case.image), with_counts(&case.left));
+                Case::Finish(FinishCase { image, left, ..case })
+            }
+        }
+    }
+}
+
+/// An image of document 01, of 265 words a card, with the counts that document 02 puts behind the cards, as the mark bits have them:
+/// 4 words a card, behind 256 of heap and 4 of start bits. An image of any other length is a misfit by both and stays as it is.
+fn with_counts(image: &[u16]) -> Vec<u16> {
+    let Some(k) = (1..=512).find(|k| 265 * k + 1384 == image.len()) else {
+        assert_eq!(cards_of_length(image.len()), None, "a misfit of document 01 fits now");
+        return image.to_vec();
+    };
+    let ones = |words: &[u16]| words.iter().map(|word| word.count_ones() as u16).sum();
+    let counts: Vec<u16> = image[260 * k..264 * k].chunks(4).map(ones).collect();
+    [&image[..265 * k], &counts, &image[265 * k..]].concat()
 }
 
 fn case_of(block: &BTreeMap<&str, &str>) -> Result<Case, String> {

@@ -1,4 +1,4 @@
-//! The cases of the paper, and some that its rules decide.
+//! The documents' cases, and some that their rules decide.
 
 mod common;
 
@@ -19,7 +19,7 @@ fn new_on_one_card() {
 
 #[test]
 fn lengths() {
-    for (words, result) in [(1648, 1), (1649, 0)] {
+    for (words, result) in [(1648, 1), (1649, 1), (1650, 0), (1651, 1)] {
         let mut image = vec![7; words];
         assert_eq!(fresh(&mut image), result);
         assert_eq!(judge(&image), result);
@@ -139,7 +139,7 @@ fn unnamed_fields() {
         f[n] = 1;
         step(kind, f[0] as u8, f[1], f[2], f[3])
     };
-    let unnamed: [(u8, &[usize]); 14] = [
+    let unnamed: [(u8, &[usize]); 15] = [
         (NEW, &[]),
         (LOAD, &[]),
         (STORE, &[]),
@@ -154,6 +154,7 @@ fn unnamed_fields() {
         (CLEAN, &[1, 2, 3]),
         (FINISH, &[0, 1, 2, 3]),
         (DUE, &[0, 2, 3]),
+        (UNDIRTY, &[0, 2, 3]),
     ];
     for (kind, places) in unnamed {
         for n in 0..4 {
@@ -161,13 +162,13 @@ fn unnamed_fields() {
             assert_eq!(number == 3, places.contains(&n), "kind {kind}, field {n}");
         }
     }
-    for kind in (15..=255).chain([0]) {
+    for kind in (16..=255).chain([0]) {
         assert_eq!(last(&[step(kind, 0, 0, 0, 0)]), (3, 0));
     }
 }
 
 #[test]
-fn players_registers_and_tracers_off_the_desk() {
+fn players_registers_tracers_and_cards_off_the_desk() {
     let off = [
         new(16, 0, 1, 0),
         new(0, 16, 1, 0),
@@ -185,6 +186,8 @@ fn players_registers_and_tracers_off_the_desk() {
         scan(0, 16),
         trace(8),
         clean(255),
+        undirty(1),
+        undirty(65535),
     ];
     for record in off {
         assert_eq!(last(&[record]), (4, 0), "{record:?}");
@@ -210,18 +213,19 @@ fn ends_of_links_and_levels() {
 #[test]
 fn phases_and_nothing_to_do() {
     assert_eq!(last(&[begin(), begin()]), (10, 0));
-    for record in [scan(0, 0), trace(0), clean(0), finish()] {
+    for record in [scan(0, 0), trace(0), clean(0), finish(), undirty(0)] {
         assert_eq!(last(&[record]), (10, 0));
     }
     assert_eq!(last(&[begin(), scan(0, 0), scan(1, 0)]), (11, 0));
     assert_eq!(last(&[begin(), trace(0)]), (11, 0));
     assert_eq!(last(&[begin(), clean(0)]), (11, 0));
+    assert_eq!(last(&[begin(), undirty(0)]), (11, 0));
 }
 
 /// What steprun prints for its example, on a store of 16 cards.
 #[test]
 fn the_programs_example() {
-    assert_eq!((length(16), cards_of_length(5624)), (5624, Some(16)));
+    assert_eq!((length(16), cards_of_length(5640)), (5640, Some(16)));
     let answers = run(&mut fresh_image(16), &[new(0, 0, 1, 1), begin(), finish()]);
     assert_eq!(answers, [(0, 1), (0, 0), (0, 0)]);
 }

@@ -3,9 +3,9 @@
 use reference::image::{Store, Tracer};
 use reference::judge::{first_damage, Line};
 use reference::layout::{Layout, GRANULE_WORDS};
-use reference::made::{fresh_image, idle, running, starved, uncovered_image, STARVED_CARDS};
+use reference::made::{bare, fresh_image, idle, running, starved, uncovered_image, STARVED_CARDS};
 use reference::random::Random;
-use reference::{cover, finish, fresh, generate, judge, length, undamaged_but_cover};
+use reference::{batch, cover, finish, fresh, generate, judge, length, undamaged_but_cover};
 
 type Alter = fn(&mut Store);
 
@@ -29,7 +29,7 @@ fn sound() -> Vec<u16> {
     store.set_owed(1, Some(0));
     store.set_scanned(0, true);
     store.set_running(true);
-    [1, 3, 100].iter().for_each(|&g| store.set_mark(g, true));
+    [1, 3, 100].iter().for_each(|&g| store.mark(g));
     store.set_card(0, 2);
     store.append(4, 1);
     store.append(7, 3);
@@ -210,8 +210,97 @@ fn marks() {
     );
     assert_sound(&[
         ("empty packets held", |s| s.set_tracer(0, Tracer { input: Some(0), output: Some(31), ..Tracer::default() })),
-        ("object with no way to it marked", |s| s.set_mark(4, true)),
+        ("object with no way to it marked", |s| s.mark(4)),
     ]);
+}
+
+/// Card 0 has two marked objects, card 1 has one.
+#[test]
+fn counts() {
+    assert_damage(
+        Line::Counts,
+        &[
+            ("counts swapped", |s| {
+                s.set_card_count(0, 1);
+                s.set_card_count(1, 2);
+            }),
+            ("all counted on card 0", |s| {
+                s.set_card_count(0, 3);
+                s.set_card_count(1, 0);
+            }),
+            ("nothing counted", |s| {
+                s.set_card_count(0, 0);
+                s.set_card_count(1, 0);
+            }),
+            ("objects counted, not marked ones", |s| s.set_card_count(0, 4)),
+            ("mark not counted", |s| s.set_mark(8, true)),
+            ("mark gone, still counted", |s| s.set_mark(100, false)),
+            ("the greatest word", |s| s.set_card_count(0, 65535)),
+        ],
+    );
+    assert_sound(&[("another object marked and counted", |s| s.mark(4))]);
+}
+
+/// "An object's card is its first granule divided by 64": the marked object at 60 ends on the next card.
+#[test]
+fn a_count_on_the_first_granules_card() {
+    for (counts, judgement) in [([1, 0], 0), ([0, 1], 2), ([1, 1], 2), ([0, 0], 2)] {
+        let mut image = fresh_image(2);
+        let mut store = Store::of(&mut image).unwrap();
+        store.set_object(60, 10, 0);
+        store.set_run(1, 59, 70);
+        store.set_run(70, 58, 0);
+        store.set_running(true);
+        store.set_mark(60, true);
+        (0..2).for_each(|c| store.set_card_count(c, counts[c]));
+        assert_eq!(judge(&image), judgement, "{counts:?}");
+    }
+}
+
+/// The count of each card made wrong, and each two that differ swapped; a batch refuses such an image and leaves it alone.
+fn assert_counts_matter(image: &[u16]) {
+    let layout = Layout::of_length(image.len()).unwrap();
+    let assert_damaged = |image: Vec<u16>| {
+        assert_eq!(first_damage(&image), Some(Line::Counts));
+        assert!(!undamaged_but_cover(&image));
+        let (mut left, mut answers) = (image.clone(), [7, 7]);
+        assert_eq!(batch(&mut left, &[13, 0, 0, 0, 0, 0, 0, 0], &mut answers), 2);
+        assert!(left == image && answers == [7, 7]);
+    };
+    for at in (0..layout.cards).map(|c| layout.count(c)) {
+        for wrong in [image[at].wrapping_add(1), image[at].wrapping_sub(1), image[at] | 1 << 15, 65535] {
+            let mut altered = image.to_vec();
+            altered[at] = wrong;
+            assert_damaged(altered);
+        }
+        for other in (0..layout.cards).map(|c| layout.count(c)).filter(|&other| image[other] != image[at]) {
+            let mut altered = image.to_vec();
+            altered.swap(at, other);
+            assert_damaged(altered);
+        }
+    }
+}
+
+#[test]
+fn counts_of_every_card() {
+    let mut random = Random::new(13);
+    for k in 1..=6 {
+        assert_counts_matter(&fresh_image(k));
+        for make in [running, bare, idle] {
+            let image = make(&mut random, k);
+            assert_eq!(judge(&image), 0);
+            assert_counts_matter(&image);
+        }
+    }
+    let mut large = running(&mut random, 512);
+    for c in [0, 1, 255, 256, 511] {
+        let mut store = Store::of(&mut large).unwrap();
+        let right = store.image().card_count(c);
+        store.set_card_count(c, right + 1);
+        assert_eq!(judge(&large), 2, "card {c} of 512");
+        Store::of(&mut large).unwrap().set_card_count(c, right);
+        assert_eq!(judge(&large), 0);
+    }
 }
 
 fn holding(s: &mut Store, hand: Option<(usize, usize)>, card: Option<(usize, usize)>) {
@@ -228,7 +317,7 @@ fn hands() {
             ("object in hand past the end", |s| holding(s, Some((128, 0)), None)),
             ("next link is the number of links", |s| holding(s, Some((1, 2)), None)),
             ("object in hand without links", |s| {
-                s.set_mark(8, true);
+                s.mark(8);
                 holding(s, Some((8, 0)), None);
             }),
             ("card in hand clean", |s| holding(s, None, Some((1, 64)))),
@@ -263,7 +352,7 @@ fn idle_images() {
     finish(&mut idle);
     assert_eq!(judge(&idle), 0);
     let alterations: [(&str, Alter); 6] = [
-        ("a mark", |s| s.set_mark(1, true)),
+        ("a mark", |s| s.mark(1)),
         ("input held", |s| s.set(s.layout.tracer(7), 1)),
         ("output held", |s| s.set(s.layout.tracer(0) + 1, 32)),
         ("card in hand", |s| {
@@ -272,7 +361,7 @@ fn idle_images() {
         }),
         ("a player scanned", |s| s.set_scanned(15, true)),
         ("a packet filled", |s| {
-            s.set_mark(1, true);
+            s.mark(1);
             s.append(0, 1);
         }),
     ];
@@ -340,7 +429,7 @@ fn cover_line() {
         }),
         ("by the mark", |s| {
             s.pop(4);
-            s.set_mark(4, true);
+            s.mark(4);
         }),
         ("by the dirty card instead of the hand", |s| {
             s.set_card(1, 1);
@@ -368,7 +457,7 @@ fn finish_goes_by_object_where_cover_goes_by_link() {
 #[test]
 fn wrong_lengths() {
     for n in 0..3000 {
-        let fits = n >= 1649 && (n - 1384) % 265 == 0;
+        let fits = n >= 1650 && (n - 1384) % 266 == 0;
         let mut image = vec![9; n];
         assert_eq!(judge(&image), if fits { 2 } else { 1 }, "{n} words");
         assert_eq!(fresh(&mut image), u16::from(!fits), "{n} words");
@@ -388,6 +477,7 @@ fn made_images_are_what_they_are_said_to_be() {
     for n in 0..400 {
         let k = random.from_to(1, 6);
         assert_eq!(judge(&running(&mut random, k)), 0);
+        assert_eq!(judge(&bare(&mut random, k)), 0);
         assert_eq!(judge(&idle(&mut random, k)), 0);
         assert_eq!(first_damage(&uncovered_image(&mut random, k)), Some(Line::Cover));
         if n % 20 == 0 {
@@ -412,6 +502,7 @@ fn spoiled_images() {
         assert_eq!(judge(&image), 2);
     }
     println!("{lines:?}");
-    let expected = [Line::Words, Line::Filling, Line::References, Line::Marks, Line::Hands, Line::Idle, Line::Cover];
+    use Line::*;
+    let expected = [Words, Filling, References, Marks, Counts, Hands, Idle, Cover];
     assert!(expected.iter().all(|&line| lines[&Some(line)] > 3) && lines[&None] > 100, "{lines:?}");
 }

@@ -1,29 +1,15 @@
 //! The cases that `draw` prints: they parse, repeat by seed and show every kind and number.
 
+mod common;
+
 use std::collections::BTreeSet;
 
-use reference::cases::case;
+use common::*;
 use reference::image::Image;
+use reference::judge::{first_damage, Line};
 use reference::layout::card_of;
-use reference::random::Random;
-use reference::record::records;
 use reference::undamaged_but_cover;
-use reference::vectors::{parse, print, BatchCase, Case, FinishCase};
-
-fn draw(seed: u64, count: u64) -> Vec<Case> {
-    let mut random = Random::new(seed);
-    (0..count).map(|number| case(&mut random, number)).collect()
-}
-
-fn batch_cases(cases: &[Case]) -> Vec<&BatchCase> {
-    let mut batches = Vec::new();
-    for case in cases {
-        if let Case::Batch(batch) = case {
-            batches.push(batch);
-        }
-    }
-    batches
-}
+use reference::vectors::{parse, print, Case, FinishCase};
 
 fn finish_cases(cases: &[Case]) -> Vec<&FinishCase> {
     let mut finishes = Vec::new();
@@ -56,9 +42,12 @@ fn batches_show_every_kind_and_number() {
         .flat_map(|case| records(&case.steps).zip(case.given.chunks(2)))
         .map(|(record, answer)| (record.kind, answer[0]))
         .collect();
-    assert!((1..=14).all(|kind| shown.contains(&(kind, 0))), "{shown:?}");
+    assert!((1..=15).all(|kind| shown.contains(&(kind, 0))), "{shown:?}");
     assert!((3..=11).all(|number| shown.iter().any(|&(_, n)| n == number)), "{shown:?}");
-    assert!(shown.iter().any(|&(kind, _)| !(1..=14).contains(&kind)));
+    assert!([3, 4, 10, 11].iter().all(|&number| shown.contains(&(UNDIRTY, number))), "{shown:?}");
+    assert!(shown.iter().any(|&(kind, _)| !(1..=15).contains(&kind)));
+    let miscounted = batches.iter().filter(|case| first_damage(&case.image) == Some(Line::Counts));
+    assert!(miscounted.count() >= 50);
 }
 
 /// Newly marked, entered nowhere, on a card that became dirty: there was no packet for it.

@@ -3,12 +3,10 @@
 mod common;
 
 use common::*;
-use reference::cases::case;
 use reference::image::{Image, Store};
 use reference::made::fresh_image;
-use reference::random::Random;
 use reference::steps::step as run_step;
-use reference::vectors::{parse_batches, BatchCase, Case};
+use reference::vectors::{parse_older_batches, BatchCase};
 
 /// What due says of an image.
 fn due_of(image: &[u16], wanted: u16) -> (u16, u16) {
@@ -87,41 +85,26 @@ fn counted(image: Image, least: usize) -> usize {
     image.runs().map(|(_, length)| length).filter(|&length| least <= length).sum()
 }
 
-fn assert_told(cases: impl Iterator<Item = BatchCase>, at_least: usize) {
+fn assert_told(cases: &[&BatchCase], at_least: usize) {
     let mut all = [0; 4];
-    for case in cases.filter(|case| case.result == 0) {
-        all.iter_mut().zip(told(&case)).for_each(|(all, told)| *all += told);
+    for case in cases.iter().filter(|case| case.result == 0) {
+        all.iter_mut().zip(told(case)).for_each(|(all, told)| *all += told);
     }
     assert!(all.iter().all(|&told| told >= at_least), "{all:?}");
 }
 
 #[test]
 fn the_vectors_tell_wrong_rules() {
-    let cases = parse_batches(include_str!("../../vectors/document_02/01-i.txt")).unwrap();
-    assert_told(cases.into_iter(), 5);
+    let (cases, _) = parse_older_batches(include_str!("../../vectors/document_02/01-i.txt")).unwrap();
+    assert_told(&cases.iter().collect::<Vec<_>>(), 5);
 }
 
 #[test]
 fn drawn_cases_tell_wrong_rules() {
-    let mut random = Random::new(14);
-    assert_told((0..2000).filter_map(|number| batch_case(&mut random, number)), 50);
+    assert_told(&batch_cases(&draw(14, 2000)), 50);
 }
 
-fn batch_case(random: &mut Random, number: u64) -> Option<BatchCase> {
-    if let Case::Batch(case) = case(random, number) {
-        return Some(case);
-    }
-    None
-}
-
-/// The cases that the gate has the checker compute, by the seed and the count in `tests/run`, ten at a time as `tests/definitions`
-/// draws them.
 #[test]
 fn the_cases_of_the_gate_tell_wrong_rules() {
-    let words = include_str!("../../run").lines().find_map(|line| line.strip_prefix("./definitions "));
-    let (seed, count) = words.and_then(|words| words.split_once(' ')).expect("a seed and a count");
-    let (seed, count): (u64, u64) = (seed.parse().unwrap(), count.parse().unwrap());
-    let tens = (0..count).step_by(10).map(|from| (Random::new(seed + from), count.min(from + 10) - from));
-    let cases = tens.flat_map(|(mut random, some)| (0..some).filter_map(move |number| batch_case(&mut random, number)));
-    assert_told(cases, 1);
+    assert_told(&batch_cases(&cases_of_the_gate()), 1);
 }

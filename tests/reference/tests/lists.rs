@@ -1,7 +1,7 @@
 //! Long random lists of steps against the whole-list check.
 
-use reference::generate::{batches, list, Pace};
-use reference::made::{fresh_image, idle, running, starved, STARVED_CARDS};
+use reference::generate::{batches, list, list_with_wiping, Pace};
+use reference::made::{bare, fresh_image, idle, running, starved, STARVED_CARDS};
 use reference::random::Random;
 use reference::{batch, judge, whole_list, Counts};
 
@@ -12,21 +12,27 @@ fn run(random: &mut Random, image: Vec<u16>, count: usize) -> Counts {
 }
 
 fn run_at(random: &mut Random, image: Vec<u16>, count: usize, pace: Pace) -> Counts {
-    assert_eq!(judge(&image), 0);
     let steps = list(random, &mut image.clone(), count, pace);
-    let batches = batches(random, &steps);
-    whole_list(&image, &batches, batch).unwrap()
+    check(random, &image, &steps)
+}
+
+fn check(random: &mut Random, image: &[u16], steps: &[u8]) -> Counts {
+    assert_eq!(judge(image), 0);
+    let batches = batches(random, steps);
+    whole_list(image, &batches, batch).unwrap()
 }
 
 fn assert_worth_running(counts: &Counts, steps: usize) {
     println!("{counts:?}");
     assert!(counts.steps >= steps);
     assert!(counts.numbers[0] * 100 >= counts.steps * 60, "accepted {} of {}", counts.numbers[0], counts.steps);
-    assert!((1..=14).all(|kind| counts.accepted[kind] > 0), "a kind was never accepted");
+    assert!((1..=15).all(|kind| counts.accepted[kind] > 0), "a kind was never accepted");
     assert!((3..=11).all(|number| counts.numbers[number] > 0), "a number was never given");
     assert!(counts.unknown_kinds > 0 && counts.refused_batches > 0);
     assert!(counts.finishes_that_free > 100 && counts.finishes_that_keep > 100);
     assert!(counts.finishes_that_find > 50 && counts.garbage_freed > 100);
+    assert!([3, 4, 10, 11].iter().all(|&number| counts.undirty_numbers[number] > 0), "{:?}", counts.undirty_numbers);
+    assert!(counts.wiped.all_at_least(10), "{:?}", counts.wiped);
 }
 
 #[test]
@@ -68,10 +74,10 @@ fn from_images_with_no_cycle() {
 fn from_images_without_packets() {
     let mut random = Random::new(4);
     let mut counts = Counts::default();
-    for _ in 0..100 {
+    for _ in 0..150 {
         let k = random.from_to(STARVED_CARDS, STARVED_CARDS + 8);
         let image = starved(&mut random, k);
-        let pace = Pace { wild: 3, finish: 1, tracers: 40 };
+        let pace = Pace { wild: 3, finish: 1, tracers: 40, undirty: 5 };
         counts.add(&run_at(&mut random, image, 120, pace));
     }
     println!("{counts:?}");
@@ -88,4 +94,20 @@ fn from_large_images() {
     }
     println!("{counts:?}");
     assert!(counts.numbers[0] * 100 >= counts.steps * 60);
+}
+
+/// Players fill the store in a cycle while undirty steps run after them; among these are cards in hand and owed ones.
+#[test]
+fn with_wiping() {
+    let mut random = Random::new(6);
+    let mut counts = Counts::default();
+    for round in 0..400 {
+        let k = random.from_to(1, 6);
+        let image = if round % 3 == 0 { fresh_image(k) } else { bare(&mut random, k) };
+        let pace = Pace::draw(&mut random);
+        let steps = list_with_wiping(&mut random, &mut image.clone(), 300, pace);
+        counts.add(&check(&mut random, &image, &steps));
+    }
+    assert_worth_running(&counts, 120_000);
+    assert!(counts.wiped.all_at_least(1_000) && counts.undirty_numbers[11] > 1_000, "{counts:?}");
 }

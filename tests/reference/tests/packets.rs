@@ -20,7 +20,7 @@ fn crowded(counts: [usize; PACKETS], tracers: &[(usize, Tracer)]) -> Vec<u16> {
     let mut g = 1;
     for (n, count) in counts.into_iter().enumerate() {
         for _ in 0..count {
-            store.set_mark(g, true);
+            store.mark(g);
             store.append(n, g);
             g += 1;
         }

@@ -1,10 +1,11 @@
 //! The outside vectors against the reference.
 
-use reference::vectors::{parse, parse_batches, print, BatchCase, Case, UNTOUCHED};
+use reference::vectors::{parse, parse_batches, parse_older, parse_older_batches, print, BatchCase, Case, UNTOUCHED};
 use reference::{batch, cover, finish, undamaged_but_cover};
 
 const BATCHES: &str = include_str!("../../vectors/batches.txt");
 const DUES: &str = include_str!("../../vectors/document_02/01-i.txt");
+const WIPING: &str = include_str!("../../vectors/document_02/02-ii.txt");
 const FINISHES: &str = include_str!("../../vectors/finishes.txt");
 
 /// The reference's answers and image for a case, whose result must be right.
@@ -22,8 +23,8 @@ fn run(case: &BatchCase) -> (Vec<u16>, Vec<u16>) {
 /// The vectors of document 01: of all that they give, only dues have moved since.
 #[test]
 fn batches() {
-    let cases = parse_batches(BATCHES).unwrap();
-    assert_eq!(cases.len(), 120);
+    let (cases, left_out) = parse_older_batches(BATCHES).unwrap();
+    assert_eq!((cases.len(), left_out), (115, 5));
     let mut moved = 0;
     for case in cases {
         let (answers, image) = run(&case);
@@ -34,21 +35,31 @@ fn batches() {
     assert_eq!(moved, 6, "cases in which a due has moved");
 }
 
+/// Image and answers are those of the case, to the last word.
+fn assert_as_given(case: &BatchCase) {
+    let (answers, image) = run(case);
+    assert!(answers == case.given, "answers of {}: {answers:x?}, not {:x?}", case.name, case.given);
+    assert!(image == case.left, "image of {}", case.name);
+}
+
 #[test]
 fn dues() {
-    let cases = parse_batches(DUES).unwrap();
+    let (cases, left_out) = parse_older_batches(DUES).unwrap();
+    assert_eq!((cases.len(), left_out), (66, 4));
+    cases.iter().for_each(assert_as_given);
+}
+
+#[test]
+fn wiping() {
+    let cases = parse_batches(WIPING).unwrap();
     assert_eq!(cases.len(), 70);
-    for case in cases {
-        let (answers, image) = run(&case);
-        assert!(answers == case.given, "answers of {}: {answers:x?}, not {:x?}", case.name, case.given);
-        assert!(image == case.left, "image of {}", case.name);
-    }
+    cases.iter().for_each(assert_as_given);
 }
 
 #[test]
 fn finishes() {
-    let cases = parse(FINISHES).unwrap();
-    assert_eq!(cases.len(), 60);
+    let (cases, left_out) = parse_older(FINISHES).unwrap();
+    assert_eq!((cases.len(), left_out), (60, 0));
     for case in cases {
         let Case::Finish(case) = case else { panic!("a case of finish") };
         assert!(undamaged_but_cover(&case.image), "{}", case.name);
@@ -62,7 +73,7 @@ fn finishes() {
 /// A finish that follows every marked object's links (as if all cards were dirty) differs on some vector.
 #[test]
 fn a_finish_that_follows_all_is_caught() {
-    let caught = parse(FINISHES).unwrap().into_iter().any(|case| {
+    let caught = parse_older(FINISHES).unwrap().0.into_iter().any(|case| {
         let Case::Finish(mut case) = case else { panic!("a case of finish") };
         let cards = reference::layout::Layout::of_length(case.image.len()).unwrap();
         case.image[cards.card(0)..cards.card(cards.cards)].fill(1);
@@ -73,7 +84,7 @@ fn a_finish_that_follows_all_is_caught() {
 
 #[test]
 fn printing_and_parsing_agree() {
-    for text in [BATCHES, DUES, FINISHES] {
+    for text in [BATCHES, DUES, WIPING, FINISHES] {
         let cases = parse(text).unwrap();
         let printed: String = cases.iter().map(print).collect();
         assert_eq!(parse(&printed).unwrap(), cases);

@@ -2,56 +2,14 @@
 
 mod common;
 
+use common::altered::*;
 use common::*;
 use reference::generate::{batches, list, Pace};
 use reference::image::{Image, Store};
-use reference::made::{fresh_image, idle, running};
+use reference::made::{bare, fresh_image, idle, running};
 use reference::random::Random;
-use reference::{batch, judge, whole_list};
-
-/// What a step got and has done; a wrong implementation changes image or answer.
-struct Done<'a> {
-    got: &'a [u16],
-    record: Record,
-    image: &'a mut [u16],
-    answer: &'a mut [u16],
-}
-
-impl Done<'_> {
-    fn is_accepted(&self, kind: u8) -> bool {
-        self.record.kind == kind && self.answer[0] == 0
-    }
-
-    fn store(&mut self) -> Store<'_> {
-        Store::of(self.image).unwrap()
-    }
-
-    fn got(&self) -> Image<'_> {
-        Image::of(self.got).unwrap()
-    }
-
-    /// Answers a number and leaves the image as it was.
-    fn refuse(&mut self, number: u16) {
-        self.image.copy_from_slice(self.got);
-        self.answer.copy_from_slice(&[number, 0]);
-    }
-}
-
-/// A batch that runs one record after the other and lets `alter` change what each has done.
-fn altered_batch(image: &mut [u16], steps: &[u8], answers: &mut [u16], alter: &impl Fn(&mut Done)) -> u16 {
-    if !steps.len().is_multiple_of(8) || answers.len() * 4 != steps.len() || judge(image) != 0 {
-        return batch(image, steps, answers);
-    }
-    for (bytes, answer) in steps.chunks(8).zip(answers.chunks_mut(2)) {
-        let got = image.to_vec();
-        if batch(image, bytes, answer) != 0 {
-            // An earlier step has damaged the image; the check has the images between.
-            return 2;
-        }
-        alter(&mut Done { got: &got, record: Record::from_bytes(bytes), image, answer });
-    }
-    0
-}
+use reference::steps::step as run_step;
+use reference::{batch, players_and_sweeps, whole_list};
 
 /// Some of the random lists must be found wrong, all for one of the reasons.
 fn assert_caught(reasons: &[&str], alter: impl Fn(&mut Done)) {
@@ -61,11 +19,12 @@ fn assert_caught(reasons: &[&str], alter: impl Fn(&mut Done)) {
         let k = random.from_to(1, 3);
         let make = random.weighted(&[
             (1, running as fn(&mut Random, usize) -> Vec<u16>),
+            (1, bare),
             (1, idle),
             (1, |_, k| fresh_image(k)),
         ]);
         let image = make(&mut random, k);
-        let pace = Pace { wild: 10, finish: 6, tracers: 60 };
+        let pace = Pace { wild: 10, finish: 6, tracers: 60, undirty: 20 };
         let steps = list(&mut random, &mut image.clone(), 300, pace);
         let batches = batches(&mut random, &steps);
         let wrong = |image: &mut [u16], steps: &[u8], answers: &mut [u16]| altered_batch(image, steps, answers, &alter);
@@ -177,13 +136,18 @@ fn a_finish_that_leaves_levels_in_freed_granules() {
     });
 }
 
+fn mark_everything(done: &mut Done) {
+    let mut store = done.store();
+    let unmarked: Vec<usize> = store.image().starts().filter(|&g| !store.image().is_marked(g)).collect();
+    unmarked.iter().for_each(|&g| store.mark(g));
+}
+
 /// What is marked is kept by the rule; only what the begin left unreached shows the slip.
 #[test]
 fn a_begin_that_marks_everything() {
     assert_caught(&["reached by no chain at the begin, is not freed"], |done| {
         if done.is_accepted(BEGIN) {
-            let starts: Vec<usize> = done.got().starts().collect();
-            starts.iter().for_each(|&g| done.store().set_mark(g, true));
+            mark_everything(done);
         }
     });
 }
@@ -192,8 +156,7 @@ fn a_begin_that_marks_everything() {
 fn a_trace_that_marks_everything() {
     assert_caught(&["reached by no chain at the begin, is not freed"], |done| {
         if done.is_accepted(TRACE) {
-            let starts: Vec<usize> = done.got().starts().collect();
-            starts.iter().for_each(|&g| done.store().set_mark(g, true));
+            mark_everything(done);
         }
     });
 }
@@ -233,6 +196,69 @@ fn a_clean_that_wipes_the_card_without_taking_it() {
             done.store().set_tracer(tracer, reference::image::Tracer { card: None, ..held });
         }
     });
+}
+
+#[test]
+fn an_undirty_that_ignores_the_count() {
+    assert_caught(&["number 0, not 11", "damaged: Some(Cover)", RESULT], undirty_whatever_the_count);
+}
+
+#[test]
+fn an_undirty_that_ignores_the_state() {
+    assert_caught(&["number 0, not 11"], undirty_whatever_the_state);
+}
+
+#[test]
+fn an_undirty_that_lets_the_card_go() {
+    assert_caught(&["damaged: Some(Hands)", "an undirty leaves another image", RESULT], undirty_that_lets_the_card_go);
+}
+
+#[test]
+fn a_reach_that_forgets_the_count() {
+    assert_caught(&["damaged: Some(Counts)", RESULT], reach_that_forgets_the_count);
+}
+
+#[test]
+fn a_finish_that_leaves_the_counts() {
+    assert_caught(&["damaged: Some(Counts)", RESULT], finish_that_leaves_the_counts);
+}
+
+/// A step of a batch of one record that judges nothing.
+fn unjudged_step(image: &mut [u16], steps: &[u8], answers: &mut [u16], wrong: Alter) -> u16 {
+    let got = image.to_vec();
+    let record = Record::from_bytes(steps);
+    let (number, value) = run_step(&mut Store::of(image).unwrap(), record);
+    answers.copy_from_slice(&[number, value]);
+    wrong(&mut Done { got: &got, record, image, answer: answers });
+    0
+}
+
+/// In how many lists with many undirty steps an object is lost. Each batch has one record, so that none is run behind such a finish.
+fn lost_by(wrong: Alter) -> usize {
+    let mut lost = 0;
+    for seed in 0..200 {
+        let mut random = Random::new(seed);
+        let k = random.from_to(1, 3);
+        let image = running(&mut random, k);
+        let pace = Pace { wild: 0, finish: 15, tracers: 30, undirty: 100 };
+        let steps = list(&mut random, &mut image.clone(), 100, pace);
+        let batches: Vec<(Vec<u8>, usize)> = steps.chunks(8).map(|bytes| (bytes.to_vec(), 2)).collect();
+        let run = |image: &mut [u16], steps: &[u8], answers: &mut [u16]| unjudged_step(image, steps, answers, wrong);
+        if let Err(error) = players_and_sweeps(&image, &batches, run) {
+            assert!(error.contains("is reached by a chain and does not stay"), "{error}");
+            lost += 1;
+        }
+    }
+    lost
+}
+
+/// "what players and sweeps may rely on holds with them included", and with one that ignores the count it does not: a finish frees
+/// an object that a chain reaches.
+#[test]
+fn a_live_object_is_lost_by_an_undirty_that_ignores_the_count() {
+    assert_eq!(lost_by(|_| ()), 0);
+    let lost = lost_by(undirty_whatever_the_count);
+    assert!(lost >= 3, "an object was lost in {lost} lists of 200");
 }
 
 #[test]

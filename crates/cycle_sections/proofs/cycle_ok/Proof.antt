@@ -7,4 +7,4 @@ pub cycle-ok-spec : {M : Type 1} → statement M
 cycle-ok-spec =
     tie.close
     (tie.spec (λ c κs. search needs) (λ c. search cycle-no) (λ c κs. search needs) (λ c κs. (search needs, search cycle-packed))
-    (λ c κs. search needs) (λ c κs. search needs) (λ c. search cycle-yes))
+    (λ c κs. search needs) (λ c κs. search needs) (λ c κs. search needs) (λ c. search cycle-yes))

@@ -45,7 +45,7 @@ bared-along {m} {m'} F {y = y} {u} e d b = subst (λ (l : ℕ → ℕ). Bared m 
 
 -- ---- sections that stay
 
--- regs, packets, tracers, players and general are sections 0 to 4 of `untouched`
+-- regs, packets, tracers, players, general and counts are sections 0 to 5 of `untouched`
 pub same-section : {x y : List (List ℕ)} → x ≡ y → (i : ℕ) → getD x i [] ≡ getD y i []
 same-section e i = ap (λ (l : List (List ℕ)). getD l i []) e
 

@@ -8,13 +8,13 @@ use lib.Dec.{ltb}
 use lib.ListN.{take, drop, length-take}
 use borrow.Author.Tests.{eqb-false, leb-false}
 use Rattle.model.specs.Image.{Image, isStart, size, links, levels, reg, hand, nextLink, setWord, setOwed, withPlayers, dirtyCard, setState, withCards}
-use Rattle.model.specs.Records.{Step, Kind, new, load, store, barrier, handOver, dropReg, read, write, begin, scan, trace, clean, finish, isDue, unknown}
+use Rattle.model.specs.Records.{Step, Kind, new, load, store, barrier, handOver, dropReg, read, write, begin, scan, trace, clean, finish, isDue, undirty, unknown}
 use Rattle.model.specs.Steps.{offDesk, object, noObject, pastEnd, refusal, accept, act, step}
 use Rattle.model.proofs.Laws.{some-false}
 use Rattle.model.proofs.Entries.{nth-take, nth-drop}
 use Rattle.model.proofs.Found.{place-of}
 use Rattle.theory.specs.Cycle.{Facts, Source, in-reg, in-link, is-marked, Carries, NoFinish, Live}
-use Rattle.theory.proofs.cycle.Quiet.{NextSource, quiet-refl, quiet-begin, quiet-scan, quiet-trace, quiet-clean}
+use Rattle.theory.proofs.cycle.Quiet.{NextSource, quiet-refl, quiet-begin, quiet-scan, quiet-trace, quiet-clean, quiet-undirty}
 use Rattle.theory.proofs.cycle.Carries.{quiet-carries, carries-silent, setReg-carries, setWord-carries, new-carries}
 use Rattle.theory.proofs.cycle.Live.{live-carried}
 use Rattle.theory.proofs.steps.Steps.{step-number, line, step-cases, not-above, good-size}
@@ -81,6 +81,7 @@ module _ (m : Image) (s : Step) (f : Facts m) where
   act-carries np clean e nf = quiet-carries m _ (quiet-clean m (s .who) (next-source m f (s .who) (not-above 7 (s .who) (some-false _ (line m s clean e 1) 0))))
   act-carries np finish e nf = absurd (nf refl)
   act-carries np isDue e nf = carries-refl m
+  act-carries np undirty e nf = quiet-carries m _ (quiet-undirty m (s .a))
   act-carries np unknown e nf = carries-refl m
 
   -- ---- every step but an accepted finish

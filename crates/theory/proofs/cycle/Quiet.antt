@@ -10,7 +10,7 @@ use lib.Dec.{eqb, ltb}
 use lib.ListN.{getD, take, drop}
 use borrow.Author.Tests.{eqb-false, not-true}
 use Rattle.model.specs.Base.{some}
-use Rattle.model.specs.Image.{Image, word, isStart, marked, links, link, reg, owed, hand, nextLink, handCard, nextGranule, input, entry, count, dirty, setMark, setState, setTracer, setScanned, withMarks, withCards, withPackets, withTracers, withPlayers, withGeneral, fields-open}
+use Rattle.model.specs.Image.{Image, word, isStart, marked, links, link, reg, owed, hand, nextLink, handCard, nextGranule, input, entry, count, dirty, setMark, markObject, setState, undirtyCard, setTracer, setScanned, withMarks, withCounts, withCards, withPackets, withTracers, withPlayers, withGeneral, fields-open}
 use Rattle.model.specs.Collect.{append, pop, takeOutput, enter, reach, reachAll, scanPlayer, beginCycle, putHand, takeObject, traceHand, traceInput, tracePool, traceOutput, traceLine, traceStep, putCard, nextMarked, cleanTo, cleanCard, lowestDirty, takeCard, cleanLine, cleanStep}
 use Rattle.model.proofs.Laws.{some-false, nth-put-other, first-passes}
 use Rattle.model.proofs.Bits.{setBit-other}
@@ -19,7 +19,7 @@ use Rattle.theory.proofs.steps.Reaching.{enter-cases}
 
 -- the image with other cards, packets, tracers, players and general words
 abbrev pub silent : Image → (cs ps ts ls gs : List ℕ) → Image
-silent m cs ps ts ls gs = record { width = m .width; k = m .k; heap = m .heap; starts = m .starts; marks = m .marks; cards = cs; regs = m .regs; packets = ps; tracers = ts; players = ls; general = gs }
+silent m cs ps ts ls gs = record { width = m .width; k = m .k; heap = m .heap; starts = m .starts; marks = m .marks; cards = cs; counts = m .counts; regs = m .regs; packets = ps; tracers = ts; players = ls; general = gs }
 
 -- the next link of the object in hand, if it is an object, passes
 abbrev pub NextSource : (ℕ → Type 0) → Image → ℕ → Type 0
@@ -48,8 +48,8 @@ module _ {P : ℕ → Type 0} where
 
   -- ---- reach
 
-  quiet-mark : (m : Image) (g : ℕ) → P g → Quiet P m (setMark m g)
-  unfolding word isStart reg owed marked setMark withMarks
+  quiet-mark : (m : Image) (g : ℕ) → P g → Quiet P m (markObject m g)
+  unfolding word isStart reg owed marked markObject setMark withMarks withCounts
   quiet-mark m g ok = record {
     same-word = λ h i. refl;
     same-start = λ h. refl;
@@ -66,9 +66,9 @@ module _ {P : ℕ → Type 0} where
   unfolding reach takeOutput setTracer withTracers
   quiet-reach m t g ok = go (some (eqb g 0 ∷ marked m g ∷ [])) refl
     where
-      go : (b : Bool) → some (eqb g 0 ∷ marked m g ∷ []) ≡ b → Quiet P m (elim b [ true ↦ m | false ↦ enter (takeOutput (setMark m g) t) t g ])
+      go : (b : Bool) → some (eqb g 0 ∷ marked m g ∷ []) ≡ b → Quiet P m (elim b [ true ↦ m | false ↦ enter (takeOutput (markObject m g) t) t g ])
       go true e = quiet-refl m
-      go false e = quiet-trans (quiet-mark m g (ok (eqb-false g 0 (some-false _ e 0)))) (quiet-trans (quiet-silent (setMark m g) _ _ _ _) (quiet-enter (takeOutput (setMark m g) t) t g))
+      go false e = quiet-trans (quiet-mark m g (ok (eqb-false g 0 (some-false _ e 0)))) (quiet-trans (quiet-silent (markObject m g) _ _ _ _) (quiet-enter (takeOutput (markObject m g) t) t g))
 
   pub quiet-reachAll : (m : Image) (t : ℕ) (l : List ℕ) → ((g : ℕ) → List·Memᴰ g l → (g ≡ 0 → ⊥) → P g) → Quiet P m (reachAll m t l)
   unfolding reachAll
@@ -76,6 +76,10 @@ module _ {P : ℕ → Type 0} where
   quiet-reachAll m t (g ∷ l) ok = quiet-trans (quiet-reach m t g (ok g (List·Memᴰ·head refl))) (quiet-reachAll (reach m t g) t l (λ h k. ok h (List·Memᴰ·tail k)))
 
   -- ---- kinds
+
+  pub quiet-undirty : (m : Image) (c : ℕ) → Quiet P m (undirtyCard m c)
+  unfolding undirtyCard setState withCards
+  quiet-undirty m c = quiet-silent m _ _ _ _
 
   pub quiet-begin : (m : Image) → Quiet P m (beginCycle m)
   unfolding beginCycle withCards withGeneral

@@ -97,6 +97,7 @@ module _ (w : ℕ) (ws : List ℕ) (fit : fits w (length ws) ≡ true) (ok : sou
               made .starts-length ∙ o .heap-ok .starts-sized,
               length-zeros (m .marks) ∙ o .marks-ok .exact,
               length-zeros (m .cards) ∙ o .cards-ok .sized,
+              length-zeros (m .counts) ∙ o .marks-ok .counts-sized,
               o .regs-ok .sized,
               length-zeros (m .packets) ∙ o .packets-ok .sized,
               length-zeros (m .tracers) ∙ o .tracers-ok .sized,

@@ -12,6 +12,7 @@ use Rattle.model.specs.Finish.{scannedOff}
 use Rattle.model.specs.Steps.{run}
 use Rattle.model.proofs.Laws.{false≢, nth-put-same, nth-put-other, length-put}
 use Rattle.model.proofs.Bits.{no-bit}
+use Rattle.model.proofs.Counts.{howMany-none}
 use Rattle.theory.specs.Cover.{owes-by, to-nil, to-marked, is-coming, is-owed}
 use Rattle.theory.specs.Lines.{PacketsOk, TracersOk, NilOr, GeneralOk, HeapOk, Start, Marked, Lines, Undamaged, none}
 use Rattle.theory.specs.New.{reheaped}
@@ -22,7 +23,7 @@ use Rattle.theory.proofs.lines.Sections.{tracers-mono}
 -- ---- finish: heap, starts and first run as given, the collector's state cleared
 
 abbrev pub cleared : Image → List ℕ → List ℕ → ℕ → Image
-cleared m hs ss f = record { width = m .width; k = m .k; heap = hs; starts = ss; marks = zeros (m .marks); cards = zeros (m .cards); regs = m .regs; packets = zeros (m .packets); tracers = zeros (m .tracers); players = scannedOff (m .players); general = put (put (m .general) 0 0) 1 f }
+cleared m hs ss f = record { width = m .width; k = m .k; heap = hs; starts = ss; marks = zeros (m .marks); cards = zeros (m .cards); counts = zeros (m .counts); regs = m .regs; packets = zeros (m .packets); tracers = zeros (m .tracers); players = scannedOff (m .players); general = put (put (m .general) 0 0) 1 f }
 
 pub off-length : (l : List ℕ) → length (scannedOff l) ≡ length l
 unfolding scannedOff
@@ -81,7 +82,7 @@ cleared-keeps m o hs ss f h rs =
           heap-ok = rw (nth-put-same (put (m .general) 0 0) 1 f (simp length-put (omega (arith, o .general-ok .sized)))) h;
           regs-ok = record { sized = o .regs-ok .sized; values = rs };
           cards-ok = record { sized = length-zeros (m .cards) ∙ o .cards-ok .sized; states = λ c. rw (zeros-nth (m .cards) c) (omega arith) };
-          marks-ok = record { exact = length-zeros (m .marks) ∙ o .marks-ok .exact; sized = λ g l. rw (length-zeros (m .marks)) (o .marks-ok .sized g l); on-starts = λ g e. false≢ (sym (unmarked g) ∙ e) };
+          marks-ok = record { exact = length-zeros (m .marks) ∙ o .marks-ok .exact; sized = λ g l. rw (length-zeros (m .marks)) (o .marks-ok .sized g l); on-starts = λ g e. false≢ (sym (unmarked g) ∙ e); counts-sized = length-zeros (m .counts) ∙ o .marks-ok .counts-sized; counted = λ c l. zeros-nth (m .counts) c ∙ sym (howMany-none _ 64 (λ j h. unmarked (64 * c + j))) };
           packets-ok = zero-packets (length-zeros (m .packets) ∙ o .packets-ok .sized) (zeros-nth (m .packets));
           tracers-ok = zero-tracers (length-zeros (m .tracers) ∙ o .tracers-ok .sized) (zeros-nth (m .tracers));
           players-ok = record { sized = off-length (m .players) ∙ o .players-ok .sized; owed-ok = λ p. rw (off-owed (m .players) p) (o .players-ok .owed-ok p); scanned-ok = λ p. rw (off-scanned (m .players) p) (omega arith) };
@@ -117,7 +118,7 @@ reheaped-keeps m u hs ss gs h gk run up same =
           packets-ok = o .packets-ok;
           players-ok = o .players-ok;
           regs-ok = record { sized = o .regs-ok .sized; values = λ i. nil-mono st (nth (m .regs) i) (o .regs-ok .values i) };
-          marks-ok = record { exact = o .marks-ok .exact; sized = o .marks-ok .sized; on-starts = λ g k. st g (o .marks-ok .on-starts g k) };
+          marks-ok = record { exact = o .marks-ok .exact; sized = o .marks-ok .sized; on-starts = λ g k. st g (o .marks-ok .on-starts g k); counts-sized = o .marks-ok .counts-sized; counted = o .marks-ok .counted };
           tracers-ok = tracers-mono (λ g i d. (d .0, rw (count-same g (d .0)) (d .1))) (λ c n d. d) (o .tracers-ok);
         };
         idle = λ z. u .sound .idle (sym run ∙ z);

@@ -7,12 +7,14 @@ use Prim.Native.Nat.{ℕ, zero, suc, _+_, _*_, _-_, _≤_, _<_}
 use native.Mathlib.Decide.{ℕ-discrete}
 use native.Mathlib.Omega.{arith}
 use lib.ListN.{length, drop, getD, length-append, length-drop}
+use Rattle.model.specs.Base.{sumBelow}
 use Rattle.model.specs.Image.{Image, granules, word, isStart}
+use Rattle.model.proofs.Counts.{sum-same}
 use Rattle.model.proofs.Laws.{bool-cases}
 use Rattle.model.specs.Mutate.{sumRuns, freeFrom, freeGranules}
 use Rattle.model.specs.Finish.{runTail, swept, sweep, finishWith}
 use Rattle.theory.specs.Heap.{runWords, Bare, Filled, f-end, f-object, f-run, HeapFilled, HeapSized}
-use Rattle.theory.specs.Pieces.{Reads, Pieces, at-end, at-object, at-run, sumBelow, sizes, usedGranules}
+use Rattle.theory.specs.Pieces.{Reads, Pieces, at-end, at-object, at-run, sizes, usedGranules}
 use Rattle.theory.proofs.heap.Lists.{nth-head, length-run}
 use Rattle.theory.proofs.heap.Walk.{word-behind, object-at, no-start-zero}
 use Rattle.theory.proofs.finish.Sweep.{sweep-piece, not-kept}
@@ -20,11 +22,6 @@ use Rattle.theory.proofs.finish.FinishHeap.{finish-starts, finish-fille
 use Rattle.theory.proofs.heap.Pieces.{reads-behind, front, image-pieces}
 
 -- ---- sums
-
-pub total-ext : (v u : ℕ → ℕ) (n : ℕ) → ((g : ℕ) → g < n → v g ≡ u g) → sumBelow v n ≡ sumBelow u n
-unfolding sumBelow
-total-ext v u zero f = refl
-total-ext v u (suc n) f = let a : sumBelow v n ≡ sumBelow u n = total-ext v u n (λ g h. f g (omega arith)) in let b : v n ≡ u n = f n (omega arith) in omega arith
 
 -- past granules that count the same
 pub total-same : (v : ℕ → ℕ) (a x y : ℕ) → x ≤ y → ((h : ℕ) → x ≤ h → h < y → v h ≡ a) → sumBelow v y + a * x ≡ sumBelow v x + a * y
@@ -123,7 +120,7 @@ module _ (m : Image) (keep : List Bool) (o : HeapFilled m) (z : HeapSized m) (ke
 
   used-kept : usedGranules ((finishWith m keep) .image) ≡ sumBelow (sizes (λ g. getD keep g false) (word m)) (granules m)
   unfolding usedGranules
-  used-kept = rw same-granules (total-ext _ _ (granules m) (λ g h. rw (finish-starts m keep o z kept g) (elim (bool-cases (getD keep g false)) [
+  used-kept = rw same-granules (sum-same _ _ (granules m) (λ g h. rw (finish-starts m keep o z kept g) (elim (bool-cases (getD keep g false)) [
     | inl e ↦ rw e (finish-words m keep o z kept g 0 e (omega (arith, (object-at m o g (kept g e)) .sized)))
     | inr e ↦ rw e
   ])))

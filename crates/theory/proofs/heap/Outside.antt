@@ -7,12 +7,12 @@ use native.Mathlib.Decide.{decLt}
 use native.Mathlib.Omega.{arith}
 use lib.Dec.{leb, ltb}
 use borrow.Author.Tests.{le-leb, ltb-true, lt-ltb, not-true}
-use Rattle.model.specs.Base.{every}
+use Rattle.model.specs.Base.{every, sumBelow, howMany}
 use Rattle.model.specs.Image.{Image, granules, word, isStart, size, firstRun}
 use Rattle.model.specs.Mutate.{sumRuns, freeFrom, freeGranules, ifLong, granulesInRuns}
 use Rattle.model.proofs.Laws.{false≢, bool-cases, not-make, same-test, and-split, and-join, all-use, all-make, any-use, any-make, every-use}
 use Rattle.theory.specs.Heap.{HeapFilled, HeapSized}
-use Rattle.theory.specs.Pieces.{at-end, at-object, at-run, PiecesIn, RunApart, Unused, InRun, Clear, sumBelow, inObject, granulesOutside, unused, isStretch, inStretch, granulesInStretches}
+use Rattle.theory.specs.Pieces.{at-end, at-object, at-run, PiecesIn, RunApart, Unused, InRun, Clear, inObject, granulesOutside, unused, isStretch, inStretch, granulesInStretches}
 use Rattle.theory.proofs.heap.Walk.{object-at}
 use Rattle.theory.proofs.heap.Pieces.{image-pieces}
 use Rattle.theory.proofs.heap.Free.{total-same, sum-end}
@@ -167,7 +167,7 @@ module _ (m : Image) where
 
     -- the chain's runs of at least so many granules have just the granules that lie in a maximal stretch of at least as many unused ones
     pub stretches-counted : (least : ℕ) → granulesInRuns least m ≡ granulesInStretches least m
-    unfolding granulesInStretches
+    unfolding granulesInStretches howMany
     stretches-counted least =
         let none : (y : ℕ) → (Unused m y → ⊥) → inStretch least m y ≡ false = λ y f. not-true _ (not-make _ (λ e. f (stretch-unused least y e))) in
         let zero-no : inStretch least m 0 ≡ false = none 0 (λ u. omega (arith, u .in-range)) in

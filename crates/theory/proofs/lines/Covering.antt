@@ -72,7 +72,7 @@ but-cover m a c f g i h k l = elim (ℕ-discrete g a) [ yes e ↦ rw e (f i (rw 
 
 -- cards, packets and tracers replaced
 abbrev pub renew : Image → List ℕ → List ℕ → List ℕ → Image
-renew m cs ps ts = record { width = m .width; k = m .k; heap = m .heap; starts = m .starts; marks = m .marks; cards = cs; regs = m .regs; packets = ps; tracers = ts; players = m .players; general = m .general }
+renew m cs ps ts = record { width = m .width; k = m .k; heap = m .heap; starts = m .starts; marks = m .marks; cards = cs; counts = m .counts; regs = m .regs; packets = ps; tracers = ts; players = m .players; general = m .general }
 
 pub renew-cover : (X : ℕ → Type 0) (m : Image) (cs ps ts : List ℕ) → CoverOn X m → ((g i : ℕ) → X g → marked m g ≡ true → i < links m g → Coming m g i → Covered (renew m cs ps ts) g i) → CoverOn X (renew m cs ps ts)
 unfolding granules marked links link word owed reg

@@ -10,8 +10,8 @@ use lib.Dec.{eqb}
 use lib.ListN.{length}
 use borrow.Author.Tests.{ltb-true, leb-true, eqb-true, eqb-false, not-true, lt-ltb, le-leb, eq-eqb, ne-eqb}
 use Rattle.model.specs.Base.{nth, all}
-use Rattle.model.specs.Image.{Image, granules, word, isStart, marked, links, link, state, count, owed, scanned, running, firstRun}
-use Rattle.model.specs.Undamaged.{zeroGranule, filled, nilOrStart, linksOk, regOk, playerOk, cardOk, markOk, generalOk, idleOk, sound, undamaged}
+use Rattle.model.specs.Image.{Image, granules, word, isStart, marked, cardCount, marksOn, links, link, state, count, owed, scanned, running, firstRun}
+use Rattle.model.specs.Undamaged.{zeroGranule, filled, nilOrStart, linksOk, regOk, playerOk, cardOk, markOk, countOk, generalOk, idleOk, sound, undamaged}
 use Rattle.model.proofs.Laws.{nth-out, imp-use, imp-make, either-no, either-make, all-use, all-make, every-use, every-nil, every-cons, zeroes-use, zeroes-make}
 use Rattle.theory.specs.Cover.{Counted}
 use Rattle.theory.specs.Lines.{PlayersOk, NilOr, GeneralOk, HeapOk, Start, Marked, Lines, Idle, Sound, Undamaged, Sizes}
@@ -100,7 +100,7 @@ module _ (m : Image) where
   -- ---- all lines
 
   pub sound-use : Sizes m → sound m ≡ true → Sound m
-  unfolding sound regOk cardOk state granules markOk marked isStart
+  unfolding sound regOk cardOk state granules markOk marked isStart countOk cardCount marksOn
   sound-use z e =
       let start : (g : ℕ) → Marked m g → Start m g = λ g k. (z .marks-in g k, imp-use _ _ (all-use _ _ (every-use _ e 7) g (z .marks-in g k)) k) in
       record {
@@ -110,7 +110,7 @@ module _ (m : Image) where
           cards-ok = record { sized = z .cards-size; states = λ c. each-word (λ x. x ≤ 3) (m .cards) c (omega arith) (λ h. leb-true _ _ (all-use _ _ (every-use _ e 4) c (omega arith))) };
           players-ok = players-use (z .players-size) (every-use _ e 5);
           general-ok = general-use (z .general-size) (every-use _ e 6);
-          marks-ok = record { exact = z .marks-size; sized = z .marks-room; on-starts = start };
+          marks-ok = record { exact = z .marks-size; sized = z .marks-room; on-starts = start; counts-sized = z .counts-size; counted = λ c h. eqb-true _ _ (all-use _ _ (every-use _ e 13) c h) };
           packets-ok = packets-use m (z .packets-size) (every-use _ e 8) (every-use _ e 9);
           tracers-ok = tracers-use m (z .tracers-size) (every-use _ e 10) (every-use _ e 11);
         };
@@ -118,7 +118,7 @@ module _ (m : Image) where
       }
 
   pub sound-make : Sound m → sound m ≡ true
-  unfolding sound regOk cardOk state playerOk owed scanned granules markOk marked isStart
+  unfolding sound regOk cardOk state playerOk owed scanned granules markOk marked isStart countOk cardCount marksOn
   sound-make s =
       let o = s .lines in
       let h = heap-make (o .heap-ok) in
@@ -136,7 +136,8 @@ module _ (m : Image) where
       (every-cons _ _ (ps .1)
       (every-cons _ _ (ts .0)
       (every-cons _ _ (ts .1)
-      (every-cons _ _ (idle-make (s .idle)) every-nil))))))))))))
+      (every-cons _ _ (idle-make (s .idle))
+      (every-cons _ _ (all-make _ _ (λ c l. eq-eqb _ _ (o .marks-ok .counted c l))) every-nil)))))))))))))
 
   pub counted-of : Lines m → Counted m
   unfolding count

@@ -1,15 +1,17 @@
 -- The lines that read tracers, cards, players, registers or marks, where one of their words is written.
-use mathlib.Core.Path.{_≡_, sym, _∙_}
+use mathlib.Core.Path.{_≡_, sym, ap, _∙_}
 use mathlib.Core.Logic.{inl, inr}
+use mathlib.Core.Bool.{false}
 use mathlib.Core.List.{List}
-use Prim.Native.Nat.{ℕ, zero, suc, _+_, _*_, _≤_, _<_}
+use Prim.Native.Nat.{ℕ, zero, suc, _+_, _*_, _/_, _%_, _≤_, _<_}
 use native.Mathlib.Decide.{ℕ-discrete}
 use native.Mathlib.Omega.{arith}
 use lib.ListN.{length}
 use lib.Seq.{set-comm}
-use Rattle.model.specs.Base.{nth, put, setBit}
-use Rattle.model.specs.Image.{dirtyState}
-use Rattle.model.proofs.Bits.{setBit-other}
+use Rattle.model.specs.Base.{nth, put, bit, setBit, howMany}
+use Rattle.model.specs.Image.{dirtyState, cleanState}
+use Rattle.model.proofs.Bits.{setBit-same, setBit-other}
+use Rattle.model.proofs.Counts.{howMany-same, howMany-more}
 use Rattle.model.proofs.Laws.{nth-put-same, nth-put-other, length-put}
 use Rattle.theory.specs.Lines.{Pair, Pairs, HeldOk, TracersOk, CardsOk, PlayersOk, NilOr, RegsOk, MarksOk, none, one}
 use Rattle.theory.proofs.lines.Packets.{Wrote, nth-put}
@@ -124,11 +126,21 @@ swap-ok {ts = ts} k t ht v e =
 
 -- ---- cards
 
-dirtyState-is : (x : ℕ) → (dirtyState x ≤ 3) × (2 ≤ x → 2 ≤ dirtyState x)
+-- a state that is changed is a state, and a taken card stays taken
+abbrev pub Changes : (ℕ → ℕ) → Type 0
+Changes f = (x : ℕ) → (f x ≤ 3) × (2 ≤ x → 2 ≤ f x)
+
+pub dirty-changes : Changes dirtyState
 unfolding dirtyState
-dirtyState-is zero = (omega arith, λ h. omega arith)
-dirtyState-is (suc zero) = (omega arith, λ h. omega arith)
-dirtyState-is (suc (suc x)) = (omega arith, λ h. omega arith)
+dirty-changes zero = (omega arith, λ h. omega arith)
+dirty-changes (suc zero) = (omega arith, λ h. omega arith)
+dirty-changes (suc (suc x)) = (omega arith, λ h. omega arith)
+
+pub clean-changes : Changes cleanState
+unfolding cleanState
+clean-changes zero = (omega arith, λ h. omega arith)
+clean-changes (suc zero) = (omega arith, λ h. omega arith)
+clean-changes (suc (suc x)) = (omega arith, λ h. omega arith)
 
 -- a card is written
 pub state-ok : {k : ℕ} {cs : List ℕ} → CardsOk k cs → (c v : ℕ) → c < k → v ≤ 3 → CardsOk k (put cs c v)
@@ -137,15 +149,9 @@ state-ok {k} {cs} o c v h hv = record {
   states = λ d. elim (nth-put cs c d v (omega arith)) [ inl (e, w) ↦ omega arith | inr (n, w) ↦ omega (arith, o .states d) ];
 }
 
-pub dirtied-ok : {k : ℕ} {cs : List ℕ} → CardsOk k cs → (c : ℕ) → c < k → CardsOk k (put cs c (dirtyState (nth cs c)))
-dirtied-ok o c h = state-ok o c _ h (dirtyState-is _ .0)
-
 -- a taken card stays taken
 pub taken-on : {k : ℕ} {cs : List ℕ} → CardsOk k cs → (c v d : ℕ) → c < k → (2 ≤ nth cs c → 2 ≤ v) → 2 ≤ nth cs d → 2 ≤ nth (put cs c v) d
 taken-on {k} {cs} o c v d h f hd = elim (nth-put cs c d v (omega arith)) [ inl (e, w) ↦ rw w (f (rw e at hd)) | inr (n, w) ↦ omega arith ]
-
-pub dirtied-on : {k : ℕ} {cs : List ℕ} → CardsOk k cs → (c d : ℕ) → c < k → 2 ≤ nth cs d → 2 ≤ nth (put cs c (dirtyState (nth cs c))) d
-dirtied-on {k} {cs} o c d h hd = taken-on o c (dirtyState (nth cs c)) d h (dirtyState-is _ .1) hd
 
 -- ---- players, registers, marks
 
@@ -170,11 +176,23 @@ reg-ok {St} {rs} o i v h ok = record {
   values = λ j. elim (nth-put rs i j v (omega arith)) [ inl (e, w) ↦ rw w ok | inr (n, w) ↦ rw w (o .values j) ];
 }
 
--- a start is marked
-pub mark-ok : {w k : ℕ} {St : ℕ → Type 0} {ms : List ℕ} → MarksOk w k St ms → (a : ℕ) → St a → MarksOk w k St (setBit w ms a)
-unfolding setBit
-mark-ok {w} {k} {St} {ms} o a sa = record {
-  exact = rw length-put (o .exact);
-  sized = λ g h. rw length-put (o .sized g h);
-  on-starts = λ g e. elim (ℕ-discrete g a) [ yes s ↦ rw s sa | no n ↦ o .on-starts g (sym (setBit-other w ms a g n) ∙ e) ];
-}
+-- a start that is not marked is marked, and its card counts one more
+pub mark-ok : {w k : ℕ} {St : ℕ → Type 0} {ms cs : List ℕ} → MarksOk w k St ms cs → (a : ℕ) → St a → a < 64 * k → bit w ms a ≡ false
+    → MarksOk w k St (setBit w ms a) (put cs (a / 64) (suc (nth cs (a / 64))))
+mark-ok {w} {k} {St} {ms} {cs} o a sa ha un =
+    let same-length : length (setBit w ms a) ≡ length ms = unfold setBit in length-put ms (a / w) _ in
+    let card : ℕ = a / 64 in
+    let here : 64 * card + a % 64 ≡ a = omega arith in
+    let more : howMany (λ j. bit w (setBit w ms a) (64 * card + j)) 64 ≡ suc (howMany (λ j. bit w ms (64 * card + j)) 64) =
+    howMany-more (λ j. bit w ms (64 * card + j)) (λ j. bit w (setBit w ms a) (64 * card + j)) 64 (a % 64) (omega arith)
+    (ap (bit w ms) here ∙ un) (ap (bit w (setBit w ms a)) here ∙ setBit-same w ms a (o .sized a ha)) (λ i n. setBit-other w ms a (64 * card + i) (omega arith)) in
+    record {
+      exact = same-length ∙ o .exact;
+      sized = λ g h. rw same-length (o .sized g h);
+      on-starts = λ g e. elim (ℕ-discrete g a) [ yes s ↦ rw s sa | no n ↦ o .on-starts g (sym (setBit-other w ms a g n) ∙ e) ];
+      counts-sized = simp length-put (o .counts-sized);
+      counted = λ c h. elim (nth-put cs card c (suc (nth cs card)) (omega (arith, o .counts-sized))) [
+        | inl (e, v) ↦ rw e (rw e at v ∙ (ap suc (o .counted card (omega arith)) ∙ sym more))
+        | inr (n, v) ↦ v ∙ (o .counted c h ∙ howMany-same (λ j. bit w ms (64 * c + j)) (λ j. bit w (setBit w ms a) (64 * c + j)) 64 (λ i l. sym (setBit-other w ms a (64 * c + i) (omega arith))))
+      ];
+    }

@@ -5,7 +5,7 @@ use mathlib.Core.List.{map}
 use Prim.Native.Nat.{ℕ, _≤_, _*_}
 use native.Mathlib.Omega.{arith}
 use lib.ListN.{length, getD}
-use Rattle.model.specs.Image.{heapAt, startsAt, marksAt, cardsAt, regsAt, packetsAt, tracersAt, playersAt, generalAt, lengths, mostCards, Image, sections}
+use Rattle.model.specs.Image.{heapAt, startsAt, marksAt, cardsAt, countsAt, regsAt, packetsAt, tracersAt, playersAt, generalAt, lengths, mostCards, Image, sections}
 use Rattle.model.proofs.Words.{Fits, width-cases}
 use Rattle.model.proofs.Bits.{bit-within}
 use Rattle.theory.specs.Lines.{Sizes, Lines}
@@ -23,6 +23,7 @@ fits-sizes m f = record {
   marks-in = λ g e. bit-within (m .width) (64 * m .k) (m .marks) g (here marksAt) e;
   marks-room = λ g h. rw (here marksAt) (elim (width-cases (m .width) (m .k) (f .some-card) (f .few-cards)) [ inl e ↦ rw e (omega arith) | inr e ↦ rw e (omega arith) ]);
   cards-size = here cardsAt;
+  counts-size = here countsAt;
   regs-size = here regsAt;
   packets-size = here packetsAt;
   tracers-size = here tracersAt;

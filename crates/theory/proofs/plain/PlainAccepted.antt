@@ -7,7 +7,7 @@ use native.Mathlib.Omega.{arith}
 use lib.Dec.{eqb}
 use borrow.Author.Tests.{eqb-false, ne-eqb, leb-false}
 use Rattle.model.specs.Image.{Image, word, links, link, reg, owed, withHeap, withCards, setWord, setState, dirtyCard}
-use Rattle.model.specs.Records.{Step, Kind, new, load, store, barrier, handOver, dropReg, read, write, begin, scan, trace, clean, finish, isDue, unknown, kindOf}
+use Rattle.model.specs.Records.{Step, Kind, new, load, store, barrier, handOver, dropReg, read, write, begin, scan, trace, clean, finish, isDue, undirty, unknown, kindOf}
 use Rattle.model.specs.Rows.{is}
 use Rattle.model.specs.Steps.{offDesk, object, noObject, pastEnd, refusal, accept, act, outcome}
 use Rattle.model.specs.Plain.{Object, made, PlainStore, Value, as-is, PlainDone, holding, plainRefusal, plainAccept, plainAct, plainOutcome, feeds, objectAt, upd, named, reading}
@@ -135,6 +135,7 @@ module _ (m : Image) (f : Facts m) (s : Step) (q : PlainStore) (name : ℕ → O
   accepted-alike o clean e z k = false≢ e
   accepted-alike o finish e z k = false≢ e
   accepted-alike o isDue e z k = false≢ e
+  accepted-alike o undirty e z k = false≢ e
   accepted-alike o unknown e z k = false≢ e
 
   -- a player's step, but for a new answered 9

@@ -8,9 +8,9 @@ use lib.ListN.{getD}
 use borrow.Author.Tests.{eqb-false, leb-false}
 use Rattle.model.specs.Base.{some, first}
 use Rattle.model.specs.Image.{Image, links, levels}
-use Rattle.model.specs.Records.{Step, Kind, new, load, store, barrier, handOver, dropReg, read, write, begin, scan, trace, clean, finish, isDue, unknown}
+use Rattle.model.specs.Records.{Step, Kind, new, load, store, barrier, handOver, dropReg, read, write, begin, scan, trace, clean, finish, isDue, undirty, unknown}
 use Rattle.model.specs.Mutate.{roomFor}
-use Rattle.model.specs.Rows.{Role, unused, player, tracer, register, number, rowOf, is, isPlayer, limit, reaches, fields}
+use Rattle.model.specs.Rows.{Role, unused, player, tracer, register, card, number, rowOf, is, isPlayer, limit, reaches, fields}
 use Rattle.model.specs.Steps.{unnamed, offDesk, badSize, object, owes, owing, noObject, pastEnd, noRoom, wrongPhase, nothingToDo, refusal}
 use Rattle.model.specs.Plain.{Object, isNil, PlainStore, holding, plainOwing, plainNoObject, plainLevels, plainPastEnd, plainNothing, plainRefusal, feeds}
 use Rattle.model.specs.Claim.{Chain, chain-reg}
@@ -80,6 +80,7 @@ module _ (m : Image) (s : Step) (q : PlainStore) (name : ℕ → Object) (i : �
       same player x h = owes-alike x (leb-false 16 x h)
       same tracer x h = refl
       same register x h = refl
+      same card x h = refl
       same number x h = refl
 
   -- kinds without an object register, and kinds with one
@@ -123,6 +124,7 @@ module _ (m : Image) (s : Step) (q : PlainStore) (name : ℕ → Object) (i : �
   lines-of clean e = false≢ e
   lines-of finish e = false≢ e
   lines-of isDue e = false≢ e
+  lines-of undirty e = false≢ e
   lines-of unknown e = false≢ e
 
   pub same-number : (n : Kind) → feeds n 0 ≡ true → (refusal m s n ≡ 9 → ⊥) → refusal m s n ≡ plainRefusal q s n

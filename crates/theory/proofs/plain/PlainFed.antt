@@ -7,7 +7,7 @@ use native.Mathlib.Omega.{arith}
 use lib.Dec.{eqb}
 use borrow.Author.Tests.{eqb-true, eqb-false, ne-eqb, not-true, not-false}
 use Rattle.model.specs.Image.{Image, reg, owed}
-use Rattle.model.specs.Records.{Step, Kind, new, load, store, barrier, handOver, dropReg, read, write, begin, scan, trace, clean, finish, isDue, unknown, kindOf}
+use Rattle.model.specs.Records.{Step, Kind, new, load, store, barrier, handOver, dropReg, read, write, begin, scan, trace, clean, finish, isDue, undirty, unknown, kindOf}
 use Rattle.model.specs.Finish.{finishWith, finishStep}
 use Rattle.model.specs.Rows.{is}
 use Rattle.model.specs.Steps.{Event, refusal, accept, finishDone, act, step}
@@ -17,7 +17,7 @@ use Rattle.model.proofs.Rows.{is-same}
 use Rattle.theory.specs.Cycle.{Quiet}
 use Rattle.theory.specs.Same.{WordsStay, KeptWords}
 use Rattle.theory.proofs.steps.Steps.{step-cases}
-use Rattle.theory.proofs.cycle.Quiet.{quiet-refl, quiet-begin, quiet-scan, quiet-trace, quiet-clean}
+use Rattle.theory.proofs.cycle.Quiet.{quiet-refl, quiet-begin, quiet-scan, quiet-trace, quiet-clean, quiet-undirty}
 use Rattle.theory.proofs.finish.Replaced.{off-owed}
 use Rattle.theory.proofs.plain.PlainAlike.{not-nine}
 
@@ -69,6 +69,7 @@ module _ (m : Image) (s : Step) (stays : refusal m s finish ≡ 0 → WordsStay 
   unfed-act clean e z = quiet-kept m _ (quiet-clean m (s .who) (λ h nz. tt))
   unfed-act finish e z = record { kept-reg = λ p r. refl; kept-owed = λ p. off-owed (m .players) p; kept-word = stays z }
   unfed-act isDue e z = quiet-kept m _ (quiet-refl m)
+  unfed-act undirty e z = quiet-kept m _ (quiet-undirty m (s .a))
   unfed-act unknown e z = quiet-kept m _ (quiet-refl m)
 
   pub unfed-kept : feeds (kindOf (s .kind)) (refusal m s (kindOf (s .kind))) ≡ false → KeptWords m ((step m s) .image)

@@ -4,7 +4,7 @@ use mathlib.Core.Bool.{cond}
 use Prim.Native.Nat.{ℕ, zero, suc}
 use lib.Dec.{ltb}
 use Rattle.model.specs.Image.{Image}
-use Rattle.model.specs.Records.{Step, Kind, new, load, store, barrier, handOver, dropReg, read, write, begin, scan, trace, clean, finish, isDue, unknown, kindOf}
+use Rattle.model.specs.Records.{Step, Kind, new, load, store, barrier, handOver, dropReg, read, write, begin, scan, trace, clean, finish, isDue, undirty, unknown, kindOf}
 use Rattle.model.specs.Mutate.{usableRun, usableGranules}
 use Rattle.model.specs.Steps.{Done, refusal, accept, finishDone, dueValue, actBy, outcomeBy, stepBy, act, step}
 use Rattle.theory.specs.Lines.{Undamaged}
@@ -42,6 +42,7 @@ module _ (m : Image) (s : Step) where
     acts-alike clean = alike clean _
     acts-alike finish = alike finish _
     acts-alike isDue = record { same-image = refl; same-number = refl; same-value = λ other. absurd (other refl) }
+    acts-alike undirty = alike undirty _
     acts-alike unknown = alike unknown _
 
     outcomes-alike : (n : Kind) (x : ℕ) → SameButDue n (outcomeBy m s r n x) (outcomeBy m s q n x)

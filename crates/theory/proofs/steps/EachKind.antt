@@ -8,7 +8,7 @@ use lib.Dec.{eqb}
 use borrow.Author.Tests.{leb-false, eqb-true, eqb-false, not-false}
 use Rattle.model.specs.Base.{nth}
 use Rattle.model.specs.Image.{Image, levels, owed, running, fields-open}
-use Rattle.model.specs.Records.{Step, Kind, new, load, store, barrier, handOver, dropReg, read, write, begin, scan, trace, clean, finish, isDue, unknown}
+use Rattle.model.specs.Records.{Step, Kind, new, load, store, barrier, handOver, dropReg, read, write, begin, scan, trace, clean, finish, isDue, undirty, unknown}
 use Rattle.model.specs.Collect.{beginCycle}
 use Rattle.model.specs.Finish.{finishWith, finishStep}
 use Rattle.model.specs.Steps.{offDesk, object, owes, owing, noObject, pastEnd, wrongPhase, nothingToDo, refusal, accept, finishDone, act}
@@ -20,6 +20,7 @@ use Rattle.theory.proofs.heap.Facts.{reg-value, link-value}
 use Rattle.theory.proofs.finish.FinishKept.{finish-keeps}
 use Rattle.theory.proofs.steps.Steps.{line, not-above}
 use Rattle.theory.proofs.steps.Mutating.{reg-keeps, barrier-keeps, store-keeps, write-keeps}
+use Rattle.theory.proofs.steps.Undirty.{undirty-keeps}
 use Rattle.theory.proofs.new.NewKept.{new-does, new-step}
 use Rattle.theory.proofs.steps.Reaching.{StepStays}
 use Rattle.theory.proofs.steps.Tracing.{trace-does}
@@ -92,4 +93,7 @@ module _ (m : Image) (s : Step) (u : Undamaged m) where
   kind-keeps clean r = stays-keeps (line m s clean r 7) (clean-does m (u .sound .lines) (u .cover) (s .who) (not-above 7 (s .who) (some-false _ (line m s clean r 1) 0)))
   kind-keeps finish r = (finish-keeps m u, refl, refl)
   kind-keeps isDue r = (u, refl, refl)
+  kind-keeps undirty r =
+      let d = some-false _ (line m s undirty r 8) in
+      (undirty-keeps m u (s .a) (leb-false _ _ (some-false _ (line m s undirty r 1) 1)) (eqb-true _ _ (not-false _ (d 1))), refl, refl)
   kind-keeps unknown r = (u, refl, refl)

@@ -1,6 +1,6 @@
 -- Numbers 3 and 4 as tests of the fields against their limits, for every kind at once; and what a field is where 3, 4 and 5 do not apply.
 use mathlib.Core.Path.{_≡_, refl, sym, ap, _∙_}
-use mathlib.Core.Bool.{Bool, true, false, not, _&&_, _||_, and-false}
+use mathlib.Core.Bool.{Bool, true, false, not, _&&_, _||_, and-false, or-true, or-false}
 use mathlib.Core.List.{[], _∷_}
 use Prim.Native.Nat.{ℕ, zero, suc, _^_, _<_}
 use native.Mathlib.Omega.{arith}
@@ -10,10 +10,10 @@ use borrow.Author.Tests.{eqb-true, eq-eqb, ne-eqb, leb-false, lt-ltb, lt-leb, no
 use Rattle.model.specs.Base.{some}
 use Rattle.model.specs.Image.{Image, owed}
 use Rattle.model.specs.Records.{Step, Kind, unknown}
-use Rattle.model.specs.Rows.{Role, unused, player, tracer, register, number, rowOf, is, isUnused, isPlayer, limit, reaches, fields}
+use Rattle.model.specs.Rows.{Role, unused, player, tracer, register, card, number, rowOf, is, isUnused, isPlayer, below, limit, reaches, fields}
 use Rattle.model.specs.Steps.{unnamed, offDesk, owes, owing}
 use Rattle.model.proofs.Laws.{or-none, some-false}
-use Rattle.theory.specs.Fields.{fieldAt, roleAt, bound, boundAt}
+use Rattle.theory.specs.Fields.{fieldAt, roleAt, bound, isCard, beyondLimit, noCard}
 
 -- ---- tests of four fields
 
@@ -36,53 +36,68 @@ module _ (s : Step) (n : Kind) (f : Role → ℕ → Bool) where
 
 -- ---- numbers 3 and 4, with words of w bits and k cards
 
-module _ (w k : ℕ) where
+or-pairs : (a b c d : Bool) → ((a || b) || (c || d)) ≡ ((a || c) || (b || d))
+or-pairs true b c d = refl
+or-pairs false true c d = sym (or-true c)
+or-pairs false false c d = refl
+
+-- one of four has the one or the other
+some-either : (a b c d a′ b′ c′ d′ : Bool) → some ((a || a′) ∷ (b || b′) ∷ (c || c′) ∷ (d || d′) ∷ []) ≡ (some (a ∷ b ∷ c ∷ d ∷ []) || some (a′ ∷ b′ ∷ c′ ∷ d′ ∷ []))
+unfolding some
+some-either a b c d a′ b′ c′ d′ = rw (or-pairs d d′ false false, or-pairs c c′, or-pairs b b′, or-pairs a a′) refl
+
+module _ (w : ℕ) where
   -- a role by its limit
-  unused-by : (r : Role) → isUnused r ≡ eqb (bound w k r) 0
+  unused-by : (r : Role) → isUnused r ≡ eqb (bound w r) 0
   unfolding isUnused bound
   unused-by unused = refl
   unused-by player = refl
   unused-by tracer = refl
   unused-by register = refl
+  unused-by card = sym (ne-eqb (2 ^ w) 0 (λ e. omega (arith, pow-pos w)))
   unused-by number = sym (ne-eqb (2 ^ w) 0 (λ e. omega (arith, pow-pos w)))
 
-  reaches-by : (r : Role) (x : ℕ) → x < 2 ^ w → reaches (limit k r) x ≡ (ltb 0 (bound w k r) && leb (bound w k r) x)
-  unfolding reaches limit bound
-  reaches-by unused x h = refl
-  reaches-by player x h = refl
-  reaches-by tracer x h = refl
-  reaches-by register x h = refl
-  reaches-by number x h = sym (ap (λ b. ltb 0 (2 ^ w) && b) (lt-leb (2 ^ w) x h) ∙ and-false (ltb 0 (2 ^ w)))
+  any-number : (x : ℕ) → x < 2 ^ w → (ltb 0 (2 ^ w) && leb (2 ^ w) x) ≡ false
+  any-number x h = ap (λ b. ltb 0 (2 ^ w) && b) (lt-leb (2 ^ w) x h) ∙ and-false (ltb 0 (2 ^ w))
+
+  reaches-by : (k : ℕ) (r : Role) (x : ℕ) → x < 2 ^ w → reaches (limit k r) x ≡ ((ltb 0 (bound w r) && leb (bound w r) x) || (isCard r && leb k x))
+  unfolding reaches limit bound isCard
+  reaches-by k unused x h = refl
+  reaches-by k player x h = sym (or-false (leb 16 x))
+  reaches-by k tracer x h = sym (or-false (leb 8 x))
+  reaches-by k register x h = sym (or-false (leb 16 x))
+  reaches-by k card x h = rw (any-number x h) refl
+  reaches-by k number x h = rw (any-number x h) refl
 
   module _ (s : Step) (n : Kind) where
     -- 3, as one test of the kind and four fields
-    pub unnamed-by : unnamed s n ≡ some (is n unknown ∷ fields s (λ r x. eqb (bound w k r) 0 && not (eqb x 0)) (rowOf n))
+    pub unnamed-by : unnamed s n ≡ some (is n unknown ∷ fields s (λ r x. eqb (bound w r) 0 && not (eqb x 0)) (rowOf n))
     unfolding unnamed is fields some
     unnamed-by = λ j. (is n unknown || some (fields s (λ r x. unused-by r j && not (eqb x 0)) (rowOf n)))
 
-    -- 4, as one test of four fields
-    pub off-by : ((i : ℕ) → i < 4 → fieldAt s i < 2 ^ w) → offDesk s k n ≡ some (fields s (λ r x. ltb 0 (bound w k r) && leb (bound w k r) x) (rowOf n))
-    unfolding offDesk fields fieldAt
-    off-by f =
-        λ j. some
-        (reaches-by ((rowOf n) .who) (s .who) (f 0 (omega arith)) j
-        ∷ reaches-by ((rowOf n) .a) (s .a) (f 1 (omega arith)) j
-        ∷ reaches-by ((rowOf n) .b) (s .b) (f 2 (omega arith)) j
-        ∷ reaches-by ((rowOf n) .c) (s .c) (f 3 (omega arith)) j
-        ∷ [])
+    -- 4, as two tests of four fields
+    pub off-by : (k : ℕ) → ((i : ℕ) → i < 4 → fieldAt s i < 2 ^ w) → offDesk s k n ≡ (beyondLimit w s n || noCard k s n)
+    unfolding offDesk fields fieldAt beyondLimit noCard
+    off-by k f =
+        (λ j. some
+        (reaches-by k ((rowOf n) .who) (s .who) (f 0 (omega arith)) j
+        ∷ reaches-by k ((rowOf n) .a) (s .a) (f 1 (omega arith)) j
+        ∷ reaches-by k ((rowOf n) .b) (s .b) (f 2 (omega arith)) j
+        ∷ reaches-by k ((rowOf n) .c) (s .c) (f 3 (omega arith)) j
+        ∷ []))
+        ∙ some-either _ _ _ _ _ _ _ _
 
-    -- what they say of a field where they do not apply
-    pub field-zero : unnamed s n ≡ false → (i : ℕ) → i < 4 → boundAt w k n i ≡ 0 → fieldAt s i ≡ 0
-    unfolding unnamed is boundAt
-    field-zero e i h z =
-        eqb-true _ _ (not-false _ (sym (ap (λ b. b && not (eqb (fieldAt s i) 0)) (unused-by (roleAt n i) ∙ eq-eqb _ _ z))
-        ∙ no-test s n stray ((or-none (is n unknown) (some (fields s stray (rowOf n))) e) .1) i h))
+-- ---- what they say of a field where they do not apply
 
-    pub field-below : offDesk s k n ≡ false → (i : ℕ) → i < 4 → fieldAt s i < 2 ^ w → 0 < boundAt w k n i → fieldAt s i < boundAt w k n i
-    unfolding offDesk boundAt
-    field-below e i h f l =
-        let t = sym (reaches-by (roleAt n i) (fieldAt s i) f) ∙ no-test s n (λ r x. reaches (limit k r) x) e i h in
-        leb-false _ _ (rw (lt-ltb 0 (bound w k (roleAt n i)) l) at t)
+module _ (s : Step) (n : Kind) where
+  pub field-zero : unnamed s n ≡ false → (i : ℕ) → i < 4 → roleAt n i ≡ unused → fieldAt s i ≡ 0
+  unfolding unnamed is
+  field-zero e i h z =
+      eqb-true _ _ (not-false _ (sym (ap (λ r. stray r (fieldAt s i)) z) ∙ no-test s n stray ((or-none (is n unknown) (some (fields s stray (rowOf n))) e) .1) i h))
+
+  pub field-below : (k : ℕ) → offDesk s k n ≡ false → (i : ℕ) → i < 4 → (l : ℕ) → limit k (roleAt n i) ≡ below l → fieldAt s i < l
+  unfolding offDesk reaches
+  field-below k e i h l b = leb-false _ _ (sym (ap (λ y. reaches y (fieldAt s i)) b) ∙ no-test s n (λ r x. reaches (limit k r) x) e i h)
 
 -- ---- number 5
 

@@ -1,24 +1,27 @@
--- Numbers 9 and 11 over steps: each is given exactly where document 01's condition holds, and else the step is accepted.
+-- Numbers 9 and 11 over steps: each is given exactly where the documents' condition holds, and else the step is accepted.
 use mathlib.Core.Path.{_≡_, refl, sym, ap, _∙_}
 use mathlib.Core.Logic.{inl, inr}
 use mathlib.Core.Bool.{Bool, true, false, not, and-true, and-false}
-use Prim.Native.Nat.{ℕ, suc, _*_, _-_, _≤_, _<_}
+use mathlib.Core.List.{List, [], _∷_}
+use Prim.Native.Nat.{ℕ, suc, _+_, _*_, _-_, _/_, _≤_, _<_}
 use native.Mathlib.Decide.{ℕ-discrete}
 use native.Mathlib.Omega.{arith}
 use lib.Dec.{eqb}
-use borrow.Author.Tests.{eqb-true, eqb-false, eq-eqb, ne-eqb, ltb-true, ltb-false, le-ltb, not-true, not-false}
-use Rattle.model.specs.Base.{every, first, lowest}
-use Rattle.model.specs.Image.{Image, count, owed, scanned}
-use Rattle.model.specs.Records.{Step, new, barrier, scan, trace, clean, kindOf}
+use borrow.Author.Tests.{eqb-true, eqb-false, eq-eqb, ne-eqb, ltb-true, ltb-false, le-ltb, lt-leb, not-true, not-false}
+use Rattle.model.specs.Base.{every, first, lowest, howMany}
+use Rattle.model.specs.Image.{Image, marked, dirty, cardCount, count, owed, scanned}
+use Rattle.model.specs.Records.{Step, new, barrier, scan, trace, clean, undirty, kindOf}
 use Rattle.model.specs.Mutate.{roomFor}
 use Rattle.model.specs.Collect.{held, fullest, hasEntries, traceLine, lowestDirty, cleanLine}
-use Rattle.model.specs.Steps.{noRoom, refusal, accept, act, step, numbers-open}
+use Rattle.model.specs.Steps.{noRoom, nothingToDo, refusal, accept, act, step, numbers-open}
 use Rattle.model.proofs.Laws.{false≢, some-use, some-nil, some-make, every-use, any-use, any-make, best-ok, best-none, first-none, not-make}
 use Rattle.theory.specs.Lines.{Undamaged}
 use Rattle.theory.specs.Pieces.{Stretch}
-use Rattle.theory.specs.Numbers.{RefusedWhere, GoodNew, GoodBarrier, GoodScan, GoodTracer, NoEntries, InPool, NoTraceLine, NoCleanLine}
+use Rattle.theory.specs.Numbers.{RefusedWhere, GoodNew, GoodBarrier, GoodScan, GoodTracer, NoEntries, InPool, NoTraceLine, NoCleanLine, GoodUndirty, NothingToWipe}
 use Rattle.theory.proofs.heap.Facts.{heap-filled-of, heap-sized-of}
 use Rattle.theory.proofs.new.Room.{room-stretch, room-lowest, no-room}
+use Rattle.model.proofs.Counts.{some-howMany}
+use Rattle.theory.proofs.steps.Undirty.{none-marked}
 use Rattle.theory.proofs.steps.Steps.{zero-or-suc, step-number, line, accepted, good-size}
 
 -- ---- from the test of one line to the number
@@ -160,3 +163,28 @@ module _ (m : Image) (s : Step) (f : GoodTracer m s) where
       refused-where m s 10 (eqb (cleanLine m (s .who)) 0)
       (step-number m s k ∙ (rw (f .no-fields .0, f .no-fields .1, f .no-fields .2, le-ltb 7 (s .who) (omega arith), f .in-cycle)))
       (λ e. clean-none m (s .who) (eqb-true _ _ e)) (λ p. eq-eqb _ _ (none-clean m (s .who) p))
+
+-- ---- 11: "if the card isn't dirty or its count isn't 0"
+
+module _ (m : Image) (s : Step) (u : Undamaged m) (f : GoodUndirty m s) where
+  -- a count that is not 0 has an object
+  some-marked : (cardCount m (s .a) ≡ 0 → ⊥) → (g : ℕ) × (g / 64 ≡ s .a) × (marked m g ≡ true)
+  unfolding cardCount marked
+  some-marked n =
+      let r = some-howMany (λ j. marked m (64 * s .a + j)) 64 (λ z. n (u .sound .lines .marks-ok .counted (s .a) (f .card) ∙ z)) in
+      (64 * s .a + r .0, omega (arith, r .1), r .2)
+
+  pub undirty-nothing : kindOf (s .kind) ≡ undirty → RefusedWhere m s 11 (NothingToWipe m (s .a))
+  unfolding numbers-open first
+  undirty-nothing k =
+      let counted : List Bool = not (eqb (cardCount m (s .a)) 0) ∷ [] in
+      refused-where m s 10 (nothingToDo m s undirty)
+      (step-number m s k ∙ (rw (f .no-fields .0, f .no-fields .1, f .no-fields .2, lt-leb (m .k) (s .a) (f .card), f .in-cycle)))
+      (λ e. elim (some-use (not (dirty m (s .a))) counted e) [
+        | inl q ↦ inl (not-true _ q)
+        | inr q ↦ elim (some-use (not (eqb (cardCount m (s .a)) 0)) [] q) [ inl z ↦ inr (some-marked (eqb-false _ _ (not-true _ z))) | inr z ↦ some-nil z ]
+      ])
+      (λ p. elim p [
+        | inl q ↦ some-make (not (dirty m (s .a)) ∷ counted) 0 (ap not q)
+        | inr (g, e, q) ↦ some-make (not (dirty m (s .a)) ∷ counted) 1 (ap not (ne-eqb _ _ (λ z. none-marked m (u .sound .lines) (s .a) (f .card) z g e q)))
+      ])

@@ -10,16 +10,16 @@ use lib.Dec.{eqb}
 use lib.ListN.{length, take}
 use borrow.Author.Tests.{ltb-true, leb-false, eqb-true, eqb-false, not-true, eq-eqb}
 use Rattle.model.specs.Base.{nth, some}
-use Rattle.model.specs.Image.{Image, granules, word, marked, links, link, state, dirty, reg, count, entry, input, output, hand, nextLink, handCard, nextGranule, owed, withMarks, withCards, withPackets, withTracers, setMark, setState, dirtyCard, setTracer}
+use Rattle.model.specs.Image.{Image, granules, word, marked, links, link, state, dirty, reg, count, entry, input, output, hand, nextLink, handCard, nextGranule, owed, cardCount, withMarks, withCards, withCounts, withPackets, withTracers, setMark, markObject, setState, dirtyState, dirtyCard, setTracer}
 use Rattle.model.specs.Collect.{held, emptiest, append, noOutput, takeOutput, enter, reach, reachAll}
 use Rattle.model.proofs.Laws.{false≢, bool-cases, any-make, every-use, some-use, some-nil, some-make, nth-put-same, nth-put-other, best-ok, some-false}
 use Rattle.model.proofs.Bits.{setBit-same, setBit-other, setBit-keeps}
 use Rattle.theory.specs.Cover.{Coming, Covered, Cover, on-dirty, on-entry, on-hand, on-card, owes-by, to-nil, to-marked, is-coming, is-owed}
 use Rattle.theory.specs.Lines.{PacketsOk, NilOr, Start, Lines}
 use Rattle.theory.proofs.lines.Covering.{dirty-same, dirty-keeps, hold-coming, same-coming}
-use Rattle.theory.proofs.lines.Lines.{put-packets, put-tracers, put-marks, put-cards}
+use Rattle.theory.proofs.lines.Lines.{put-packets, put-tracers, put-marks, put-state}
 use Rattle.theory.proofs.lines.Packets.{append-new, append-on, append-ok}
-use Rattle.theory.proofs.lines.Sections.{hold-ok, dirtied-ok, dirtied-on, mark-ok}
+use Rattle.theory.proofs.lines.Sections.{hold-ok, dirty-changes, mark-ok}
 use Rattle.theory.proofs.steps.Steps.{zero-or-suc}
 
 -- ---- what is marked, and where it is entered
@@ -54,9 +54,9 @@ packet-unheld m p e u zero hu hj x =
 packet-unheld m p e u (suc zero) hu hj x = false≢ (sym e ∙ any-make 8 _ u hu (some-make _ 1 (eq-eqb _ _ x)))
 packet-unheld m p e u (suc (suc j)) hu hj x = absurd (omega arith)
 
-pub mark-lines : {m : Image} → Lines m → (a : ℕ) → Start m a → Lines (setMark m a)
-unfolding setMark
-mark-lines {m} o a sa = put-marks o _ (mark-ok (o .marks-ok) a sa) (λ g k. setBit-keeps (m .width) (m .marks) a g (o .marks-ok .sized a (sa .0)) k)
+pub mark-lines : {m : Image} → Lines m → (a : ℕ) → Start m a → marked m a ≡ false → Lines (markObject m a)
+unfolding markObject setMark cardCount marked
+mark-lines {m} o a sa un = put-marks o _ _ (mark-ok (o .marks-ok) a sa (sa .0) un) (λ g k. setBit-keeps (m .width) (m .marks) a g (o .marks-ok .sized a (sa .0)) k)
 
 emptiest-ok : (m : Image) (q : ℕ) → emptiest m ≡ suc q → (q < 32) × (held m q ≡ false) × (count m q < 30)
 unfolding emptiest
@@ -94,7 +94,7 @@ took {m} o t p ht e =
 
 pub dirty-lines : {m : Image} → Lines m → (c : ℕ) → c < m .k → Lines (dirtyCard m c)
 unfolding dirtyCard setState state
-dirty-lines o c h = put-cards o _ (dirtied-ok (o .cards-ok) c h) (λ d. dirtied-on (o .cards-ok) c d h)
+dirty-lines o c h = put-state o dirtyState dirty-changes c h
 
 -- ---- reach
 
@@ -139,25 +139,25 @@ reached-cover {m} {a} {m′} r cov g i hg k l =
     ]
 
 -- a marked object is the one just marked, or was so
-marks-new : (m : Image) (a g : ℕ) → marked m g ≡ false → marked (setMark m a) g ≡ true → g ≡ a
-unfolding setMark withMarks marked
+marks-new : (m : Image) (a g : ℕ) → marked m g ≡ false → marked (markObject m a) g ≡ true → g ≡ a
+unfolding markObject setMark withMarks withCounts marked
 marks-new m a g u k = elim (ℕ-discrete g a) [ yes e ↦ e | no ne ↦ false≢ (sym u ∙ (sym (setBit-other (m .width) (m .marks) a g ne) ∙ k)) ]
 
 module _ (m : Image) (o : Lines m) (t a : ℕ) (ht : t < 8) where
   -- the object marked, and an output packet taken
   abbrev ready : Image
-  ready = takeOutput (setMark m a) t
+  ready = takeOutput (markObject m a) t
 
   ready-coming : (g i : ℕ) → Coming m g i → Coming ready g i
-  unfolding takeOutput setMark withMarks
-  ready-coming g i c = hold-coming (setMark m a) t 1 _ (omega arith) g i (same-coming m (setMark m a) refl refl refl g i c)
+  unfolding takeOutput markObject setMark withMarks withCounts
+  ready-coming g i c = hold-coming (markObject m a) t 1 _ (omega arith) g i (same-coming m (markObject m a) refl refl refl g i c)
 
   reach-new : marked m a ≡ false → Start m a → ReachedOnce m a (enter ready t a)
-  unfolding takeOutput setTracer withTracers setMark withMarks dirtyCard setState withCards append withPackets marked count entry
+  unfolding takeOutput setTracer withTracers markObject setMark withMarks withCounts dirtyCard setState withCards append withPackets marked count entry
   reach-new un sa =
       let room = o .marks-ok .sized a (sa .0) in
       let here = setBit-same (m .width) (m .marks) a room in
-      let o₁ = mark-lines o a sa in
+      let o₁ = mark-lines o a sa un in
       let o₂ : Lines ready = take-lines o₁ t ht in
       let hc : a / 64 < m .k = omega (arith, sa .0) in
       let hc′ : a / 64 < length (m .cards) = rw (o .cards-ok .sized) hc in

@@ -9,7 +9,7 @@ use lib.ListN.{getD}
 use lib.Dec.{ltb}
 use borrow.Author.Tests.{ltb-false, eqb-false}
 use Rattle.model.specs.Image.{Image}
-use Rattle.model.specs.Records.{Step, Kind, new, load, store, barrier, handOver, dropReg, read, write, begin, scan, trace, clean, finish, isDue, unknown, kindOf}
+use Rattle.model.specs.Records.{Step, Kind, new, load, store, barrier, handOver, dropReg, read, write, begin, scan, trace, clean, finish, isDue, undirty, unknown, kindOf}
 use Rattle.model.specs.Steps.{Done, unnamed, offDesk, owing, noObject, pastEnd, badSize, noRoom, wrongPhase, nothingToDo, refusal, accept, finishDone, act, outcome, step, run, after}
 use Rattle.model.proofs.Laws.{first-none, some-false}
 
@@ -49,6 +49,7 @@ module _ (m : Image) (s : Step) where
   act-number clean = refl
   act-number finish = refl
   act-number isDue = refl
+  act-number undirty = refl
   act-number unknown = refl
 
   pub outcome-number : (n : Kind) (r : ℕ) → (outcome m s n r) .number ≡ r

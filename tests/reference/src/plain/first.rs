@@ -1,4 +1,4 @@
-//! The first image as the plain store reads it, from document 01's layout anew and not by `crate::image`, which the real steps use.
+//! The first image as the plain store reads it, from the documents' layout anew and not by `crate::image`, which the real steps use.
 
 /// The words of an undamaged image of `k` cards.
 pub struct First<'a> {
@@ -14,9 +14,9 @@ pub struct FirstObject<'a> {
 }
 
 impl<'a> First<'a> {
-    /// "Its length is 265 × k + 1384 words"
+    /// "an image is then 266 × k + 1384 words"
     pub fn of(words: &'a [u16]) -> First<'a> {
-        First { words, k: (words.len() - 1384) / 265 }
+        First { words, k: (words.len() - 1384) / 266 }
     }
 
     /// "Start bits are set at every object's first granule"; the heap, 4 × 64 × k words, lies before them.
@@ -37,13 +37,13 @@ impl<'a> First<'a> {
         FirstObject { granule, links, levels }
     }
 
-    /// "Registers: 16 players of 16 words", after a heap of 256 words a card, bits of 4 and 4, and the card's own word.
+    /// "Registers: 16 players of 16 words", after a heap of 256 words a card, bits of 4 and 4, the card's own word and its count.
     pub fn register(&self, player: usize, register: usize) -> u16 {
-        self.words[265 * self.k + 16 * player + register]
+        self.words[266 * self.k + 16 * player + register]
     }
 
     /// "Players, 16 of 2 words: owed card + 1 or 0", after 256 words of registers, 1,024 of packets and 64 of tracers.
     pub fn owes(&self, player: usize) -> bool {
-        self.words[265 * self.k + 1344 + 2 * player] != 0
+        self.words[266 * self.k + 1344 + 2 * player] != 0
     }
 }

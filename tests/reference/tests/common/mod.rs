@@ -1,9 +1,14 @@
-//! Small lists of steps by hand.
+//! Small lists of steps by hand, and drawn cases.
 
 #![allow(dead_code)]
 
+pub mod altered;
+
 use reference::batch;
+use reference::cases::case;
 use reference::made::fresh_image;
+use reference::random::Random;
+use reference::vectors::{BatchCase, Case};
 
 pub use reference::record::*;
 pub use reference::Record;
@@ -56,6 +61,10 @@ pub fn finish() -> Record {
     step(FINISH, 0, 0, 0, 0)
 }
 
+pub fn undirty(card: u16) -> Record {
+    step(UNDIRTY, 0, card, 0, 0)
+}
+
 pub fn bytes(records: &[Record]) -> Vec<u8> {
     records.iter().flat_map(|r| r.to_bytes()).collect()
 }
@@ -78,4 +87,32 @@ pub fn last(records: &[Record]) -> (u16, u16) {
     let (last, others) = answers.split_last().expect("a list that is not empty");
     assert!(others.iter().all(|(number, _)| *number == 0), "{answers:?}");
     *last
+}
+
+/// The cases that `draw` prints.
+pub fn draw(seed: u64, count: u64) -> Vec<Case> {
+    let mut random = Random::new(seed);
+    (0..count).map(|number| case(&mut random, number)).collect()
+}
+
+pub fn batch_cases(cases: &[Case]) -> Vec<&BatchCase> {
+    let mut batches = Vec::new();
+    for case in cases {
+        if let Case::Batch(batch) = case {
+            batches.push(batch);
+        }
+    }
+    batches
+}
+
+/// The cases that the gate has the checker compute, by the seed and the count in `tests/run`, ten at a time as `tests/definitions`
+/// draws them.
+pub fn cases_of_the_gate() -> Vec<Case> {
+    let words = include_str!("../../../run").lines().find_map(|line| line.strip_prefix("./definitions "));
+    let (seed, count) = words.and_then(|words| words.split_once(' ')).expect("a seed and a count");
+    gate_cases(seed.parse().unwrap(), count.parse().unwrap())
+}
+
+pub fn gate_cases(seed: u64, count: u64) -> Vec<Case> {
+    (0..count).step_by(10).flat_map(|from| draw(seed + from, count.min(from + 10) - from)).collect()
 }

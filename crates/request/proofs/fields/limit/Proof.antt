@@ -12,4 +12,4 @@ limit-spec =
     tie.close
     (tie.spec (λ c κs. search needs) (λ c κs. search needs) (λ c κs. search needs) (λ c κs. search needs) (λ c. search limit-at)
     (λ c. search limit-at) (λ c. search limit-at)
-    (λ c. let q = c .before .before in limit-at _ (q .pre .0) 3 (q .args .i) (omega (arith, c .before .match .rest, q .pre .1)) _ _ _ _ (c .limit-by4 .ensures) refl))
+    (λ c. let q = c .before .before in limit-at _ (q .pre .0) 3 (q .args .i) (omega (arith, c .before .match .rest, q .pre .1)) _ _ _ (c .limit-by4 .ensures) refl))

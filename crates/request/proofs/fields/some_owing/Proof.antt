@@ -10,8 +10,8 @@ unfolding requested fieldAt
 some-owing-spec =
     tie.close
     (tie.spec
-    (λ c κs. let q = c .before .pre in (q .0, ((q .1 .1 .0, omega arith), debtor-below _ _ _ (q .1 .0) (q .1 .1 .1) 0 (omega arith))))
-    (λ c κs. let q = c .before .before .pre in (q .0, ((q .1 .1 .0, omega arith), debtor-below _ _ _ (q .1 .0) (q .1 .1 .1) 1 (omega arith))))
-    (λ c κs. let q = c .before .before .before .pre in (q .0, ((q .1 .1 .0, omega arith), debtor-below _ _ _ (q .1 .0) (q .1 .1 .1) 2 (omega arith))))
-    (λ c κs. let q = c .before .before .before .before .pre in (q .0, ((q .1 .1 .0, omega arith), debtor-below _ _ _ (q .1 .0) (q .1 .1 .1) 3 (omega arith))))
+    (λ c κs. let q = c .before .pre in (q .0, ((q .1 .0, omega arith), debtor-below _ _ (q .1 .1) 0 (omega arith))))
+    (λ c κs. let q = c .before .before .pre in (q .0, ((q .1 .0, omega arith), debtor-below _ _ (q .1 .1) 1 (omega arith))))
+    (λ c κs. let q = c .before .before .before .pre in (q .0, ((q .1 .0, omega arith), debtor-below _ _ (q .1 .1) 2 (omega arith))))
+    (λ c κs. let q = c .before .before .before .before .pre in (q .0, ((q .1 .0, omega arith), debtor-below _ _ (q .1 .1) 3 (omega arith))))
     (λ c. search owing-found))

@@ -1,6 +1,6 @@
 use borrow.Author.Needs.{needs}
 use Prim.Native.Nat.{_*_}
-use Rattle.image.specs.Layout.{width, cardsFrom, perCard}
+use Rattle.image.specs.Layout.{width, cardsFrom, countsFrom}
 use Rattle.model.specs.Image.{cardsAt, imageOf, image, split, withCards}
 use Rattle.image_laws.proofs.Clearing.{zero-whole}
 use Rattle.stretches.proofs.clearing.clear_cards.Statement.{statement}
@@ -8,7 +8,7 @@ use Rattle.stretches.proofs.clearing.clear_cards.Tie as tie
 
 returns : tie.Need-returns
 unfolding imageOf image split withCards
-returns c = let A = c .before .before .before .before .before .args in zero-whole width (A .k) (A .im .now) cardsAt (cardsFrom * A .k) (perCard * A .k) (search needs) (search needs) (search needs) (c .before .before .clear .last .0) (c .before .before .clear .ensures)
+returns c = let A = c .before .before .before .before .before .args in zero-whole width (A .k) (A .im .now) cardsAt (cardsFrom * A .k) (countsFrom * A .k) (search needs) (search needs) (search needs) (c .before .before .clear .last .0) (c .before .before .clear .ensures)
 
 pub clear-cards-spec : {M : Type 1} → statement M
 clear-cards-spec =
