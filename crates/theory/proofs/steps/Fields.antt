@@ -6,7 +6,7 @@ use Prim.Native.Nat.{ℕ, zero, suc, _^_, _<_}
 use native.Mathlib.Omega.{arith}
 use lib.Dec.{leb, ltb, eqb}
 use lib.Pow.{pow-pos}
-use borrow.Author.Tests.{eqb-true, eq-eqb, ne-eqb, leb-false, lt-ltb, lt-leb, not-false}
+use borrow.Author.Tests.{eqb-true, ne-eqb, leb-false, lt-leb, not-false}
 use Rattle.model.specs.Base.{some}
 use Rattle.model.specs.Image.{Image, owed}
 use Rattle.model.specs.Records.{Step, Kind, unknown}

@@ -8,7 +8,7 @@ use native.Mathlib.Decide.{ℕ-discrete}
 use native.Mathlib.Omega.{arith}
 use lib.Dec.{eqb}
 use borrow.Author.Tests.{eqb-true, eqb-false, eq-eqb, ne-eqb, ltb-true, ltb-false, le-ltb, lt-leb, not-true, not-false}
-use Rattle.model.specs.Base.{every, first, lowest, howMany}
+use Rattle.model.specs.Base.{every, first, lowest}
 use Rattle.model.specs.Image.{Image, marked, dirty, cardCount, count, owed, scanned}
 use Rattle.model.specs.Records.{Step, new, barrier, scan, trace, clean, undirty, kindOf}
 use Rattle.model.specs.Mutate.{roomFor}
