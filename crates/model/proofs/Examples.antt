@@ -2,13 +2,16 @@
 use mathlib.Core.Path.{_≡_, refl, sym, _∙_}
 use mathlib.Core.Bool.{true}
 use mathlib.Core.List.{[], _∷_}
-use Rattle.model.specs.Image.{parts}
+use lib.ListN.{replicate}
+use Rattle.model.specs.Base.{put}
+use Rattle.model.specs.Image.{heapAt, parts}
 use Rattle.model.specs.Undamaged.{sound}
 use Rattle.model.specs.Batch.{judgeOf, finishOf}
+use Rattle.model.specs.Map.{mapOf}
 use Rattle.model.specs.Plain.{old, plainOf, feed, plainRun, readings, SameAnswers}
 use Rattle.model.specs.Open.{model-open}
 use Rattle.model.specs.Cases.{bytes, oneCard, answered, ok, refused, cases-open}
-use Rattle.model.specs.Examples.{linkBehind, owedByOne, owedAndHeld, allFreed, scattered, longCue, duesNear, wiping, wipingSaid, miscounted, dueBefore, again, againSaid, examples-open}
+use Rattle.model.specs.Examples.{at, linkBehind, owedByOne, owedAndHeld, allFreed, scattered, longCue, duesNear, wiping, wipingSaid, miscounted, shown, shownSheet, crossing, crossingSheet, dueBefore, again, againSaid, examples-open}
 
 -- a link before the next one of an object in hand: Cover fails, and a finish, which goes by object, keeps what it links to
 pub behind-sound : sound (parts 16 linkBehind) ≡ true
@@ -60,6 +63,24 @@ wiping-said = refl
 pub counts-judged : judgeOf (miscounted 0) ∷ judgeOf (miscounted 1) ∷ judgeOf (miscounted 2) ∷ [] ≡ 2 ∷ 0 ∷ 2 ∷ []
 unfolding model-open cases-open examples-open
 counts-judged = refl
+
+-- an object of three granules, a marked one and a run on a dirty card; an object that runs over a card's end
+pub shown-sheet : mapOf shown (replicate 73 7) ≡ record { result = 0; output = shownSheet }
+unfolding model-open cases-open examples-open
+shown-sheet = refl
+
+pub crossing-sheet : mapOf crossing (replicate 146 7) ≡ record { result = 0; output = crossingSheet }
+unfolding model-open cases-open examples-open
+crossing-sheet = refl
+
+-- 3 granules have no room for 11 links; a wrong length goes before damage, and both leave the output as it was
+pub damaged-unwritten : mapOf (put shown (at heapAt 5) 11) (replicate 73 7) ≡ record { result = 2; output = replicate 73 7 }
+unfolding model-open cases-open examples-open
+damaged-unwritten = refl
+
+pub misfit-unwritten : mapOf (put shown (at heapAt 5) 11) (replicate 74 7) ≡ record { result = 1; output = replicate 74 7 }
+unfolding model-open cases-open examples-open
+misfit-unwritten = refl
 
 -- a granule that is used again is another object: the real answers, read, and the plain store's
 pub again-read : readings old 0 again ≡ againSaid

@@ -1,14 +1,14 @@
 -- Worked images and lists that the starred cases do not reach: a finish on an image without Cover, Cover and its two players, runs joined, runs
--- too short to be usable, cards wiped; and a history with the plain store beside it.
+-- too short to be usable, cards wiped, maps; and a history with the plain store beside it.
 use mathlib.Core.Bool.{cond}
 use mathlib.Core.List.{List, [], _∷_, _++_}
 use Prim.Native.Nat.{ℕ, zero, suc, _+_, _*_}
 use lib.Dec.{ltb}
 use lib.ListN.{length, replicate}
 use Rattle.model.specs.Base.{put, table}
-use Rattle.model.specs.Image.{Image, heapAt, countsAt, regsAt, playersAt, lengths, place}
+use Rattle.model.specs.Image.{Image, heapAt, countsAt, regsAt, playersAt, lengths, imageLength, place}
 use Rattle.model.specs.Mutate.{freeGranules}
-use Rattle.model.specs.Batch.{Batch, batchOf}
+use Rattle.model.specs.Batch.{Batch, freshOf, batchOf}
 use Rattle.model.specs.Steps.{Event}
 use Rattle.model.specs.Plain.{made, as-object, as-is, Reply}
 use Rattle.model.specs.Claim.{history}
@@ -87,6 +87,26 @@ wipingSaid =
 unfoldable pub miscounted : ℕ → List ℕ
 miscounted n = put inHand (at countsAt 0) n
 
+-- Granules 1 to 3 for player 0, granule 4 for player 1, the rest a run; begin, player 1 is scanned, player 0 stores and pays its barrier.
+unfoldable pub shown : List ℕ
+shown = left (rec 1 0 0 3 1 ∷ rec 1 1 0 1 0 ∷ rec 9 0 0 0 0 ∷ rec 10 0 1 0 0 ∷ rec 3 0 0 0 0 ∷ rec 4 0 0 0 0 ∷ [])
+
+-- its line: 0000 1 .o--#.. and so on
+unfoldable pub shownSheet : List ℕ
+shownSheet = (48 ∷ 48 ∷ 48 ∷ 48 ∷ 32 ∷ 49 ∷ 32 ∷ 46 ∷ 111 ∷ 45 ∷ 45 ∷ 35 ∷ []) ++ (replicate 59 46 ++ (32 ∷ 10 ∷ []))
+
+-- two cards; an object of 62 granules, and one of 5 at granule 63, which runs over the end of card 0
+unfoldable pub crossing : List ℕ
+crossing =
+    let fresh : List ℕ = (freshOf (replicate (imageLength 16 2) 7)) .image in
+    let r : Batch = batchOf fresh (bytes (rec 1 0 0 62 0 ∷ rec 1 0 1 5 0 ∷ [])) (replicate 4 0) in r .image
+
+-- its lines: 0000 0 .o- .. -o and 0001 0 ----. ..
+unfoldable pub crossingSheet : List ℕ
+crossingSheet =
+    (48 ∷ 48 ∷ 48 ∷ 48 ∷ 32 ∷ 48 ∷ 32 ∷ 46 ∷ 111 ∷ []) ++ (replicate 61 45 ++ (111 ∷ 32 ∷ 10 ∷ []))
+    ++ (48 ∷ 48 ∷ 48 ∷ 49 ∷ 32 ∷ 48 ∷ 32 ∷ []) ++ (replicate 4 45 ++ (replicate 60 46 ++ (32 ∷ 10 ∷ [])))
+
 -- what document 01's rule says of an image and a: "value 1 if fewer than a granules are free, else 0"
 unfoldable pub dueBefore : Image → ℕ → ℕ
 dueBefore m a = cond (ltb (freeGranules m) a) 1 0
@@ -109,5 +129,5 @@ againSaid =
 
 -- opens all of these
 unfoldable pub examples-open : ℕ
-unfolding at left inHand linkBehind traced owedByOne owedAndHeld allFreed byTurns scattered longCue nearEight duesNear wiping wipingSaid miscounted dueBefore again againSaid
+unfolding at left inHand linkBehind traced owedByOne owedAndHeld allFreed byTurns scattered longCue nearEight duesNear wiping wipingSaid miscounted shown shownSheet crossing crossingSheet dueBefore again againSaid
 examples-open = 0

@@ -9,6 +9,7 @@ pub mod Closure
 pub mod Finish
 pub mod Steps
 pub mod Batch
+pub mod Map
 pub mod Cases
 pub mod Examples
 pub mod Plain

@@ -6,3 +6,4 @@ pub mod Facts
 pub mod Free
 pub mod Unused
 pub mod Outside
+pub mod Signs

@@ -11,3 +11,4 @@ pub mod New
 pub mod Numbers
 pub mod Fields
 pub mod Due
+pub mod Map

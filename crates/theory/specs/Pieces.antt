@@ -2,11 +2,12 @@
 use mathlib.Core.Path.{_≡_}
 use mathlib.Core.Logic.{_⊎_}
 use mathlib.Core.List.{List, [], _∷_}
-use mathlib.Core.Bool.{Bool, true, false, not, cond, _&&_}
+use mathlib.Core.Bool.{Bool, true, false, not, cond}
 use Prim.Native.Nat.{ℕ, suc, _+_, _*_, _-_, _≤_, _<_}
 use lib.Dec.{leb, ltb}
 use Rattle.model.specs.Base.{nth, all, any, every, sumBelow, howMany}
 use Rattle.model.specs.Image.{Image, granules, word, isStart, size}
+use Rattle.model.specs.Map.{inObject}
 use Rattle.theory.specs.Heap.{Bare}
 
 -- the words from granule g on are those that rd reads
@@ -97,10 +98,6 @@ sizes st rd g = cond (st g) (rd g 0) 0
 
 unfoldable pub usedGranules : Image → ℕ
 usedGranules m = sumBelow (sizes (isStart m) (word m)) (granules m)
-
--- granule y is in an object
-unfoldable pub inObject : Image → ℕ → Bool
-inObject m y = any (suc y) (λ h. isStart m h && ltb y (h + size m h))
 
 -- the number of granules that are in no object, granule 0 among them
 unfoldable pub granulesOutside : Image → ℕ

@@ -9,10 +9,11 @@ use lib.Dec.{leb, ltb}
 use borrow.Author.Tests.{le-leb, ltb-true, lt-ltb, not-true}
 use Rattle.model.specs.Base.{every, sumBelow, howMany}
 use Rattle.model.specs.Image.{Image, granules, word, isStart, size, firstRun}
+use Rattle.model.specs.Map.{inObject}
 use Rattle.model.specs.Mutate.{sumRuns, freeFrom, freeGranules, ifLong, granulesInRuns}
 use Rattle.model.proofs.Laws.{false≢, bool-cases, not-make, same-test, and-split, and-join, all-use, all-make, any-use, any-make, every-use}
 use Rattle.theory.specs.Heap.{HeapFilled, HeapSized}
-use Rattle.theory.specs.Pieces.{at-end, at-object, at-run, PiecesIn, RunApart, Unused, InRun, Clear, inObject, granulesOutside, unused, isStretch, inStretch, granulesInStretches}
+use Rattle.theory.specs.Pieces.{at-end, at-object, at-run, PiecesIn, RunApart, Unused, InRun, Clear, granulesOutside, unused, isStretch, inStretch, granulesInStretches}
 use Rattle.theory.proofs.heap.Walk.{object-at}
 use Rattle.theory.proofs.heap.Pieces.{image-pieces}
 use Rattle.theory.proofs.heap.Free.{total-same, sum-end}
@@ -21,16 +22,16 @@ use Rattle.theory.proofs.heap.Unused.{clear-object, clear-run, run-apar
 module _ (m : Image) where
   -- ---- which granules are in an object
 
-  object-inside : (x y : ℕ) → isStart m x ≡ true → x ≤ y → y < x + size m x → inObject m y ≡ true
+  pub object-inside : (x y : ℕ) → isStart m x ≡ true → x ≤ y → y < x + size m x → inObject m y ≡ true
   unfolding inObject
   object-inside x y e l q = any-make (suc y) _ x (omega arith) (and-join (isStart m x) (ltb y (x + size m x)) e (lt-ltb _ _ q))
 
-  none-inside : (y : ℕ) → ((h : ℕ) → isStart m h ≡ true → h ≤ y → y < h + size m h → ⊥) → inObject m y ≡ false
+  pub inside-object : (y : ℕ) → inObject m y ≡ true → (x : ℕ) × (isStart m x ≡ true) × (x ≤ y) × (y < x + size m x)
   unfolding inObject
-  none-inside y f = elim (bool-cases (inObject m y)) [
-    | inl e ↦ let u = any-use (suc y) _ e in let k = and-split (isStart m (u .0)) _ (u .2) in absurd (f (u .0) (k .0) (omega (arith, u .1)) (ltb-true _ _ (k .1)))
-    | inr e ↦ e
-  ]
+  inside-object y e = let u = any-use (suc y) _ e in let k = and-split (isStart m (u .0)) _ (u .2) in (u .0, k .0, omega (arith, u .1), ltb-true _ _ (k .1))
+
+  pub none-inside : (y : ℕ) → ((h : ℕ) → isStart m h ≡ true → h ≤ y → y < h + size m h → ⊥) → inObject m y ≡ false
+  none-inside y f = elim (bool-cases (inObject m y)) [ inl e ↦ let u = inside-object y e in absurd (f (u .0) (u .1) (u .2) (u .3)) | inr e ↦ e ]
 
   -- ---- the chain, counted
 
