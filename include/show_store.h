@@ -2,10 +2,10 @@
  *
  * A program lends a slice of words (the image), makes a fresh store in it once, and then hands over batches of steps. Players make
  * objects, link them and read and write their level words; tracers follow the links between the players' steps; a finish frees what
- * nothing holds any more.
+ * nothing holds any more. The service map shows where objects lie.
  *
  * Every function takes every slice: any length, any content, also length 0. A pointer and the length behind it name one slice;
- * the length counts words (bytes for step bytes). Slices of one call must not overlap. Nothing outside the lent memory is
+ * the length counts words (bytes for step bytes and the map). Slices of one call must not overlap. Nothing outside the lent memory is
  * touched, and every call ends. */
 #ifndef SHOW_STORE_H
 #define SHOW_STORE_H
@@ -26,6 +26,10 @@ extern "C" {
 /* A step is a record of so many bytes, and its answer so many words: its number, then its value. */
 #define SHOW_STORE_RECORD_BYTES 8
 #define SHOW_STORE_ANSWER_WORDS 2
+
+/* The service map is a line of so many bytes for each card, the line end among them: so many bytes in all for a store of k cards. */
+#define SHOW_STORE_MAP_LINE_BYTES 73
+#define SHOW_STORE_MAP_BYTES(k) (SHOW_STORE_MAP_LINE_BYTES * (size_t)(k))
 
 /* The desk: players and tracers are counted from 0, and so are a player's registers. */
 #define SHOW_STORE_PLAYERS 16
@@ -99,6 +103,14 @@ uint16_t judge(const uint16_t *image, size_t words);
  * not two words a step), or SHOW_STORE_DAMAGED if the image is damaged: then nothing is written. An undamaged image is handed back
  * undamaged. A refused step does not stop the batch. */
 uint16_t batch(uint16_t *image, size_t words, const uint8_t *steps, size_t bytes, uint16_t *answers, size_t answer_words);
+
+/* Writes the service map into the output: for each card, from 0, a line of 72 characters and a line end (byte 10). A line is the card's
+ * number in four digits, a space, its state digit, a space, a sign for each of its 64 granules, and one space at the end. The state is
+ * 0 clean, 1 dirty, 2 clean and taken in this cycle, 3 dirty and taken. A sign is '.' for a free granule or granule 0, 'o' for the first
+ * granule of an object that is not marked, '#' for that of one that is, '-' for the rest of an object. No zero byte ends the map. Returns
+ * SHOW_STORE_OK; or SHOW_STORE_MISFIT if the image's length fits no store or the output has not exactly 73 bytes a card, or
+ * SHOW_STORE_DAMAGED if the image is damaged: then nothing is written. The image is not altered. */
+uint16_t service_map(const uint16_t *image, size_t words, uint8_t *output, size_t output_bytes);
 
 #ifdef __cplusplus
 }

@@ -1,8 +1,10 @@
-// The library: a fresh store made, an image judged, a batch of steps run. None asks anything of its caller (demand 1a of docs/DEMANDS.md);
+// The library: a fresh store made, an image judged, a batch of steps run, a store printed. None asks anything of its caller (demand 1a of docs/DEMANDS.md);
 // each contract says all that the call returns and leaves (1c, 1d, 2a).
 ghost use mathlib.Core.Path.{_≡_};
 ghost use Rattle.model.specs.Batch.{freshOf, judgeOf, batchOf};
+ghost use Rattle.model.specs.Map.{mapOf};
 ghost use Rattle.image_laws.specs.Fresh.{madeOf};
+ghost use Rattle.service_map_laws.specs.Mapped.{mappedOf};
 ghost use Rattle.show_store_laws.specs.Run.{batched};
 
 pub mod calls; // calls.rt: a batch, at this store's width
@@ -29,4 +31,12 @@ pub extern "C" fn batch(image: &mut [u16], steps: &[u8], answers: &mut [u16]) ->
     ensures { λ r. ⌜ batched r (now (image .exit)) (now (answers .exit)) ≡ batchOf (now (image .entry)) (now (steps .entry)) (now (answers .entry)) ⌝ }
 {
     crate::calls::batch(image, steps, answers)
+}
+
+// "A lent output of another length than 73 bytes a line, or a bad image, leaves it unwritten. Checks: 1 and 2, as for a batch."
+#[no_mangle]
+pub extern "C" fn service_map(image: &[u16], output: &mut [u8]) -> u16
+    ensures { λ r. ⌜ mappedOf r (now (output .exit)) ≡ mapOf (now (image .entry)) (now (output .entry)) ⌝ }
+{
+    service_map::service_map(image, output)
 }

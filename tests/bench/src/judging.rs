@@ -37,7 +37,8 @@ fn judged(images: &[Vec<u16>]) -> Judged {
     sum
 }
 
-fn drawn(make: fn(&mut Random, usize) -> Vec<u16>, k: usize, count: u64) -> Vec<Vec<u16>> {
+/// So many random images of one kind.
+pub fn drawn(make: fn(&mut Random, usize) -> Vec<u16>, k: usize, count: u64) -> Vec<Vec<u16>> {
     (1..=count).map(|seed| make(&mut Random::new(seed), k)).collect()
 }
 

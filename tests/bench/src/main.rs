@@ -6,6 +6,7 @@
 mod calls;
 mod halts;
 mod judging;
+mod mapping;
 mod pauses;
 mod shows;
 mod stepping;
@@ -17,10 +18,11 @@ use timing::Goals;
 
 type Part = fn(&mut Goals);
 
-const PARTS: [(&str, Part); 10] = [
+const PARTS: [(&str, Part); 11] = [
     ("judge", judging::judging),
     ("growth", judging::growing),
     ("fresh", judging::making),
+    ("map", mapping::mapping),
     ("steps", stepping::stepping),
     ("finish", stepping::finishing),
     ("due", stepping::asking),

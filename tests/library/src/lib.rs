@@ -14,6 +14,7 @@ mod exported {
             answers: *mut u16,
             answer_words: usize,
         ) -> u16;
+        pub fn service_map(image: *const u16, words: usize, output: *mut u8, output_bytes: usize) -> u16;
     }
 }
 
@@ -39,4 +40,9 @@ pub fn batch(image: &mut [u16], steps: &[u8], answers: &mut [u16]) -> u16 {
             answers.len(),
         )
     }
+}
+
+pub fn service_map(image: &[u16], output: &mut [u8]) -> u16 {
+    // Safe: as above, and it writes nothing but the output.
+    unsafe { exported::service_map(image.as_ptr(), image.len(), output.as_mut_ptr(), output.len()) }
 }

@@ -1,14 +1,16 @@
 //! Random cases for the format of the vectors, with what this implementation does on them.
 
 use crate::finish::finish;
-use crate::generate::{list, list_with_dues, list_with_wiping, miscount, misfit, spoil, Pace};
+use crate::generate::{damage, list, list_with_dues, list_with_wiping, miscount, misfit, spoil, wrong_rooms, Pace};
+use crate::image::Image;
 use crate::judge::cover;
 use crate::layout::{PLAYERS, TRACERS};
 use crate::made::{bare, fresh_image, holes, idle, loose, running, starved, uncovered_image, STARVED_CARDS};
+use crate::map::{map_bytes, service_map};
 use crate::random::Random;
 use crate::record::{Record, RECORD_BYTES, SCAN};
 use crate::steps::batch;
-use crate::vectors::{BatchCase, Case, FinishCase, UNTOUCHED};
+use crate::vectors::{BatchCase, Case, FinishCase, MapCase, UNTOUCHED, UNTOUCHED_BYTE};
 
 /// A case of `batch`, or once in four a finish alone.
 pub fn case(random: &mut Random, number: u64) -> Case {
@@ -125,4 +127,73 @@ fn evolved(random: &mut Random, k: usize) -> Vec<u16> {
 fn change_length(random: &mut Random, image: &mut Vec<u16>) {
     let length = random.pick(&[0, 1, 264, 1383, 1384, 1648, image.len() - 1, image.len() + 1, 1649, 1651]);
     image.resize(length.unwrap_or(0), 0);
+}
+
+/// Calls of `service_map`. They have a generator of their own: the other cases of a seed do not hang on them.
+pub fn maps(seed: u64, count: u64) -> impl Iterator<Item = MapCase> {
+    let mut random = Random::new(!seed);
+    (0..count).map(move |number| map_case(&mut random, number))
+}
+
+/// Four kinds in turn, so that a few cases show each of them.
+fn map_case(random: &mut Random, number: u64) -> MapCase {
+    let k = random.from_to(1, 2);
+    let (what, image, room) = match number % 4 {
+        0 => ("crossing", crossing(random), map_bytes(2)),
+        1 => ("spoiled", damaged(random, k), map_bytes(k)),
+        2 => misfit_of_a_map(random, k, number % 8 == 2),
+        _ => ("made", for_a_map(random, k), map_bytes(k)),
+    };
+    let mut given = vec![UNTOUCHED_BYTE; room];
+    let result = service_map(&image, &mut given);
+    MapCase { name: format!("{number} {what}"), image, room, result, given }
+}
+
+fn for_a_map(random: &mut Random, k: usize) -> Vec<u16> {
+    match random.below(8) {
+        0 => fresh_image(k),
+        1 | 2 => evolved(random, k),
+        3 => idle(random, k),
+        4 => bare(random, k),
+        _ => running(random, k),
+    }
+}
+
+/// Two cards in different states, one of them dirty and one taken; an object that runs over the first one's end, objects marked and not,
+/// and a run.
+fn crossing(random: &mut Random) -> Vec<u16> {
+    loop {
+        let words = running(random, 2);
+        let image = Image::of(&words).expect("a fitting length");
+        let is_over = |start: usize, size: usize| start < 64 && start + size > 64;
+        let marked = image.starts().filter(|&g| image.is_marked(g)).count();
+        if image.objects().any(|o| is_over(o.start, o.size))
+            && (1..image.starts().count()).contains(&marked)
+            && image.card(0) != image.card(1)
+            && image.card(0) | image.card(1) == 3
+            && image.first_run() != 0
+        {
+            return words;
+        }
+    }
+}
+
+fn damaged(random: &mut Random, k: usize) -> Vec<u16> {
+    let mut image = for_a_map(random, k);
+    damage(random, &mut image);
+    image
+}
+
+/// An output that does not fit, of a damaged image: 1 comes before 2. Or any misfit.
+fn misfit_of_a_map(random: &mut Random, k: usize, is_damaged: bool) -> (&'static str, Vec<u16>, usize) {
+    let room = random.pick(&wrong_rooms(k)).expect("some room");
+    if is_damaged {
+        return ("misfit", damaged(random, k), room);
+    }
+    let mut image = for_a_map(random, k);
+    if random.chance(50) {
+        return ("misfit", image, room);
+    }
+    change_length(random, &mut image);
+    ("length", image, map_bytes(k))
 }

@@ -1,7 +1,9 @@
 //! Random records, mostly accepted, random lists and batches of them, and spoiled images.
 
 use crate::image::{Image, Store};
+use crate::judge::judge;
 use crate::layout::*;
+use crate::map::map_bytes;
 use crate::random::Random;
 use crate::record::*;
 use crate::steps::{step, usable_granules};
@@ -157,6 +159,20 @@ pub fn miscount(random: &mut Random, image: &mut [u16]) {
     let any = random.word();
     let wrong = random.weighted(&[(3, up), (3, down), (2, 0), (1, u16::MAX), (1, any)]);
     image[at] = if wrong == right { up } else { wrong };
+}
+
+/// Alters words of an image until it is damaged.
+pub fn damage(random: &mut Random, image: &mut [u16]) {
+    while judge(image) == 0 {
+        let alter = random.weighted(&[(5, spoil as fn(&mut Random, &mut [u16])), (1, miscount)]);
+        alter(random, image);
+    }
+}
+
+/// Lengths of an output that are near those of a map of `k` cards, and none of them.
+pub fn wrong_rooms(k: usize) -> [usize; 8] {
+    let bytes = map_bytes(k);
+    [0, 1, bytes - 1, bytes + 1, bytes - k, bytes + k, map_bytes(k - 1), map_bytes(k + 1)]
 }
 
 pub fn record(random: &mut Random, image: Image, pace: Pace) -> Record {

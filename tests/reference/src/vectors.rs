@@ -1,12 +1,16 @@
 //! Reading and printing cases in the format of the outside vectors.
 
 use std::collections::BTreeMap;
+use std::fmt::LowerHex;
 
 use crate::layout::cards_of_length;
 use crate::record::{records, DUE, UNDIRTY};
 
 /// The word that answer space holds before a call.
 pub const UNTOUCHED: u16 = 0x5aa5;
+
+/// The byte that the room for a map holds before a call.
+pub const UNTOUCHED_BYTE: u8 = 0xa5;
 
 /// A call of `batch` and what it must do.
 #[derive(Clone, Debug, PartialEq, Eq)]
@@ -44,10 +48,21 @@ pub struct FinishCase {
     pub cover: bool,
 }
 
+/// A call of `service_map` and what it must do.
+#[derive(Clone, Debug, PartialEq, Eq)]
+pub struct MapCase {
+    pub name: String,
+    pub image: Vec<u16>,
+    pub room: usize,
+    pub result: u16,
+    pub given: Vec<u8>,
+}
+
 #[derive(Clone, Debug, PartialEq, Eq)]
 pub enum Case {
     Batch(BatchCase),
     Finish(FinishCase),
+    Map(MapCase),
 }
 
 pub fn parse(text: &str) -> Result<Vec<Case>, String> {
@@ -73,9 +88,18 @@ pub fn parse_batches(text: &str) -> Result<Vec<BatchCase>, String> {
 fn batches_of(cases: Vec<Case>) -> Result<Vec<BatchCase>, String> {
     let of_batch = |case| match case {
         Case::Batch(case) => Ok(case),
-        Case::Finish(case) => Err(format!("{} is no case of batch", case.name)),
+        other => Err(format!("{} is no case of batch", other.name())),
     };
     cases.into_iter().map(of_batch).collect()
+}
+
+/// The cases of a text that has none but of `service_map`.
+pub fn parse_maps(text: &str) -> Result<Vec<MapCase>, String> {
+    let of_map = |case| match case {
+        Case::Map(case) => Ok(case),
+        other => Err(format!("{} is no case of service_map", other.name())),
+    };
+    parse(text)?.into_iter().map(of_map).collect()
 }
 
 /// The cases of a text that was made before document 02, (ii), when images had no counts: they get them here. Kind 15 was unknown
@@ -92,6 +116,14 @@ pub fn parse_older_batches(text: &str) -> Result<(Vec<BatchCase>, usize), String
 }
 
 impl Case {
+    fn name(&self) -> &str {
+        match self {
+            Case::Batch(case) => &case.name,
+            Case::Finish(case) => &case.name,
+            Case::Map(case) => &case.name,
+        }
+    }
+
     fn has_undirty(&self) -> bool {
         matches!(self, Case::Batch(case) if records(&case.steps).any(|record| record.kind == UNDIRTY))
     }
@@ -106,6 +138,8 @@ impl Case {
                 let (image, left) = (with_counts(&case.image), with_counts(&case.left));
                 Case::Finish(FinishCase { image, left, ..case })
             }
+            // Maps came after the counts.
+            Case::Map(_) => self,
         }
     }
 }
@@ -127,6 +161,11 @@ fn case_of(block: &BTreeMap<&str, &str>) -> Result<Case, String> {
     let number = |key: &str| field(key)?.parse::<u16>().map_err(|e| format!("{key}: {e}"));
     let name = field("case")?.to_string();
     let image = words(field("image")?)?;
+    if block.contains_key("room") {
+        let room = usize::from(number("room")?);
+        let given = byte_runs(field("given")?)?;
+        return Ok(Case::Map(MapCase { name, image, room, result: number("result")?, given }));
+    }
     let left = match field("left")? {
         "same" => image.clone(),
         text => words(text)?,
@@ -156,6 +195,12 @@ fn words(text: &str) -> Result<Vec<u16>, String> {
     Ok(words)
 }
 
+/// Bytes written as words are.
+fn byte_runs(text: &str) -> Result<Vec<u8>, String> {
+    let byte = |word| u8::try_from(word).map_err(|e| format!("{word:x}: {e}"));
+    words(text)?.into_iter().map(byte).collect()
+}
+
 /// Bytes in hex without spaces, `-` for none.
 fn bytes(text: &str) -> Result<Vec<u8>, String> {
     if text == "-" {
@@ -172,6 +217,7 @@ pub fn print(case: &Case) -> String {
     match case {
         Case::Batch(case) => print_batch(case),
         Case::Finish(case) => print_finish(case),
+        Case::Map(case) => print_map(case),
     }
 }
 
@@ -201,12 +247,23 @@ fn print_finish(case: &FinishCase) -> String {
     print_lines(&lines)
 }
 
+fn print_map(case: &MapCase) -> String {
+    let lines = [
+        ("case", case.name.clone()),
+        ("image", print_words(&case.image)),
+        ("room", case.room.to_string()),
+        ("result", case.result.to_string()),
+        ("given", print_words(&case.given)),
+    ];
+    print_lines(&lines)
+}
+
 fn print_lines(lines: &[(&str, String)]) -> String {
     lines.iter().map(|(key, text)| format!("{key} {text}").trim_end().to_string() + "\n").collect()
 }
 
-/// Three or more equal words are printed as one; two are printed as they are.
-fn print_words(words: &[u16]) -> String {
+/// Three or more equal words, or bytes, are printed as one; two are printed as they are.
+fn print_words<T: PartialEq + LowerHex>(words: &[T]) -> String {
     let runs = words.chunk_by(|a, b| a == b).map(|run| match run {
         [word] => format!("{word:x}"),
         [word, _] => format!("{word:x} {word:x}"),

@@ -5,6 +5,8 @@ mod common;
 use std::collections::BTreeSet;
 
 use common::*;
+use reference::cards_of_length;
+use reference::cases::maps;
 use reference::image::Image;
 use reference::judge::{first_damage, Line};
 use reference::layout::card_of;
@@ -28,6 +30,26 @@ fn a_seed_gives_the_same_cases() {
     assert_ne!(cases, draw(6, 50));
     let printed: String = cases.iter().map(print).collect();
     assert_eq!(parse(&printed).unwrap(), cases);
+}
+
+#[test]
+fn a_seed_gives_the_same_maps() {
+    let cases = |seed| maps(seed, 40).map(Case::Map).collect::<Vec<_>>();
+    assert_eq!(cases(5), cases(5));
+    assert_ne!(cases(5), cases(6));
+    let printed: String = cases(5).iter().map(print).collect();
+    assert_eq!(parse(&printed).unwrap(), cases(5));
+}
+
+/// Half of the maps are drawn, a quarter are misfits and a quarter damaged.
+#[test]
+fn maps_show_every_result() {
+    for result in 0..3 {
+        let alike = maps(4, 400).filter(|case| case.result == result);
+        assert_eq!(alike.count(), [200, 100, 100][usize::from(result)], "result {result}");
+    }
+    let lengths = maps(4, 400).filter(|case| cards_of_length(case.image.len()).is_none());
+    assert!(lengths.count() >= 10);
 }
 
 #[test]

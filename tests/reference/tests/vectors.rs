@@ -1,11 +1,17 @@
 //! The outside vectors against the reference.
 
-use reference::vectors::{parse, parse_batches, parse_older, parse_older_batches, print, BatchCase, Case, UNTOUCHED};
-use reference::{batch, cover, finish, undamaged_but_cover};
+use std::collections::BTreeMap;
+
+use reference::vectors::{
+    parse, parse_batches, parse_maps, parse_older, parse_older_batches, print, BatchCase, Case, UNTOUCHED,
+    UNTOUCHED_BYTE,
+};
+use reference::{batch, cover, finish, service_map, undamaged_but_cover};
 
 const BATCHES: &str = include_str!("../../vectors/batches.txt");
 const DUES: &str = include_str!("../../vectors/document_02/01-i.txt");
 const WIPING: &str = include_str!("../../vectors/document_02/02-ii.txt");
+const MAPS: &str = include_str!("../../vectors/document_02/03-iii.txt");
 const FINISHES: &str = include_str!("../../vectors/finishes.txt");
 
 /// The reference's answers and image for a case, whose result must be right.
@@ -56,6 +62,26 @@ fn wiping() {
     cases.iter().for_each(assert_as_given);
 }
 
+/// Results, cards by their state and granules by their sign.
+#[test]
+fn maps() {
+    let cases = parse_maps(MAPS).unwrap();
+    let (mut results, mut states, mut signs) = ([0; 3], BTreeMap::new(), BTreeMap::new());
+    for case in &cases {
+        let mut output = vec![UNTOUCHED_BYTE; case.room];
+        assert_eq!(service_map(&case.image, &mut output), case.result, "result of {}", case.name);
+        assert!(output == case.given, "map of {}", case.name);
+        results[usize::from(case.result)] += 1;
+        for line in case.given.chunks(73).filter(|_| case.result == 0) {
+            *states.entry(char::from(line[5])).or_insert(0) += 1;
+            line[7..71].iter().for_each(|&sign| *signs.entry(char::from(sign)).or_insert(0) += 1);
+        }
+    }
+    assert_eq!((cases.len(), results), (70, [50, 14, 6]));
+    assert_eq!(states, [('0', 15), ('1', 7), ('2', 21), ('3', 11)].into());
+    assert_eq!(signs, [('.', 1770), ('o', 442), ('#', 201), ('-', 1043)].into());
+}
+
 #[test]
 fn finishes() {
     let (cases, left_out) = parse_older(FINISHES).unwrap();
@@ -84,7 +110,7 @@ fn a_finish_that_follows_all_is_caught() {
 
 #[test]
 fn printing_and_parsing_agree() {
-    for text in [BATCHES, DUES, WIPING, FINISHES] {
+    for text in [BATCHES, DUES, WIPING, MAPS, FINISHES] {
         let cases = parse(text).unwrap();
         let printed: String = cases.iter().map(print).collect();
         assert_eq!(parse(&printed).unwrap(), cases);

@@ -1,23 +1,36 @@
-//! `draw SEED COUNT` prints COUNT random cases in the format of the outside vectors.
+//! `draw SEED COUNT` prints COUNT random cases in the format of the outside vectors, of batches and finishes; `draw SEED COUNT maps`
+//! cases of the service map.
 
 use std::io::{BufWriter, Write};
 
-use reference::cases::case;
+use reference::cases::{case, maps};
 use reference::random::Random;
-use reference::vectors::print;
+use reference::vectors::{print, Case};
 
 fn main() {
-    let arguments: Vec<u64> = std::env::args().skip(1).filter_map(|a| a.parse().ok()).collect();
-    let &[seed, count] = &arguments[..] else {
-        eprintln!("usage: draw SEED COUNT");
+    let arguments: Vec<String> = std::env::args().skip(1).collect();
+    let Some(cases) = cases(&arguments.iter().map(String::as_str).collect::<Vec<_>>()) else {
+        eprintln!("usage: draw SEED COUNT [maps]");
         std::process::exit(2);
     };
-    let mut random = Random::new(seed);
     let mut out = BufWriter::new(std::io::stdout().lock());
-    for number in 0..count {
+    for case in cases {
         // A reader that has seen enough closes the pipe.
-        if writeln!(out, "{}", print(&case(&mut random, number))).is_err() {
+        if writeln!(out, "{}", print(&case)).is_err() {
             return;
         }
+    }
+}
+
+fn cases(arguments: &[&str]) -> Option<Box<dyn Iterator<Item = Case>>> {
+    let (&[seed, count], what) = arguments.split_first_chunk()?;
+    let (seed, count) = (seed.parse().ok()?, count.parse().ok()?);
+    match what {
+        [] => {
+            let mut random = Random::new(seed);
+            Some(Box::new((0..count).map(move |number| case(&mut random, number))))
+        }
+        ["maps"] => Some(Box::new(maps(seed, count).map(Case::Map))),
+        _ => None,
     }
 }

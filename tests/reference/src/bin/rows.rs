@@ -4,7 +4,7 @@
 use std::fmt::Display;
 use std::io::Read;
 
-use reference::vectors::{parse, BatchCase, Case, FinishCase, UNTOUCHED};
+use reference::vectors::{parse, BatchCase, Case, FinishCase, MapCase, UNTOUCHED, UNTOUCHED_BYTE};
 
 const HEAD: &str = "\
 use mathlib.Core.Path.{_≡_, refl}
@@ -12,6 +12,7 @@ use mathlib.Core.List.{List, [], _∷_, _++_}
 use Prim.Native.Nat.{ℕ}
 use lib.ListN.{replicate}
 use Rattle.model.specs.Batch.{Batch, Finished, judgeOf, batchOf, finishOf}
+use Rattle.model.specs.Map.{Mapped, mapOf}
 use Rattle.model.specs.Open.{model-open}
 
 runs : List ℕ → List ℕ
@@ -29,6 +30,7 @@ fn main() {
         match case {
             Case::Batch(case) => print_batch(number, case),
             Case::Finish(case) => print_finish(number, case),
+            Case::Map(case) => print_map(number, case),
         }
     }
 }
@@ -49,6 +51,12 @@ fn print_finish(number: usize, case: &FinishCase) {
     print_theorem(number, "judged", &case.name, "ℕ", &format!("judgeOf {image}"), verdict);
 }
 
+fn print_map(number: usize, case: &MapCase) {
+    let call = format!("mapOf {} (replicate {} {UNTOUCHED_BYTE})", runs(&case.image), case.room);
+    let gives = format!("record {{ result = {}; output = {} }}", case.result, runs(&case.given));
+    print_theorem(number, "map", &case.name, "Mapped", &call, &gives);
+}
+
 fn print_theorem(number: usize, what: &str, name: &str, kind: &str, call: &str, gives: &str) {
     println!("-- case {name}\n{what}-{number} : _≡_ {{A = {kind}}} ({call}) ({gives})");
     println!("unfolding model-open runs\n{what}-{number} = refl\n");
@@ -58,8 +66,8 @@ fn list<T: Display>(items: &[T]) -> String {
     items.iter().map(|item| format!("{item} ∷ ")).collect::<String>() + "[]"
 }
 
-/// Equal words in a row are written once, with their number before them.
-fn runs(words: &[u16]) -> String {
-    let pairs: Vec<usize> = words.chunk_by(|a, b| a == b).flat_map(|run| [run.len(), usize::from(run[0])]).collect();
+/// Equal words or bytes in a row are written once, with their number before them.
+fn runs<T: Copy + PartialEq + Into<usize>>(items: &[T]) -> String {
+    let pairs: Vec<usize> = items.chunk_by(|a, b| a == b).flat_map(|run| [run.len(), run[0].into()]).collect();
     format!("(runs ({}))", list(&pairs))
 }

@@ -5,10 +5,10 @@
 pub mod altered;
 
 use reference::batch;
-use reference::cases::case;
+use reference::cases::{case, maps};
 use reference::made::fresh_image;
 use reference::random::Random;
-use reference::vectors::{BatchCase, Case};
+use reference::vectors::{BatchCase, Case, MapCase};
 
 pub use reference::record::*;
 pub use reference::Record;
@@ -105,12 +105,24 @@ pub fn batch_cases(cases: &[Case]) -> Vec<&BatchCase> {
     batches
 }
 
-/// The cases that the gate has the checker compute, by the seed and the count in `tests/run`, ten at a time as `tests/definitions`
-/// draws them.
-pub fn cases_of_the_gate() -> Vec<Case> {
+/// The seed and the count in `tests/run`, by which `tests/definitions` draws.
+fn seed_and_count() -> (u64, u64) {
     let words = include_str!("../../../run").lines().find_map(|line| line.strip_prefix("./definitions "));
     let (seed, count) = words.and_then(|words| words.split_once(' ')).expect("a seed and a count");
-    gate_cases(seed.parse().unwrap(), count.parse().unwrap())
+    (seed.parse().unwrap(), count.parse().unwrap())
+}
+
+/// The cases that the gate has the checker compute, ten at a time as `tests/definitions` draws them.
+pub fn cases_of_the_gate() -> Vec<Case> {
+    let (seed, count) = seed_and_count();
+    gate_cases(seed, count)
+}
+
+/// The maps that it computes, one for four of these cases.
+pub fn maps_of_the_gate() -> Vec<MapCase> {
+    let (seed, count) = seed_and_count();
+    let count = count.div_ceil(4);
+    (0..count).step_by(10).flat_map(|from| maps(seed + from, count.min(from + 10) - from)).collect()
 }
 
 pub fn gate_cases(seed: u64, count: u64) -> Vec<Case> {

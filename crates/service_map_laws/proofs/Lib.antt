@@ -1,0 +1,4 @@
+pub mod Pasted
+pub mod Signs
+pub mod Lines
+pub mod Calls

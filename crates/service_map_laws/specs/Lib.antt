@@ -1,0 +1,3 @@
+pub mod Pasted
+pub mod Ends
+pub mod Mapped
