@@ -3,17 +3,8 @@
 #include <stdio.h>
 #include <stdlib.h>
 
+#include "expect.h"
 #include "show_store.h"
-
-static int failures = 0;
-
-static void expect(const char *what, unsigned long got, unsigned long wanted)
-{
-    if (got != wanted) {
-        printf("%s: %lu, not %lu\n", what, got, wanted);
-        failures++;
-    }
-}
 
 static uint16_t *words_of(size_t n)
 {

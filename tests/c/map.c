@@ -4,19 +4,10 @@
 #include <stdlib.h>
 #include <string.h>
 
+#include "expect.h"
 #include "show_store.h"
 
 enum { GUARDS = 16, MOST = 74 * 512, UNTOUCHED = 0xa5 };
-
-static int failures = 0;
-
-static void expect(const char *what, unsigned long got, unsigned long wanted)
-{
-    if (got != wanted) {
-        printf("%s: %lu, not %lu\n", what, got, wanted);
-        failures++;
-    }
-}
 
 static uint8_t *bytes_of(size_t n)
 {

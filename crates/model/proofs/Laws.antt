@@ -1,16 +1,17 @@
--- What a passed test says, and how to pass one; words of a list after a write.
-use mathlib.Core.Path.{_≡_, refl, sym, ap, subst, _∙_}
+-- What a passed test says, and how to pass one; words of a list after a write; tables.
+use mathlib.Core.Path.{_≡_, refl, sym, ap, subst, fun-ext, _∙_}
 use mathlib.Core.Logic.{_⊎_, inl, inr}
 use mathlib.Core.Bool.{Bool, true, false, not, cond, _&&_, _||_}
-use mathlib.Core.List.{List, [], _∷_}
+use mathlib.Core.List.{List, [], _∷_, _++_}
 use Prim.Native.Nat.{ℕ, zero, suc, _+_, _≤_, _<_}
+use native.Mathlib.Nat.{zero-add, suc-add}
 use native.Mathlib.Decide.{ℕ-discrete}
 use native.Mathlib.Omega.{arith}
 use lib.Dec.{T, eqb}
 use lib.ListN.{getD, set, replicate, length, length-set, List·getD-eq-default}
 use lib.Seq.{getD-set-same, getD-set-other, set-out}
 use borrow.Author.Tests.{eqb-true, eq-eqb}
-use Rattle.model.specs.Base.{first, nth, put, every, some, either, implies, all, any, best, zeroes}
+use Rattle.model.specs.Base.{first, nth, put, every, some, either, implies, all, any, table, best, zeroes}
 
 pub false≢ : {P : Type 0} → false ≡ true → P
 false≢ e = absurd (subst T (sym e) tt)
@@ -197,6 +198,26 @@ best-none better ok (suc n) e i h =
       | inl q ↦ absurd (omega arith)
       | inr q ↦ let z = sym (q .0) ∙ e in elim (ℕ-discrete i n) [ yes s ↦ rw s (q .1 z) | no s ↦ best-none better ok n z i (omega arith) ]
     ]
+
+-- ---- tables
+
+pub table-length : {A : Type 0} (n : ℕ) (f : ℕ → A) → length (table n f) ≡ n
+unfolding table
+table-length zero f = refl
+table-length (suc n) f = ap suc (table-length n (λ i. f (suc i)))
+
+pub table-more : {A : Type 0} (n : ℕ) (f : ℕ → A) → table (suc n) f ≡ table n f ++ (f n ∷ [])
+unfolding table
+table-more zero f = refl
+table-more (suc n) f = ap (λ l. f zero ∷ l) (table-more n (λ i. f (suc i)))
+
+pub table-add : {A : Type 0} (a b : ℕ) (f : ℕ → A) → table (a + b) f ≡ table a f ++ table b (λ i. f (a + i))
+unfolding table
+table-add zero b f = ap (λ n. table n f) (zero-add b) ∙ ap (table b) (fun-ext (λ i. ap f (sym (zero-add i))))
+table-add (suc a) b f =
+    ap (λ n. table n f) (suc-add a b)
+    ∙ (ap (λ l. f zero ∷ l) (table-add a b (λ i. f (suc i)))
+    ∙ ap (λ g. f zero ∷ (table a (λ i. f (suc i)) ++ table b g)) (fun-ext (λ i. ap f (sym (suc-add a i)))))
 
 -- ---- the first line of a table that passes
 

@@ -32,6 +32,7 @@ inObject m g = any (suc g) (λ s. isStart m s && ltb g (s + size m s))
 unfoldable pub signOf : Bool → Bool → Bool → ℕ
 signOf start mark inside = cond start (cond mark 35 111) (cond inside 45 46)
 
+-- the sign of granule g
 unfoldable pub sign : Image → ℕ → ℕ
 sign m g = signOf (isStart m g) (marked m g) (inObject m g)
 
@@ -45,6 +46,7 @@ heading c s = decimal c 1000 ∷ decimal c 100 ∷ decimal c 10 ∷ decimal c 1 
 unfoldable pub cardLine : Image → ℕ → List ℕ
 cardLine m c = heading c (state m c) ++ (table 64 (λ i. sign m (64 * c + i)) ++ (spaceChar ∷ lineEnd ∷ []))
 
+-- the lines of all cards, from card 0 on
 unfoldable pub mapLines : Image → List ℕ
 mapLines m = join (table (m .k) (cardLine m))
 
@@ -68,10 +70,11 @@ unfoldable pub mapWith : ℕ → List ℕ → List ℕ → ℕ → Mapped
 mapWith w ws output (suc r) = record { result = suc r; output = output }
 mapWith w ws output zero = record { result = 0; output = mapLines (parts w ws) }
 
+-- a call, with words of w bits
 unfoldable pub mapAt : ℕ → List ℕ → List ℕ → Mapped
 mapAt w ws output = mapWith w ws output (mapNumber w ws output)
 
--- of a store of 16-bit words
+-- the store of 16-bit words
 unfoldable pub mapOf : List ℕ → List ℕ → Mapped
 mapOf = mapAt 16
 

@@ -1,14 +1,14 @@
 // The signs of a card's granules, a bit word at a time. Which granule is a start cannot be foretold, so no branch hangs on it.
 ghost use mathlib.Core.Path.{_≡_};
 ghost use mathlib.Core.Bool.{cond};
-ghost use Prim.Native.Nat.{_+_, _*_, _/_, _≤_, _<_};
+ghost use Prim.Native.Nat.{_+_, _*_, _/_, max, _≤_, _<_};
 ghost use lib.ListN.{length};
 ghost use Rattle.model.specs.Base.{table};
 ghost use Rattle.model.specs.Image.{imageOf, size};
 ghost use Rattle.model.specs.Map.{signOf, sign};
 ghost use Rattle.image_laws.specs.Sized.{Sized};
 ghost use Rattle.image.specs.Layout.{width};
-ghost use Rattle.service_map_laws.specs.Ends.{further, endBefore};
+ghost use Rattle.service_map_laws.specs.Ends.{endBefore};
 ghost use Rattle.service_map_laws.specs.Pasted.{pasted};
 use image::layout::BITS;
 use image::layout::Word;
@@ -26,7 +26,7 @@ fn sign(start: bool, mark: bool, inside: bool) -> u8
 fn furthest(im: &[Word], k: usize, g: usize, start: bool, end: usize) -> usize
     requires { ⌜ Sized width k (now im) ⌝ }
     requires { ⌜ g < 64 * k ⌝ }
-    ensures { λ r. ⌜ r ≡ further end (cond start (g + size (imageOf width k (now (im .entry))) g) 0) ⌝ }
+    ensures { λ r. ⌜ r ≡ max end (cond start (g + size (imageOf width k (now (im .entry))) g) 0) ⌝ }
 {
     let own = (start as usize) * (g + image::sections::word(im, k, g, 0) as usize);
     if end < own {

@@ -1,18 +1,18 @@
 -- The ways out of a call: refused by a misfit, refused as damaged, or drawn.
-use mathlib.Core.Path.{_≡_, ap}
+use mathlib.Core.Path.{_≡_}
 use mathlib.Core.Bool.{Bool, true, false}
 use mathlib.Core.List.{List}
 use Prim.Native.Nat.{ℕ, _*_}
 use lib.ListN.{length}
 use borrow.Author.Tests.{eq-eqb, ne-eqb}
 use Rattle.model.specs.Base.{some, first}
-use Rattle.model.specs.Image.{parts, cardsOf, image, imageOf}
+use Rattle.model.specs.Image.{cardsOf, imageOf}
 use Rattle.model.specs.Undamaged.{undamaged}
 use Rattle.model.specs.Map.{mapLines, mapMisfit, mapNumber, mapWith, mapAt}
 use Rattle.image_laws.specs.Size.{extentOf}
 use Rattle.image_laws.specs.declared.Extent.{Extent}
 use Rattle.image_laws.specs.declared.Extent.the-variants.{Cards, Misfit}
-use Rattle.image_laws.proofs.Size.{misfit-fits, cards-fits, cards-parts}
+use Rattle.image_laws.proofs.Size.{sized-cards, misfit-fits, cards-fits, cards-sized, cards-parts}
 use Rattle.service_map_laws.specs.Mapped.{mappedOf}
 
 module _ (w : ℕ) (ws output : List ℕ) (s : Extent) (e : s ≡ extentOf w (length ws)) where
@@ -22,8 +22,7 @@ module _ (w : ℕ) (ws output : List ℕ) (s : Extent) (e : s ≡ extentOf w (le
 
   module _ (k : ℕ) (q : s ≡ Cards k) where
     cards-k : cardsOf w (length ws) ≡ k
-    unfolding parts imageOf image
-    cards-k = ap (λ m. m .k) (cards-parts w ws s e k q)
+    cards-k = sized-cards w k ws (cards-sized w ws s e k q)
 
     pub map-output : (length output ≡ 73 * k → ⊥) → mappedOf 1 output ≡ mapAt w ws output
     unfolding mapAt mapNumber mapMisfit some first mapWith

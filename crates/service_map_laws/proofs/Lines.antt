@@ -8,9 +8,10 @@ use lib.ListN.{length, set, length-append}
 use Rattle.model.specs.Base.{nth, table}
 use Rattle.model.specs.Image.{Image, state, join}
 use Rattle.model.specs.Map.{spaceChar, lineEnd, sign, heading, cardLine, mapLines}
+use Rattle.model.proofs.Laws.{table-length, table-more}
 use Rattle.service_map_laws.specs.Ends.{endBefore}
 use Rattle.service_map_laws.specs.Pasted.{pasted}
-use Rattle.service_map_laws.proofs.Pasted.{Pasting, pasting-none, pasting-more, pasting-end, pasted-then, pasted-whole, table-length, table-more}
+use Rattle.service_map_laws.proofs.Pasted.{Pasting, pasting-none, pasting-more, pasting-end, pasted-then, pasted-whole}
 
 -- ---- a heading
 
@@ -79,18 +80,13 @@ module _ (m : Image) where
   abbrev linesOf : ℕ → List ℕ
   linesOf c = join (table c (cardLine m))
 
-  lines-more : (c : ℕ) → linesOf (c + 1) ≡ linesOf c ++ cardLine m c
+  lines-more : (c : ℕ) → linesOf (suc c) ≡ linesOf c ++ cardLine m c
   lines-more c = ap join (table-more c (cardLine m)) ∙ join-more (table c (cardLine m)) (cardLine m c)
 
   lines-length : (c : ℕ) → length (linesOf c) ≡ 73 * c
   unfolding join table
   lines-length zero = refl
-  lines-length (suc c) =
-      ap (λ n. length (linesOf n)) (suc-as c)
-      ∙ (ap length (lines-more c) ∙ (length-append (linesOf c) (cardLine m c) ∙ omega (arith, lines-length c, line-length m c)))
-    where
-      suc-as : (c : ℕ) → suc c ≡ c + 1
-      suc-as c = omega arith
+  lines-length (suc c) = ap length (lines-more c) ∙ (length-append (linesOf c) (cardLine m c) ∙ omega (arith, lines-length c, line-length m c))
 
   -- after c of n cards, with how far the objects on them reach
   pub record LinesTo (n : ℕ) (out₀ out : List ℕ) (end c : ℕ) : Type 0 where

@@ -1,34 +1,12 @@
 -- Bytes written one behind the other; a loop that does so.
-use mathlib.Core.Path.{_≡_, refl, sym, ap, fun-ext, _∙_}
+use mathlib.Core.Path.{_≡_, refl, sym, ap, _∙_}
 use mathlib.Core.List.{List, [], _∷_, _++_, append-assoc}
-use Prim.Native.Nat.{ℕ, zero, suc, _+_, _≤_, _<_, zero-le}
-use native.Mathlib.Nat.{zero-add, suc-add, add-zero}
+use Prim.Native.Nat.{ℕ, suc, _+_, _≤_, _<_, zero-le}
+use native.Mathlib.Numerals.{add-one}
 use native.Mathlib.Omega.{arith}
 use lib.ListN.{length, set, length-set, length-append}
 use lib.Seq.{set-append-seam}
-use Rattle.model.specs.Base.{table}
 use Rattle.service_map_laws.specs.Pasted.{pasted}
-
--- ---- tables
-
-pub table-length : {A : Type 0} (n : ℕ) (f : ℕ → A) → length (table n f) ≡ n
-unfolding table
-table-length zero f = refl
-table-length (suc n) f = ap suc (table-length n (λ i. f (suc i)))
-
-pub table-add : {A : Type 0} (a b : ℕ) (f : ℕ → A) → table (a + b) f ≡ table a f ++ table b (λ i. f (a + i))
-unfolding table
-table-add zero b f = ap (λ n. table n f) (zero-add b) ∙ ap (table b) (fun-ext (λ i. ap f (sym (zero-add i))))
-table-add (suc a) b f =
-    ap (λ n. table n f) (suc-add a b)
-    ∙ (ap (λ l. f zero ∷ l) (table-add a b (λ i. f (suc i)))
-    ∙ ap (λ g. f zero ∷ (table a (λ i. f (suc i)) ++ table b g)) (fun-ext (λ i. ap f (sym (suc-add a i)))))
-
-pub table-more : {A : Type 0} (n : ℕ) (f : ℕ → A) → table (n + 1) f ≡ table n f ++ (f n ∷ [])
-unfolding table
-table-more n f = table-add n 1 f ∙ ap (λ i. table n f ++ (f i ∷ [])) (add-zero n)
-
--- ---- bytes written
 
 pub pasted-length : (bs out : List ℕ) (at : ℕ) → length (pasted out at bs) ≡ length out
 unfolding pasted
@@ -66,11 +44,11 @@ unfolding pasted
 pasting-none e = record { low = zero-le; same = refl; written = rw e }
 
 module _ {n at : ℕ} {R : ℕ → List ℕ} {out₀ out : List ℕ} {i : ℕ} (t : Pasting n at R out₀ out i) where
-  pub pasting-more : {out' : List ℕ} (bs : List ℕ) → i < n → out' ≡ pasted out (at + length (R i)) bs → R (i + 1) ≡ R i ++ bs → Pasting n at R out₀ out' (i + 1)
+  pub pasting-more : {out' : List ℕ} (bs : List ℕ) → i < n → out' ≡ pasted out (at + length (R i)) bs → R (suc i) ≡ R i ++ bs → Pasting n at R out₀ out' (i + 1)
   pasting-more bs h e r = record {
     low = omega arith;
     same = ap length e ∙ (pasted-length bs out _ ∙ t .same);
-    written = e ∙ (ap (λ l. pasted l (at + length (R i)) bs) (t .written) ∙ (pasted-then (R i) bs out₀ at ∙ ap (pasted out₀ at) (sym r)));
+    written = e ∙ (ap (λ l. pasted l (at + length (R i)) bs) (t .written) ∙ (pasted-then (R i) bs out₀ at ∙ (ap (pasted out₀ at) (sym r) ∙ ap (λ n. pasted out₀ at (R n)) (sym (add-one i)))));
   }
 
   pub pasting-end : n ≤ i → out ≡ pasted out₀ at (R n)

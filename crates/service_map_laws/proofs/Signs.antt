@@ -2,7 +2,7 @@
 use mathlib.Core.Path.{_≡_, refl, sym, ap, fun-ext, _∙_}
 use mathlib.Core.List.{List, [], _∷_, _++_}
 use mathlib.Core.Bool.{Bool, true, false, cond, _&&_, _||_}
-use Prim.Native.Nat.{ℕ, zero, suc, _+_, _*_, _≤_, _<_}
+use Prim.Native.Nat.{ℕ, zero, suc, _+_, _*_, max, _≤_, _<_}
 use native.Mathlib.Nat.{mul-zero}
 use native.Mathlib.Decide.{decLt}
 use native.Mathlib.Omega.{arith}
@@ -13,10 +13,11 @@ use mir.Val.{boolByte}
 use Rattle.model.specs.Base.{nth, any, table, testBit}
 use Rattle.model.specs.Image.{Image, isStart, marked, size, image, imageOf}
 use Rattle.model.specs.Map.{inObject, signOf, sign}
+use Rattle.model.proofs.Laws.{table-length, table-add}
 use Rattle.image_laws.proofs.Bits.{bit-at}
-use Rattle.service_map_laws.specs.Ends.{further, endBefore}
+use Rattle.service_map_laws.specs.Ends.{endBefore}
 use Rattle.service_map_laws.specs.Pasted.{pasted}
-use Rattle.service_map_laws.proofs.Pasted.{Pasting, pasting-none, pasting-more, pasting-end, table-length, table-add}
+use Rattle.service_map_laws.proofs.Pasted.{Pasting, pasting-none, pasting-more, pasting-end}
 
 -- ---- bits as numbers: the table of signs, and an end that counts only where an object starts
 
@@ -46,21 +47,16 @@ pub own-most : (b : Bool) (e : ℕ) → boolByte b * e ≤ e
 own-most true e = omega arith
 own-most false e = omega arith
 
--- ---- the further of two
+-- ---- how far objects reach
 
-further-up : (a b : ℕ) → a < b → b ≡ further a b
-unfolding further
-further-up a b h = rw (lt-ltb a b h)
-
-further-kept : (a b : ℕ) → b ≤ a → a ≡ further a b
-unfolding further
-further-kept a b h = rw (le-ltb a b h)
-
--- g is below the further of two just where it is below one of them
-below-further : (g a b : ℕ) → ltb g (further a b) ≡ ltb g a || ltb g b
-below-further g a b = elim (decLt a b) [
-  | yes h ↦ rw (← further-up a b h) (elim (decLt g a) [ yes l ↦ rw (lt-ltb g a l, lt-ltb g b (omega arith)) | no l ↦ rw (le-ltb g a (omega arith)) ])
-  | no h ↦ rw (← further-kept a b (omega arith)) (elim (decLt g a) [ yes l ↦ rw (lt-ltb g a l) | no l ↦ rw (le-ltb g a (omega arith), le-ltb g b (omega arith)) ])
+-- g is below the larger of two just where it is below one of them
+below-max : (g a b : ℕ) → ltb g (max a b) ≡ ltb g a || ltb g b
+below-max g a b = elim (decLt g a) [
+  | yes l ↦ rw (lt-ltb g a l, lt-ltb g (max a b) (omega arith))
+  | no l ↦ elim (decLt g b) [
+    | yes h ↦ rw (le-ltb g a (omega arith), lt-ltb g b h, lt-ltb g (max a b) (omega arith))
+    | no h ↦ rw (le-ltb g a (omega arith), le-ltb g b (omega arith), le-ltb g (max a b) (omega arith))
+  ]
 ]
 
 below-own : (g e : ℕ) (b : Bool) → ltb g (cond b e 0) ≡ b && ltb g e
@@ -68,19 +64,20 @@ below-own g e true = refl
 below-own g e false = le-ltb g 0 (omega arith)
 
 module _ (b : Bool) (end g s z : ℕ) (e : s ≡ z) where
-  pub own-further : end < boolByte b * (g + s) → boolByte b * (g + s) ≡ further end (cond b (g + z) 0)
-  own-further h = further-up end (boolByte b * (g + s)) h ∙ ap (further end) (own-is b (g + s) ∙ ap (λ x. cond b (g + x) 0) e)
+  own : boolByte b * (g + s) ≡ cond b (g + z) 0
+  own = own-is b (g + s) ∙ ap (λ x. cond b (g + x) 0) e
 
-  pub own-before : boolByte b * (g + s) ≤ end → end ≡ further end (cond b (g + z) 0)
-  own-before h = further-kept end (boolByte b * (g + s)) h ∙ ap (further end) (own-is b (g + s) ∙ ap (λ x. cond b (g + x) 0) e)
+  pub own-further : end < boolByte b * (g + s) → boolByte b * (g + s) ≡ max end (cond b (g + z) 0)
+  own-further h = omega (arith, own)
 
--- ---- how far objects reach
+  pub own-before : boolByte b * (g + s) ≤ end → end ≡ max end (cond b (g + z) 0)
+  own-before h = omega (arith, own)
 
 module _ (m : Image) where
   below-end : (g n : ℕ) → any n (λ s. isStart m s && ltb g (s + size m s)) ≡ ltb g (endBefore m n)
   unfolding any endBefore
   below-end g zero = sym (le-ltb g 0 (omega arith))
-  below-end g (suc n) = rw (below-end g n, below-further g (endBefore m n) (cond (isStart m n) (n + size m n) 0), below-own g (n + size m n) (isStart m n))
+  below-end g (suc n) = rw (below-end g n, below-max g (endBefore m n) (cond (isStart m n) (n + size m n) 0), below-own g (n + size m n) (isStart m n))
 
   pub inside-end : (g : ℕ) → inObject m g ≡ ltb g (endBefore m (suc g))
   unfolding inObject
@@ -105,13 +102,13 @@ module _ {m : Image} {n at g s : ℕ} where
       carried = e ∙ ap (endBefore m) (omega arith);
     }
       where
-        next : s * (i + 1) ≡ s * i + s
+        next : s * suc i ≡ s * i + s
         next = omega arith
 
         place : (j : ℕ) → g + (s * i + j) ≡ h + j
         place j = omega arith
 
-        more : table (s * (i + 1)) (λ j. sign m (g + j)) ≡ table (s * i) (λ j. sign m (g + j)) ++ table s (λ j. sign m (h + j))
+        more : table (s * suc i) (λ j. sign m (g + j)) ≡ table (s * i) (λ j. sign m (g + j)) ++ table s (λ j. sign m (h + j))
         more =
             ap (λ x. table x (λ j. sign m (g + j))) next
             ∙ (table-add (s * i) s (λ j. sign m (g + j))
@@ -125,7 +122,7 @@ module _ {m : Image} {n at g s : ℕ} where
 
 -- one sign more, by the tests that the walk makes of the next granule
 module _ {m : Image} {n at g : ℕ} {out₀ out : List ℕ} {end i : ℕ} (t : SignsTo m n at g 1 out₀ out end i) where
-  sign-more : (st mk : Bool) (end' b : ℕ) → i < n → st ≡ isStart m (g + i) → mk ≡ marked m (g + i) → end' ≡ further end (cond st (g + i + size m (g + i)) 0)
+  sign-more : (st mk : Bool) (end' b : ℕ) → i < n → st ≡ isStart m (g + i) → mk ≡ marked m (g + i) → end' ≡ max end (cond st (g + i + size m (g + i)) 0)
       → b ≡ signOf st mk (ltb (g + i) end') → SignsTo m n at g 1 out₀ (set out (at + i) b) end' (i + 1)
   sign-more st mk end' b l es em ee eb = signs-more t (g + i) (at + i) l (omega arith) (omega arith) (so-far ∙ ap (endBefore m) (omega arith)) written
     where
@@ -147,7 +144,7 @@ module _ {m : Image} {n at g : ℕ} {out₀ out : List ℕ} {end i : ℕ} (t : S
 -- the same where the granules are those of bit word x
 module _ (w k : ℕ) (ws : List ℕ) (x : ℕ) {at : ℕ} {out₀ out : List ℕ} {end j : ℕ} (t : SignsTo (imageOf w k ws) w at (w * x) 1 out₀ out end j) (sw mw : ℕ)
     (esw : sw ≡ nth (imageOf w k ws .starts) x) (emw : mw ≡ nth (imageOf w k ws .marks) x) where
-  pub sign-by-bits : (st mk : Bool) (end' b : ℕ) → j < w → st ≡ testBit sw j → mk ≡ testBit mw j → end' ≡ further end (cond st (w * x + j + size (imageOf w k ws) (w * x + j)) 0)
+  pub sign-by-bits : (st mk : Bool) (end' b : ℕ) → j < w → st ≡ testBit sw j → mk ≡ testBit mw j → end' ≡ max end (cond st (w * x + j + size (imageOf w k ws) (w * x + j)) 0)
       → b ≡ signOf st mk (ltb (w * x + j) end') → SignsTo (imageOf w k ws) w at (w * x) 1 out₀ (set out (at + j) b) end' (j + 1)
   sign-by-bits st mk end' b l es em ee eb = sign-more t st mk end' b l (es ∙ is-start) (em ∙ is-mark) ee eb
     where

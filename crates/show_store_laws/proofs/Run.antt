@@ -1,7 +1,7 @@
 -- One turn of the batch's loop, and its invariant: the records so far have run, and their answers stand before what is left of the answer space.
 use mathlib.Core.Path.{_≡_, refl, sym, ap, _∙_}
 use mathlib.Core.List.{List, [], _∷_, _++_, append-nil}
-use Prim.Native.Nat.{ℕ, zero, suc, _+_, _*_, _/_, _≤_, _<_, zero-le}
+use Prim.Native.Nat.{ℕ, suc, _+_, _*_, _/_, _≤_, _<_, zero-le}
 use native.Mathlib.Omega.{arith}
 use native.Mathlib.Numerals.{add-one}
 use lib.ListN.{length, set, drop, length-append, length-drop, drop-of-length-le}
@@ -10,6 +10,7 @@ use Rattle.model.specs.Base.{table}
 use Rattle.model.specs.Image.{Image, imageOf}
 use Rattle.model.specs.Records.{Step, recordBytes, records}
 use Rattle.model.specs.Steps.{Done, Event, step, run, after, answersOf}
+use Rattle.model.proofs.Laws.{table-more}
 use Rattle.theory.specs.Lines.{Undamaged}
 use Rattle.theory.proofs.steps.Kept.{step-keeps}
 use Rattle.theory.proofs.steps.Steps.{run-append}
@@ -24,12 +25,7 @@ pub turn : (m m₁ : Image) (answers : List ℕ) (i : ℕ) (s : Step) (number va
 unfolding writtenAt
 turn m m₁ answers i s number value d = rw (← d) (refl, refl)
 
--- ---- tables, runs and answers with one more at the end
-
-table-more : {A : Type 0} (n : ℕ) (f : ℕ → A) → table (suc n) f ≡ table n f ++ (f n ∷ [])
-unfolding table
-table-more zero f = refl
-table-more (suc n) f = ap (λ l. f zero ∷ l) (table-more n (λ i. f (suc i)))
+-- ---- runs and answers with one more at the end
 
 after-append : (m : Image) (es fs : List Event) → after m (es ++ fs) ≡ after (after m es) fs
 unfolding after
