@@ -1,17 +1,20 @@
 // New: an object at the start of the lowest run that suffices.
 ghost use mathlib.Core.Path.{_≡_};
-ghost use Prim.Native.Nat.{_*_, _-_, _<_};
+ghost use Prim.Native.Nat.{_*_, _-_, _≤_, _<_};
 ghost use Rattle.model.specs.Image.{imageOf, word, owed, setWord, setStart, setReg};
-ghost use Rattle.model.specs.Mutate.{setNext, takeRun};
+ghost use Rattle.model.specs.Mutate.{setNext, takeRun, ifLong, usableRun};
 ghost use Rattle.model.specs.Steps.{step};
 ghost use Rattle.theory.specs.Lines.{Sound};
 ghost use Rattle.image_laws.specs.Sized.{Sized};
 ghost use Rattle.image.specs.Layout.{width};
 ghost use Rattle.request_laws.specs.Answer.{asked};
 ghost use Rattle.request.specs.Answer.{doneOf};
+ghost use Rattle.runs_laws.specs.Granules.{freeOf, shrunk};
 ghost use Rattle.mutator_laws.specs.New.{RunFor, ObjectFits};
 use image::layout::Word;
 use request::answer::Answer;
+use runs::counted::Counted;
+use runs_laws::Free;
 
 // The run after run `before`, or the first one, becomes g.
 fn set_next(im: &mut [Word], k: usize, before: usize, g: Word)
@@ -26,20 +29,32 @@ fn set_next(im: &mut [Word], k: usize, before: usize, g: Word)
     }
 }
 
-// Run g shrinks by its first b granules, or goes; `before` is the run before it.
-fn take_run(im: &mut [Word], k: usize, g: usize, before: usize, b: usize)
+// Run g shrinks by its first b granules, or goes; `before` is the run before it. Returns the free granules then.
+fn take_run(im: &mut [Word], k: usize, g: usize, before: usize, b: usize, f: Free) -> Free
     requires { ⌜ Sized width k (now im) ⌝ }
     requires { ⌜ RunFor k (imageOf width k (now im)) b g before ⌝ }
+    requires { ⌜ (b ≤ f .granules) × (ifLong usableRun (word (imageOf width k (now im)) g 0) ≤ f .usable) ⌝ }
     ensures { λ _. ⌜ imageOf width k (now (im .exit)) ≡ takeRun (imageOf width k (now (im .entry))) g before b (word (imageOf width k (now (im .entry))) g 0 - b) ⌝ }
+    ensures { λ r. ⌜ r ≡ shrunk f (word (imageOf width k (now (im .entry))) g 0) b ⌝ }
 {
     let length = runs::chain::run_length(im, k, g);
     let next = image::sections::word(im, k, g, 1);
+    let granules = f.granules - b;
+    let others = f.usable - runs::granules::usable_of(length);
     if length == b {
         set_next(im, k, before, next);
-    } else {
-        image::sections::set_word(im, k, g + b, 0, (length - b) as Word);
-        image::sections::set_word(im, k, g + b, 1, next);
-        set_next(im, k, before, (g + b) as Word);
+        return Free {
+            granules,
+            usable: others,
+        };
+    }
+    let left = length - b;
+    image::sections::set_word(im, k, g + b, 0, left as Word);
+    image::sections::set_word(im, k, g + b, 1, next);
+    set_next(im, k, before, (g + b) as Word);
+    Free {
+        granules,
+        usable: others + runs::granules::usable_of(left),
     }
 }
 
@@ -56,28 +71,44 @@ fn make_object(im: &mut [Word], k: usize, p: usize, a: usize, b: usize, c: usize
     image::sections::set_reg(im, k, p, a, g as Word);
 }
 
-pub fn new(im: &mut [Word], k: usize, p: usize, a: usize, b: usize, c: usize) -> Answer
+pub fn new(im: &mut [Word], k: usize, p: usize, a: usize, b: usize, c: usize, free: Free) -> Counted
     requires { ⌜ Sized width k (now im) ⌝ }
     requires { ⌜ Sound (imageOf width k (now im)) ⌝ }
     requires { ⌜ (p < 16) × (a < 16) ⌝ }
     requires { ⌜ owed (imageOf width k (now im)) p ≡ 0 ⌝ }
-    ensures { λ r. ⌜ doneOf r (imageOf width k (now (im .exit))) ≡ step (imageOf width k (now (im .entry))) (asked 1 p a b c) ⌝ }
+    requires { ⌜ free ≡ freeOf (imageOf width k (now im)) ⌝ }
+    ensures { λ r. ⌜ doneOf (r .answer) (imageOf width k (now (im .exit))) ≡ step (imageOf width k (now (im .entry))) (asked 1 p a b c) ⌝ }
+    ensures { λ r. ⌜ r .free ≡ freeOf (imageOf width k (now (im .exit))) ⌝ }
 {
     if b == 0 {
-        return Answer::BadSize;
+        return Counted {
+            answer: Answer::BadSize,
+            free,
+        };
     }
     if 1024 < b {
-        return Answer::BadSize;
+        return Counted {
+            answer: Answer::BadSize,
+            free,
+        };
     }
     if 4 * b - 2 < c {
-        return Answer::BadSize;
+        return Counted {
+            answer: Answer::BadSize,
+            free,
+        };
     }
     let room = runs::chain::find_room(im, k, b);
     let g = room.run;
     if g == 0 {
-        return Answer::NoRoom;
+        let answer = Answer::NoRoom;
+        return Counted { answer, free };
     }
-    take_run(im, k, g, room.before, b);
+    let left = take_run(im, k, g, room.before, b, free);
     make_object(im, k, p, a, b, c, g);
-    Answer::Done(g as Word)
+    let value = g as Word;
+    Counted {
+        answer: Answer::Done(value),
+        free: left,
+    }
 }

@@ -5,15 +5,16 @@ ghost use Rattle.model.specs.Image.{imageOf, withHeap};
 ghost use Rattle.image_laws.specs.Sized.{Sized};
 ghost use Rattle.image_laws.specs.Clearing.{zeroed};
 ghost use Rattle.image.specs.Layout.{width};
-ghost use Rattle.finish_laws.specs.Gaps.{edged, headAt, runFrom, gap, keptAt, sweptFrom, sweptAll};
+ghost use Rattle.finish_laws.specs.Gaps.{Within, edged, headAt, runFrom, gap, keptAt, sweptFrom, sweptAll};
 use image::layout::BITS;
 use image::layout::VALUES;
 use image::layout::Word;
+use runs_laws::Free;
 
-// The first granule of the lowest kept object so far, and the granules of the runs behind it.
+// The first granule of the lowest kept object so far, and the free granules behind it.
 pub struct Edge {
     pub start: usize,
-    pub free: usize,
+    pub free: Free,
 }
 
 // The words of granule a, the first of a run.
@@ -68,9 +69,9 @@ pub fn close_gap(im: &mut [Word], k: usize, a: usize, e: usize) -> usize
 // The kept object at h. Where the next one starts right behind h there is no gap, and the size is not read.
 pub fn keep_at(im: &mut [Word], k: usize, h: usize, s: Edge) -> Edge
     requires { ⌜ Sized width k (now im) ⌝ }
-    requires { ⌜ (h < 64 * k) × (s .start + s .free ≤ 64 * k) × (h ≤ s .start) ⌝ }
+    requires { ⌜ (h < 64 * k) × Within k (s .start) (s .free) × (h ≤ s .start) ⌝ }
     ensures { λ r. ⌜ edged (r .start) (r .free) (imageOf width k (now (im .exit))) ≡ keptAt h (edged (s .start) (s .free) (imageOf width k (now (im .entry)))) ⌝ }
-    ensures { λ r. ⌜ (r .start ≡ h) × (r .start + r .free ≤ 64 * k) ⌝ }
+    ensures { λ r. ⌜ (r .start ≡ h) × Within k (r .start) (r .free) ⌝ }
 {
     let e = s.start;
     let f = s.free;
@@ -81,16 +82,16 @@ pub fn keep_at(im: &mut [Word], k: usize, h: usize, s: Edge) -> Edge
     let n = close_gap(im, k, h + size, e);
     Edge {
         start: h,
-        free: f + n,
+        free: runs::granules::grow(f, n),
     }
 }
 
 // The kept objects of word i, from its highest mark bit down.
 pub fn sweep_bits(im: &mut [Word], k: usize, i: usize, s: Edge) -> Edge
     requires { ⌜ Sized width k (now im) ⌝ }
-    requires { ⌜ (i < 64 * k / width) × (s .start + s .free ≤ 64 * k) × (width * i + width ≤ s .start) ⌝ }
+    requires { ⌜ (i < 64 * k / width) × Within k (s .start) (s .free) × (width * i + width ≤ s .start) ⌝ }
     ensures { λ r. ⌜ edged (r .start) (r .free) (imageOf width k (now (im .exit))) ≡ sweptFrom (width * i + width) (edged (s .start) (s .free) (imageOf width k (now (im .entry)))) width ⌝ }
-    ensures { λ r. ⌜ (width * i ≤ r .start) × (r .start + r .free ≤ 64 * k) ⌝ }
+    ensures { λ r. ⌜ (width * i ≤ r .start) × Within k (r .start) (r .free) ⌝ }
 {
     let mut x = image::sections::mark_word(im, k, i);
     let mut t = s;
@@ -102,16 +103,17 @@ pub fn sweep_bits(im: &mut [Word], k: usize, i: usize, s: Edge) -> Edge
     t
 }
 
-// Word i of the mark bits. Where all of its granules start kept objects, and so does the next, there is no gap.
+// Word i of the mark bits. Where all of its granules start kept objects, and so does the next, there is no gap; where none does, nothing is closed.
 pub fn sweep_word(im: &mut [Word], k: usize, i: usize, s: Edge) -> Edge
     requires { ⌜ Sized width k (now im) ⌝ }
-    requires { ⌜ (i < 64 * k / width) × (s .start + s .free ≤ 64 * k) × (width * i + width ≤ s .start) ⌝ }
+    requires { ⌜ (i < 64 * k / width) × Within k (s .start) (s .free) × (width * i + width ≤ s .start) ⌝ }
     ensures { λ r. ⌜ edged (r .start) (r .free) (imageOf width k (now (im .exit))) ≡ sweptFrom (width * i + width) (edged (s .start) (s .free) (imageOf width k (now (im .entry)))) width ⌝ }
-    ensures { λ r. ⌜ (width * i ≤ r .start) × (r .start + r .free ≤ 64 * k) ⌝ }
+    ensures { λ r. ⌜ (width * i ≤ r .start) × Within k (r .start) (r .free) ⌝ }
 {
+    let x = image::sections::mark_word(im, k, i);
     let e = s.start;
     if e == BITS * i + BITS {
-        if image::sections::mark_word(im, k, i) as usize + 1 == VALUES {
+        if x as usize + 1 == VALUES {
             let f = s.free;
             return Edge {
                 start: BITS * i,
@@ -119,19 +121,25 @@ pub fn sweep_word(im: &mut [Word], k: usize, i: usize, s: Edge) -> Edge
             };
         }
     }
+    if x == 0 {
+        return s;
+    }
     sweep_bits(im, k, i, s)
 }
 
-// The whole heap; returns the granules of all runs.
-pub fn sweep_all(im: &mut [Word], k: usize) -> usize
+// The whole heap; returns the free granules.
+pub fn sweep_all(im: &mut [Word], k: usize) -> Free
     requires { ⌜ Sized width k (now im) ⌝ }
     ensures { λ r. ⌜ edged 0 r (imageOf width k (now (im .exit))) ≡ sweptAll k (imageOf width k (now (im .entry))) ⌝ }
-    ensures { λ r. ⌜ r ≤ 64 * k ⌝ }
+    ensures { λ r. ⌜ Within k 0 r ⌝ }
 {
     image::sections::set_first_run(im, k, 0);
     let mut s = Edge {
         start: 64 * k,
-        free: 0,
+        free: Free {
+            granules: 0,
+            usable: 0,
+        },
     };
     let mut i = 64 * k / BITS;
     while 0 < i {
@@ -141,5 +149,5 @@ pub fn sweep_all(im: &mut [Word], k: usize) -> usize
     let e = s.start;
     let f = s.free;
     let n = close_gap(im, k, 1, e);
-    f + n
+    runs::granules::grow(f, n)
 }

@@ -6,18 +6,30 @@ ghost use Rattle.theory.specs.Lines.{Sound};
 ghost use Rattle.image_laws.specs.Sized.{Sized};
 ghost use Rattle.image.specs.Layout.{width};
 ghost use Rattle.request_laws.specs.Answer.{asked};
+ghost use Rattle.runs_laws.specs.Granules.{freeOf};
 ghost use Rattle.request.specs.Answer.{doneOf};
 use image::layout::Word;
 use request::answer::Answer;
+use runs::counted::Counted;
+use runs_laws::Free;
 
-pub fn finish(im: &mut [Word], k: usize) -> Answer
+pub fn finish(im: &mut [Word], k: usize, free: Free) -> Counted
     requires { ⌜ Sized width k (now im) ⌝ }
     requires { ⌜ Sound (imageOf width k (now im)) ⌝ }
-    ensures { λ r. ⌜ doneOf r (imageOf width k (now (im .exit))) ≡ step (imageOf width k (now (im .entry))) (asked 13 0 0 0 0) ⌝ }
+    requires { ⌜ free ≡ freeOf (imageOf width k (now im)) ⌝ }
+    ensures { λ r. ⌜ doneOf (r .answer) (imageOf width k (now (im .exit))) ≡ step (imageOf width k (now (im .entry))) (asked 13 0 0 0 0) ⌝ }
+    ensures { λ r. ⌜ r .free ≡ freeOf (imageOf width k (now (im .exit))) ⌝ }
 {
     if image::sections::running(im, k) == 0 {
-        return Answer::WrongPhase;
+        return Counted {
+            answer: Answer::WrongPhase,
+            free,
+        };
     }
-    let freed = crate::finish(im, k);
-    Answer::Done(freed)
+    let freed = crate::finish(im, k, free.granules);
+    let after = freed.free;
+    Counted {
+        answer: Answer::Done(freed.value),
+        free: after,
+    }
 }

@@ -4,3 +4,4 @@ pub mod Granules
 pub mod Bits
 pub mod Pieces
 pub mod Code
+pub mod Counted

@@ -1,17 +1,24 @@
 -- The sweep of a finish as the code does it: from the last granule down, by mark bits; and the granules of the runs, counted.
-use Prim.Native.Nat.{ℕ, zero, suc, _+_, _*_, _-_}
+use Prim.Native.Nat.{ℕ, zero, suc, _+_, _*_, _-_, _≤_}
 use mathlib.Core.Bool.{cond}
 use lib.Dec.{ltb, eqb}
 use Rattle.model.specs.Image.{Image, marked, size, firstRun, withHeap, setFirstRun, setWord}
 use Rattle.image_laws.specs.Clearing.{zeroed}
+use Rattle.runs_laws.specs.declared.Free.{Free}
+use Rattle.runs_laws.specs.Granules.{noneFree, grown}
 
--- an image, the first granule of the lowest kept object so far, and the granules of the runs behind it
+-- the lowest kept object so far and the free granules behind it lie in the heap of k cards
+pub record Within (k start : ℕ) (f : Free) : Type 0 where
+  pub room : start + f .granules ≤ 64 * k
+  pub fewer : f .usable ≤ f .granules
+
+-- an image, the first granule of the lowest kept object so far, and the free granules behind it
 pub record Edged : Type 0 where
   pub start : ℕ
-  pub free : ℕ
+  pub free : Free
   pub image : Image
 
-abbrev pub edged : ℕ → ℕ → Image → Edged
+abbrev pub edged : ℕ → Free → Image → Edged
 edged e f m = record { start = e; free = f; image = m }
 
 -- granule a becomes the first of a run
@@ -28,7 +35,7 @@ gap m a e = cond (ltb a e) (runFrom m a e) m
 
 -- what is kept at h and ends at a closes the gap behind it
 unfoldable pub closedAt : ℕ → ℕ → Edged → Edged
-closedAt h a s = edged h (s .free + (s .start - a)) (gap (s .image) a (s .start))
+closedAt h a s = edged h (grown (s .free) (s .start - a)) (gap (s .image) a (s .start))
 
 -- the kept object at h; where the next one starts right behind h, its size is not asked
 unfoldable pub keptAt : ℕ → Edged → Edged
@@ -45,4 +52,4 @@ sweptFrom n s (suc i) = passed (sweptFrom n s i) (n - suc i)
 
 -- all granules; granule 0, which no object has, closes the gap before the lowest kept object
 unfoldable pub sweptAll : ℕ → Image → Edged
-sweptAll k m = closedAt 0 1 (sweptFrom (64 * k) (edged (64 * k) 0 (setFirstRun m 0)) (64 * k))
+sweptAll k m = closedAt 0 1 (sweptFrom (64 * k) (edged (64 * k) noneFree (setFirstRun m 0)) (64 * k))

@@ -5,35 +5,50 @@ ghost use lib.ListN.{length};
 ghost use Rattle.model.specs.Image.{imageOf};
 ghost use Rattle.model.specs.Records.{records};
 ghost use Rattle.model.specs.Steps.{step, run, after, answersOf};
-ghost use Rattle.theory.specs.Lines.{Sound, Undamaged};
+ghost use Rattle.theory.specs.Lines.{Undamaged};
 ghost use Rattle.image_laws.specs.Sized.{Sized};
 ghost use Rattle.image.specs.Layout.{width, recordLength};
 ghost use Rattle.request_laws.specs.Request.{requested, InRange};
+ghost use Rattle.runs_laws.specs.Granules.{freeOf};
 ghost use Rattle.show_store_laws.specs.Run.{writtenAt};
 use image::layout::Word;
 use request_laws::Request;
+use runs_laws::Free;
 
-// Request i of a batch, and its two answer words.
-pub fn one(im: &mut [Word], k: usize, r: Request, answers: &mut [Word], i: usize)
+// Request i of a batch, and its two answer words; returns the free granules then.
+pub fn one(
+    im: &mut [Word],
+    k: usize,
+    r: Request,
+    answers: &mut [Word],
+    i: usize,
+    free: Free,
+) -> Free
     requires { ⌜ Sized width k (now im) ⌝ }
-    requires { ⌜ Sound (imageOf width k (now im)) ⌝ }
+    requires { ⌜ Undamaged (imageOf width k (now im)) ⌝ }
     requires { ⌜ InRange width r ⌝ }
     requires { ⌜ 2 * i + 2 ≤ length (now answers) ⌝ }
+    requires { ⌜ free ≡ freeOf (imageOf width k (now im)) ⌝ }
     ensures { λ _. ⌜ imageOf width k (now (im .exit)) ≡ (step (imageOf width k (now (im .entry))) (requested r)) .image ⌝ }
     ensures { λ _. ⌜ now (answers .exit) ≡ writtenAt (now (answers .entry)) i (step (imageOf width k (now (im .entry))) (requested r)) ⌝ }
+    ensures { λ f. ⌜ f ≡ freeOf (imageOf width k (now (im .exit))) ⌝ }
 {
-    let a = dispatch::perform::perform(im, k, r);
+    let c = dispatch::perform::perform(im, k, r, free);
+    let a = c.answer;
+    let left = c.free;
     let number = a.number();
     let value = a.value();
     answers[2 * i] = number;
     answers[2 * i + 1] = value;
+    left
 }
 
-// All records, in order: one reader goes from the first to the last.
-pub fn run_all(im: &mut [Word], k: usize, steps: &[u8], answers: &mut [Word])
+// All records, in order: one reader goes from the first to the last, and the free granules are counted from step to step.
+pub fn run_counted(im: &mut [Word], k: usize, steps: &[u8], answers: &mut [Word], mut free: Free)
     requires { ⌜ Sized width k (now im) ⌝ }
     requires { ⌜ Undamaged (imageOf width k (now im)) ⌝ }
     requires { ⌜ (length (now steps) % recordLength ≡ 0) × (length (now answers) ≡ 2 * (length (now steps) / recordLength)) ⌝ }
+    requires { ⌜ free ≡ freeOf (imageOf width k (now im)) ⌝ }
     ensures { λ _. ⌜ imageOf width k (now (im .exit)) ≡ after (imageOf width k (now (im .entry))) (run (imageOf width k (now (im .entry))) (records width (now (steps .entry)))) ⌝ }
     ensures { λ _. ⌜ now (answers .exit) ≡ answersOf (run (imageOf width k (now (im .entry))) (records width (now (steps .entry)))) ⌝ }
 {
@@ -42,7 +57,19 @@ pub fn run_all(im: &mut [Word], k: usize, steps: &[u8], answers: &mut [Word])
     let mut i = 0;
     while i < n {
         let r = records::reader::next(&mut reader);
-        one(im, k, r, answers, i);
+        free = one(im, k, r, answers, i, free);
         i = i + 1;
     }
+}
+
+// All records; before the first of them the free granules are counted along the runs.
+pub fn run_all(im: &mut [Word], k: usize, steps: &[u8], answers: &mut [Word])
+    requires { ⌜ Sized width k (now im) ⌝ }
+    requires { ⌜ Undamaged (imageOf width k (now im)) ⌝ }
+    requires { ⌜ (length (now steps) % recordLength ≡ 0) × (length (now answers) ≡ 2 * (length (now steps) / recordLength)) ⌝ }
+    ensures { λ _. ⌜ imageOf width k (now (im .exit)) ≡ after (imageOf width k (now (im .entry))) (run (imageOf width k (now (im .entry))) (records width (now (steps .entry)))) ⌝ }
+    ensures { λ _. ⌜ now (answers .exit) ≡ answersOf (run (imageOf width k (now (im .entry))) (records width (now (steps .entry)))) ⌝ }
+{
+    let free = runs::granules::count(im, k);
+    run_counted(im, k, steps, answers, free);
 }

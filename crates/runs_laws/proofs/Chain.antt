@@ -3,16 +3,14 @@ use mathlib.Core.Path.{_≡_, refl, sym, ap, _∙_}
 use mathlib.Core.Logic.{_⊎_, inl, inr, ⊎-elim}
 use mathlib.Core.Bool.{cond}
 use Prim.Native.Nat.{ℕ, zero, suc, _+_, _-_, _≤_, _<_, _*_}
-use native.Mathlib.Decide.{decLt}
 use native.Mathlib.Omega.{arith}
 use lib.Dec.{eqb}
 use borrow.Author.Tests.{le-leb, lt-leb, eq-eqb, ne-eqb}
 use Rattle.model.specs.Image.{Image, granules, word, firstRun}
 use Rattle.model.specs.Mutate.{fit, roomFor, Room, sumRuns, ifLong, granulesInRuns}
 use Rattle.runs_laws.specs.Chain.{Linked, linked-end, linked-run}
-use Rattle.theory.proofs.heap.Free.{sum-end}
+use Rattle.theory.proofs.heap.Sums.{sum-end, sum-next, no-more}
 use native.Mathlib.Nat.{zero-add}
-use native.Mathlib.Numerals.{sub-one}
 
 -- ---- a place on the chain, with as many runs left to ask as there may be
 
@@ -96,24 +94,6 @@ module _ (m : Image) (b before g : ℕ) (w : Walk m b before g) where
 
 -- ---- the walk that counts granules
 
--- a run that is long enough counts, another does not
-pub long-counts : (least n : ℕ) → least ≤ n → n ≡ ifLong least n
-unfolding ifLong
-long-counts least n l = rw (le-leb least n l)
-
-pub short-counts : (least n : ℕ) → n < least → 0 ≡ ifLong least n
-unfolding ifLong
-short-counts least n l = rw (lt-leb least n l)
-
-pub no-more : (least n s : ℕ) → s ≡ ifLong least n → s ≤ n
-no-more least n s e = elim (decLt n least) [ yes l ↦ omega (arith, short-counts least n l) | no l ↦ omega (arith, long-counts least n (omega arith)) ]
-
-sum-next : (v : ℕ → ℕ) (m : Image) (n g : ℕ) → 0 < n → 0 < g → sumRuns v m n g ≡ v (word m g 0) + sumRuns v m (n - 1) (word m g 1)
-unfolding sumRuns
-sum-next v m zero g h i = absurd (omega arith)
-sum-next v m (suc n) zero h i = absurd (omega arith)
-sum-next v m (suc n) (suc g) h i = rw sub-one
-
 -- total granules are counted before run g, each run's fewer than the widest word can say
 pub record Counting (least : ℕ) (m : Image) (total g : ℕ) : Type 0 where
   pub left : ℕ
@@ -138,10 +118,11 @@ module _ (least : ℕ) (m : Image) (total g : ℕ) (w : Counting least m total g
     count-next n s en l es =
         let so-far : total ≤ 4294967295 * g = ⊎-elim (λ e. absurd (h e)) (λ l. l) (w .fewer) in
         let few : s ≤ 4294967295 = omega (arith, no-more least n s es) in
+        let e : suc (w .left - 1) ≡ w .left = omega (arith, on-turn m (w .left) g (w .on) h .1) in
         record {
           left = w .left - 1;
           on = on-turn m (w .left) g (w .on) h .2;
-          same = omega (arith, w .same, es, ap (ifLong least) en, sum-next (ifLong least) m (w .left) g (on-turn m (w .left) g (w .on) h .1) (omega arith));
+          same = omega (arith, w .same, es, ap (ifLong least) en, ap (λ x. sumRuns (ifLong least) m x g) e, sum-next (ifLong least) m (w .left - 1) g (omega arith));
           small = omega (arith, count-in);
           fewer = elim (linked-in m g (w .on .linked) h .1) [ inl z ↦ inl z | inr z ↦ inr (omega arith) ];
         }

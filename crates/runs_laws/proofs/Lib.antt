@@ -1,3 +1,4 @@
 pub mod Chain
+pub mod Granules
 pub mod Sound
 pub mod Due

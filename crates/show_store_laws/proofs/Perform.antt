@@ -1,22 +1,34 @@
 -- The dispatch: what an admitted request's fields are, kind by kind, and its step by its kind.
-use mathlib.Core.Path.{_≡_, refl}
+use mathlib.Core.Path.{_≡_, refl, sym, ap, _∙_}
+use mathlib.Core.Logic.{⊎-elim}
 use mathlib.Core.Bool.{true}
-use Prim.Native.Nat.{ℕ, zero, suc, _≤_, _<_}
+use mathlib.Core.List.{List, [], _∷_}
+use Prim.Native.Nat.{ℕ, zero, suc, _<_}
 use native.Mathlib.Decide.{decLt}
 use native.Mathlib.Omega.{arith}
+use lib.Dec.{eqb}
+use borrow.Author.Tests.{eqb-true}
+use Rattle.model.specs.Base.{all, elem}
 use Rattle.model.specs.Image.{Image, owed}
-use Rattle.model.specs.Records.{unknown, kindOf}
+use Rattle.model.specs.Mutate.{freeGranules, granulesInRuns, usableRun, usableGranules}
+use Rattle.model.specs.Records.{Kind, new, finish, unknown, kindOf}
 use Rattle.model.specs.Rows.{unused, player, below, limit, rowOf}
 use Rattle.model.specs.Steps as steps
 use Rattle.model.specs.Steps.{unnamed, step}
-use Rattle.model.proofs.Rows.{kind-unknown}
+use Rattle.model.proofs.Laws.{false≢, or-split, all-use}
+use Rattle.model.proofs.Rows.{kind-unknown, kind-number}
+use Rattle.theory.specs.Lines.{Undamaged}
 use Rattle.theory.specs.Fields.{fieldAt, roleAt}
+use Rattle.theory.proofs.heap.Outside.{all-runs}
+use Rattle.theory.proofs.steps.Runs.{runs-stay}
 use Rattle.theory.proofs.steps.Fields.{field-zero, field-below, field-paid}
 use Rattle.request_laws.specs.Answer.{done, asked}
 use Rattle.request_laws.proofs.Numbers.{number-3}
 use Rattle.request_laws.specs.Passed.{Passed}
 use Rattle.request_laws.specs.Request.{requested}
 use Rattle.request_laws.specs.declared.Request.{Request}
+use Rattle.runs_laws.specs.declared.Free.{Free}
+use Rattle.runs_laws.specs.Granules.{freeOf}
 
 -- the step of a request, by the fields that its kind names; the others are 0
 by-kind : (m : Image) (r : Request) (n w a b c : ℕ) (d : steps.Done) → r .kind ≡ n → r .who ≡ w → r .a ≡ a → r .b ≡ b → r .c ≡ c → d ≡ step m (asked n w a b c) → d ≡ step m (requested r)
@@ -142,20 +154,47 @@ module _ {m : Image} (r : Request) (q : Passed m (requested r) (kindOf (r .kind)
 
 -- ---- a number that is no kind's
 
--- n is none of the numbers 1 to j
-abbrev pub NoneTo : ℕ → ℕ → Type 0
-NoneTo n zero = Unit
-NoneTo n (suc j) = NoneTo n j × (n ≡ suc j → ⊥)
+-- n is none of these
+abbrev pub NoneOf : ℕ → List ℕ → Type 0
+NoneOf n [] = Unit
+NoneOf n (x ∷ xs) = NoneOf n xs × (n ≡ x → ⊥)
 
-none-to : (n j : ℕ) → NoneTo n j → 1 ≤ n → n ≤ j → ⊥
-none-to n zero h p q = omega arith
-none-to n (suc j) h p q = none-to n j (h .0) p (omega (arith, h .1))
+none-of : (n : ℕ) (xs : List ℕ) → NoneOf n xs → elem n xs ≡ true → ⊥
+unfolding elem
+none-of n [] h e = false≢ e
+none-of n (x ∷ xs) h e = ⊎-elim (λ q. h .1 (eqb-true n x q)) (λ q. none-of n xs (h .0) q) (or-split (eqb n x) (elem n xs) e)
 
-no-kind : (n : ℕ) → NoneTo n 15 → kindOf n ≡ unknown
-unfolding kindOf
+-- the kinds that leave the free granules as many as they are; with new and finish they are all
+abbrev pub others : List ℕ
+others = 15 ∷ 14 ∷ 12 ∷ 11 ∷ 10 ∷ 9 ∷ 8 ∷ 7 ∷ 6 ∷ 5 ∷ 4 ∷ 3 ∷ 2 ∷ []
+
+abbrev kinds : List ℕ
+kinds = 1 ∷ 13 ∷ others
+
+no-kind : (n : ℕ) → NoneOf n kinds → kindOf n ≡ unknown
+unfolding kindOf elem all
 no-kind zero h = refl
-no-kind (suc n) h = kind-unknown (suc n) (elim (decLt (suc n) 16) [ yes l ↦ absurd (none-to (suc n) 15 h (omega arith) (omega arith)) | no l ↦ omega arith ])
+no-kind (suc n) h = kind-unknown (suc n) (elim (decLt (suc n) 16) [ yes l ↦ absurd (none-of (suc n) kinds h (all-use 15 (λ x. elem (suc x) kinds) refl n (omega arith))) | no l ↦ omega arith ])
 
-pub no-step : (m : Image) (r : Request) → NoneTo (r .kind) 15 → done 3 0 m ≡ step m (requested r)
+pub no-step : (m : Image) (r : Request) → NoneOf (r .kind) others → (r .kind ≡ 1 → ⊥) × (r .kind ≡ 13 → ⊥) → done 3 0 m ≡ step m (requested r)
 unfolding requested unnamed
-no-step m r h = number-3 m (requested r) unknown (no-kind (r .kind) h) refl
+no-step m r h k = number-3 m (requested r) unknown (no-kind (r .kind) ((h, k .1), k .0)) refl
+
+-- ---- the free granules
+
+-- a kind that is not the request's
+not-kind : (r : Request) (n : Kind) → (r .kind ≡ (rowOf n) .code → ⊥) → ((rowOf n) .code ≡ 0 → ⊥) → kindOf (r .kind) ≡ n → ⊥
+not-kind r n h nz e = h (kind-number (r .kind) n e nz)
+
+-- all kinds but new and finish leave them as many as they were
+module _ (m n : Image) (r : Request) (u : Undamaged m) (a : r .kind ≡ 1 → ⊥) (b : r .kind ≡ 13 → ⊥) (number value : ℕ) (d : done number value n ≡ step m (requested r)) where
+  runs-left : (least : ℕ) → granulesInRuns least n ≡ granulesInRuns least m
+  unfolding requested rowOf
+  runs-left least = ap (λ x. granulesInRuns least (x .image)) d ∙ runs-stay m (requested r) u (not-kind r new a (omega arith)) (not-kind r finish b (omega arith)) least
+
+  pub free-left : (free : Free) → free ≡ freeOf m → free ≡ freeOf n
+  unfolding usableGranules
+  free-left free e =
+      let all : freeGranules m ≡ freeGranules n = sym (all-runs m) ∙ sym (runs-left 0) ∙ all-runs n in
+      let long : usableGranules m ≡ usableGranules n = sym (runs-left usableRun) in
+      e ∙ (λ x. record { granules = all x; usable = long x })

@@ -1,4 +1,5 @@
--- One turn of the batch's loop, and its invariant: the records so far have run, and their answers stand before what is left of the answer space.
+-- One turn of the batch's loop, and its invariant: the records so far have run, their answers stand before what is left of the answer space, and the
+-- free granules are counted.
 use mathlib.Core.Path.{_≡_, refl, sym, ap, _∙_}
 use mathlib.Core.List.{List, [], _∷_, _++_, append-nil}
 use Prim.Native.Nat.{ℕ, suc, _+_, _*_, _/_, _≤_, _<_, zero-le}
@@ -15,6 +16,8 @@ use Rattle.theory.specs.Lines.{Undamaged}
 use Rattle.theory.proofs.steps.Kept.{step-keeps}
 use Rattle.theory.proofs.steps.Steps.{run-append}
 use Rattle.image_laws.specs.Sized.{Sized}
+use Rattle.runs_laws.specs.declared.Free.{Free}
+use Rattle.runs_laws.specs.Granules.{freeOf}
 use Rattle.show_store_laws.specs.Run.{recordAt, ran, writtenAt}
 use Rattle.request_laws.specs.Answer.{done}
 
@@ -74,7 +77,7 @@ module _ (w : ℕ) (m : Image) (bytes : List ℕ) (i : ℕ) (long : length (answ
 
 -- ---- the invariant
 
-pub record Ran (w k : ℕ) (im₀ bytes answers₀ : List ℕ) (n : ℕ) (im answers : List ℕ) (i : ℕ) : Type 0 where
+pub record Ran (w k : ℕ) (im₀ bytes answers₀ : List ℕ) (n : ℕ) (im answers : List ℕ) (free : Free) (i : ℕ) : Type 0 where
   pub low : i ≤ n
   pub image : imageOf w k im ≡ after (imageOf w k im₀) (ran w (imageOf w k im₀) bytes i)
   pub written : answers ≡ answersOf (ran w (imageOf w k im₀) bytes i) ++ drop (2 * i) answers₀
@@ -83,16 +86,17 @@ pub record Ran (w k : ℕ) (im₀ bytes answers₀ : List ℕ) (n : ℕ) (im ans
   pub same : length im ≡ length im₀
   pub long : length answers ≡ length answers₀
   pub undamaged : Undamaged (imageOf w k im)
+  pub counted : free ≡ freeOf (imageOf w k im)
 
-pub ran-none : (w k : ℕ) (im bytes answers : List ℕ) (n : ℕ) → Sized w k im → Undamaged (imageOf w k im) → Ran w k im bytes answers n im answers 0
+pub ran-none : (w k : ℕ) (im bytes answers : List ℕ) (n : ℕ) → Sized w k im → Undamaged (imageOf w k im) → (free : Free) → free ≡ freeOf (imageOf w k im) → Ran w k im bytes answers n im answers free 0
 unfolding ran table run after answersOf
-ran-none w k im bytes answers n z u = record { low = zero-le; image = refl; written = refl; answers-long = refl; sized = z; same = refl; long = refl; undamaged = u }
+ran-none w k im bytes answers n z u free c = record { low = zero-le; image = refl; written = refl; answers-long = refl; sized = z; same = refl; long = refl; undamaged = u; counted = c }
 
-module _ (w k : ℕ) (im₀ bytes answers₀ : List ℕ) (n : ℕ) (im answers : List ℕ) (i : ℕ) (im₁ answers₁ : List ℕ) where
-  pub ran-more : Ran w k im₀ bytes answers₀ n im answers i → i < n → length answers₀ ≡ 2 * n
+module _ (w k : ℕ) (im₀ bytes answers₀ : List ℕ) (n : ℕ) (im answers : List ℕ) (free : Free) (i : ℕ) (im₁ answers₁ : List ℕ) (free₁ : Free) where
+  pub ran-more : Ran w k im₀ bytes answers₀ n im answers free i → i < n → length answers₀ ≡ 2 * n
       → imageOf w k im₁ ≡ (step (imageOf w k im) (recordAt w bytes i)) .image → answers₁ ≡ writtenAt answers i (step (imageOf w k im) (recordAt w bytes i))
-      → length im₁ ≡ length im → length answers₁ ≡ length answers → Ran w k im₀ bytes answers₀ n im₁ answers₁ (i + 1)
-  ran-more r h l e f d c =
+      → free₁ ≡ freeOf (imageOf w k im₁) → length im₁ ≡ length im → length answers₁ ≡ length answers → Ran w k im₀ bytes answers₀ n im₁ answers₁ free₁ (i + 1)
+  ran-more r h l e f u d c =
       let m : Image = imageOf w k im₀ in
       let q : step (imageOf w k im) (recordAt w bytes i) ≡ step (so-far w m bytes i) (recordAt w bytes i) = ap (λ x. step x (recordAt w bytes i)) (unfold so-far in r .image) in
       record {
@@ -104,12 +108,13 @@ module _ (w k : ℕ) (im₀ bytes answers₀ : List ℕ) (n : ℕ) (im answers :
         same = d ∙ r .same;
         long = c ∙ r .long;
         undamaged = rw e (step-keeps (imageOf w k im) (recordAt w bytes i) (r .undamaged));
+        counted = u;
       }
 
 -- ---- the end
 
-module _ (w k : ℕ) (im₀ bytes answers₀ : List ℕ) (n : ℕ) (im answers : List ℕ) where
-  pub ran-end : Ran w k im₀ bytes answers₀ n im answers n → n ≡ length bytes / recordBytes w → length answers₀ ≡ 2 * n
+module _ (w k : ℕ) (im₀ bytes answers₀ : List ℕ) (n : ℕ) (im answers : List ℕ) (free : Free) where
+  pub ran-end : Ran w k im₀ bytes answers₀ n im answers free n → n ≡ length bytes / recordBytes w → length answers₀ ≡ 2 * n
       → (imageOf w k im ≡ after (imageOf w k im₀) (run (imageOf w k im₀) (records w bytes))) × (answers ≡ answersOf (run (imageOf w k im₀) (records w bytes)))
   ran-end r h l =
       let m : Image = imageOf w k im₀ in

@@ -1,6 +1,6 @@
 -- What a walk of code by hand uses, whatever the code: parts of the code, facts, and loans. Nothing here speaks of the store.
 --     tyAt, first-of, rest-of, inside      the type of a local, the parts of a sequence, and a turn of a loop in a block
---     needs3           three facts of a `requires` are learned
+--     needs4           four facts of a `requires` are learned
 --     LentAgain        what the holder of a `&κ mut [T]` keeps while it is lent again for κ′ under the name γ₁: the lender's part at κ′, and its own borrow at κ, open, with both halves of its ghost variable
 --     lends-again      own (the `&κ mut [T]` ((b, o), γ, ys)) ∗ [κ]_q  ⊢ ⇛ ∃ γ₁. own (the `&κ′ mut [T]` ((b, o), γ₁, ys)) ∗ LentAgain γ₁
 --     comes-back       given `Room` and that zs is as long as ys:  [†κ′] ∗ LentAgain γ₁ ∗ finally γ₁ zs  ⊢ ⇛ (own (the `&κ mut [T]` ((b, o), γ, zs)) ∗ [κ]_q)
@@ -58,14 +58,17 @@ rest-of c = (parts c) .1
 abbrev pub inside : Code → Code
 inside c = (parts c) .2
 
--- three facts of a `requires` are learned
-pub needs3 : {M : Type 1} (𝓤 : URA M) (φ ψ χ : Type 0) (P : SProp 𝓤) {Q : SProp 𝓤} → (φ → ψ → χ → ent 𝓤 P Q) → ent 𝓤 (sep 𝓤 P (sep 𝓤 (fact 𝓤 φ) (sep 𝓤 (fact 𝓤 ψ) (fact 𝓤 χ)))) Q
-needs3 𝓤 φ ψ χ P h =
-    let F : SProp 𝓤 = sep 𝓤 (fact 𝓤 φ) (sep 𝓤 (fact 𝓤 ψ) (fact 𝓤 χ)) in
-    let G : SProp 𝓤 = sep 𝓤 (fact 𝓤 ψ) (fact 𝓤 χ) in
+-- four facts of a `requires` are learned
+pub needs4 : {M : Type 1} (𝓤 : URA M) (φ ψ χ ω : Type 0) (P : SProp 𝓤) {Q : SProp 𝓤} → (φ → ψ → χ → ω → ent 𝓤 P Q) → ent 𝓤 (sep 𝓤 P (sep 𝓤 (fact 𝓤 φ) (sep 𝓤 (fact 𝓤 ψ) (sep 𝓤 (fact 𝓤 χ) (fact 𝓤 ω))))) Q
+needs4 𝓤 φ ψ χ ω P h =
+    let J : SProp 𝓤 = sep 𝓤 (fact 𝓤 χ) (fact 𝓤 ω) in
+    let G : SProp 𝓤 = sep 𝓤 (fact 𝓤 ψ) J in
+    let F : SProp 𝓤 = sep 𝓤 (fact 𝓤 φ) G in
+    let to-J : ent 𝓤 (sep 𝓤 P F) J = via 𝓤 F (snd∗ 𝓤 P F) (via 𝓤 G (snd∗ 𝓤 (fact 𝓤 φ) G) (snd∗ 𝓤 (fact 𝓤 ψ) J)) in
     fact-use 𝓤 φ (via 𝓤 F (snd∗ 𝓤 P F) (fst∗ 𝓤 (fact 𝓤 φ) G)) (λ x.
-    fact-use 𝓤 ψ (via 𝓤 F (snd∗ 𝓤 P F) (via 𝓤 G (snd∗ 𝓤 (fact 𝓤 φ) G) (fst∗ 𝓤 (fact 𝓤 ψ) (fact 𝓤 χ)))) (λ y.
-    fact-use 𝓤 χ (via 𝓤 F (snd∗ 𝓤 P F) (via 𝓤 G (snd∗ 𝓤 (fact 𝓤 φ) G) (snd∗ 𝓤 (fact 𝓤 ψ) (fact 𝓤 χ)))) (λ z. via 𝓤 P (fst∗ 𝓤 P F) (h x y z))))
+    fact-use 𝓤 ψ (via 𝓤 F (snd∗ 𝓤 P F) (via 𝓤 G (snd∗ 𝓤 (fact 𝓤 φ) G) (fst∗ 𝓤 (fact 𝓤 ψ) J))) (λ y.
+    fact-use 𝓤 χ (via 𝓤 J to-J (fst∗ 𝓤 (fact 𝓤 χ) (fact 𝓤 ω))) (λ z.
+    fact-use 𝓤 ω (via 𝓤 J to-J (snd∗ 𝓤 (fact 𝓤 χ) (fact 𝓤 ω))) (λ u. via 𝓤 P (fst∗ 𝓤 P F) (h x y z u)))))
 
 -- ---- loans
 module _ (R : RattleType) (κ κ′ : Lft) (q : Share) (γ : GName) (b o : ℕ) where

@@ -4,4 +4,5 @@ pub mod Room
 pub mod Carve
 pub mod TakeRun
 pub mod NewHeap
+pub mod Shrink
 pub mod NewMade

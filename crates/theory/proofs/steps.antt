@@ -12,3 +12,4 @@ pub mod EachKind
 pub mod Kept
 pub mod Numbers
 pub mod Due
+pub mod Runs

@@ -4,6 +4,7 @@
 //! the parts to run, all if there are none.
 
 mod calls;
+mod dues;
 mod halts;
 mod judging;
 mod mapping;
@@ -25,7 +26,7 @@ const PARTS: [(&str, Part); 11] = [
     ("map", mapping::mapping),
     ("steps", stepping::stepping),
     ("finish", stepping::finishing),
-    ("due", stepping::asking),
+    ("due", dues::dues),
     ("undirty", stepping::wiping),
     ("pauses", pauses::pauses),
     ("show", |_| halts::longest()),

@@ -1,12 +1,10 @@
-//! Timings of batches: the steps of a show, a finish, due, and undirty.
+//! Timings of batches: the steps of a show, a finish, and undirty.
 
 use crate::calls::{Batch, Call};
-use crate::shows::{show, Free, Sizes};
 use crate::timing::{in_turn, Goals, NOT_SLOWER};
-use crate::work::{self, BEGIN, DUE_OF_NONE, FINISH};
+use crate::work::{self, BEGIN, FINISH};
 
-/// Dues in a batch, and stores: enough to show beside the judging of the image.
-const DUES: usize = 100;
+/// Stores in a batch: enough to show beside the judging of the image.
 const STORES: usize = 2_000;
 
 pub fn stepping(goals: &mut Goals) {
@@ -36,22 +34,6 @@ pub fn alone<const N: usize>(rounds: usize, steps: &[u8], runs: [(Batch, &[u16])
         }
     }
     least.map(|[whole, judging]| whole - judging)
-}
-
-/// Due, on a store with as many runs as there can be.
-pub fn asking(goals: &mut Goals) {
-    println!("due                         library ns  second ns  library/second  (a step)");
-    let steps = DUE_OF_NONE.repeat(DUES);
-    let linear = [64, 512].map(|k| {
-        let image = show(k, Sizes::OneBetweenRuns, Free::Nothing);
-        let [ours, theirs] =
-            alone(4, &steps, [(library::batch, &image), (reference::batch, &image)]).map(|all| all / DUES as f64);
-        println!("  k = {k:3}, {:5} runs {ours:18.0} {theirs:10.0} {:14.2}", 32 * k - 1, ours / theirs);
-        goals.at_most("due against the second implementation", ours / theirs, NOT_SLOWER);
-        ours
-    });
-    println!("  a due at k = 512 against k = 64: {:.1}", linear[1] / linear[0]);
-    goals.at_most("a due at k = 512 against k = 64", linear[1] / linear[0], 10.0);
 }
 
 /// A player fills cues in a cycle: each store with its barrier, and then with an undirty of the card too.

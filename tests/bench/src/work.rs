@@ -5,12 +5,11 @@ use reference::image::{Image, Store};
 use reference::layout::{card_of, LARGEST_OBJECT, REGISTERS};
 use reference::made::fresh_image;
 use reference::random::Random;
-use reference::record::{Record, BARRIER, CLEAN, NEW, SCAN, STORE, TRACE, UNDIRTY};
+use reference::record::*;
 use reference::steps::step;
 
 pub const BEGIN: [u8; 8] = [9, 0, 0, 0, 0, 0, 0, 0];
 pub const FINISH: [u8; 8] = [13, 0, 0, 0, 0, 0, 0, 0];
-pub const DUE_OF_NONE: [u8; 8] = [14, 0, 0, 0, 0, 0, 0, 0];
 
 /// The image that some steps leave.
 pub fn after(image: &[u16], steps: &[u8]) -> Vec<u16> {
@@ -105,8 +104,31 @@ pub fn filling(image: &[u16], stores: usize, is_wiped: bool) -> Vec<u8> {
             steps.extend(Record::new(UNDIRTY, 0, card_of(cue) as u16, 0, 0).to_bytes());
         }
     }
+    assert_accepted(image, &steps);
+    steps
+}
+
+fn assert_accepted(image: &[u16], steps: &[u8]) {
     let mut answers = vec![0; steps.len() / 4];
-    assert_eq!(reference::batch(&mut image.to_vec(), &steps, &mut answers), 0);
-    assert!(answers.iter().all(|&word| word == 0), "a step that is refused");
+    assert_eq!(reference::batch(&mut image.to_vec(), steps, &mut answers), 0);
+    assert!(answers.chunks(2).all(|answer| answer[0] == 0), "a step that is refused");
+}
+
+/// A playback loop on a cue in register 0 with a link and a level word, so many steps, with that record behind each. Now and then
+/// there is a new of one granule.
+pub fn playback(image: &[u16], count: usize, behind: Record) -> Vec<u8> {
+    let round = [
+        Record::new(READ, 0, 0, 0, 0),
+        Record::new(WRITE, 0, 0, 0, 7),
+        Record::new(LOAD, 0, 1, 0, 0),
+        Record::new(STORE, 0, 0, 0, 1),
+        Record::new(BARRIER, 0, 0, 0, 0),
+        Record::new(HAND, 0, 0, 1, 0),
+        Record::new(DROP, 0, 1, 0, 0),
+    ];
+    let rounds = [&round[..], &round, &round, &[Record::new(NEW, 0, 2, 1, 1)]].concat();
+    let steps: Vec<u8> =
+        rounds.iter().cycle().take(count).flat_map(|step| [*step, behind]).flat_map(Record::to_bytes).collect();
+    assert_accepted(image, &steps);
     steps
 }

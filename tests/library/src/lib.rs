@@ -1,5 +1,6 @@
 //! The proved library, called as C calls it: a slice is a pointer and a length.
 
+pub mod compared;
 pub mod guarded;
 
 mod exported {

@@ -1,88 +1,13 @@
 //! `batch` of the proved library against the second implementation, memory for memory.
 
-use library::guarded::Guarded;
-use reference::demand::{found_no_packet, Wiped};
+use library::compared::{same, Seen};
 use reference::generate::{batches, list, list_with_dues, list_with_wiping, miscount, spoil, Pace};
-use reference::image::{Image, Store};
+use reference::image::Store;
 use reference::made::{bare, fresh_image, holes, idle, running, starved, STARVED_CARDS};
 use reference::random::Random;
-use reference::record::{records, Record, DUE, RECORD_BYTES, UNDIRTY};
+use reference::record::{Record, RECORD_BYTES, UNDIRTY};
 use reference::vectors::{parse_batches, parse_older, parse_older_batches, BatchCase, Case, UNTOUCHED};
 use reference::{whole_list, Counts};
-
-const GUARD: u16 = 0xa55a;
-const BYTE_GUARD: u8 = 0x77;
-
-/// What a run has shown: steps, accepted ones by kind, dues that said 1, steps of no kind, numbers, those of undirty steps, refused
-/// batches, and in batches of one step those that found no packet for an object, and the cards that were wiped.
-#[derive(Debug, Default)]
-struct Seen {
-    steps: usize,
-    accepted: [usize; 16],
-    due: usize,
-    unknown_kinds: usize,
-    numbers: [usize; 12],
-    undirty_numbers: [usize; 12],
-    refused: usize,
-    without_packet: usize,
-    wiped: Wiped,
-}
-
-impl Seen {
-    fn count(&mut self, steps: &[u8], answers: &[u16]) {
-        for (record, answer) in records(steps).zip(answers.chunks(2)) {
-            self.steps += 1;
-            self.unknown_kinds += usize::from(!(1..=15).contains(&record.kind));
-            self.numbers[usize::from(answer[0])] += 1;
-            self.undirty_numbers[usize::from(answer[0])] += usize::from(record.kind == UNDIRTY);
-            if answer[0] == 0 {
-                self.accepted[usize::from(record.kind)] += 1;
-                self.due += usize::from(record.kind == DUE && answer[1] == 1);
-            }
-        }
-    }
-
-    fn every_kind(&self) -> bool {
-        (1..=15).all(|kind| self.accepted[kind] > 0)
-    }
-
-    fn every_refusal(&self) -> bool {
-        (3..=11).all(|number| self.numbers[number] > 0)
-    }
-
-    fn every_refusal_of_undirty(&self) -> bool {
-        [3, 4, 10, 11].iter().all(|&number| self.undirty_numbers[number] > 0)
-    }
-}
-
-/// One call of both: same result, image and answers, and nothing else touched.
-fn same(image: &mut [u16], steps: &[u8], answer_words: usize, seen: &mut Seen) {
-    let answers = vec![UNTOUCHED; answer_words];
-    let mut lent = Guarded::new(image, GUARD);
-    let lent_steps = Guarded::new(steps, BYTE_GUARD);
-    let mut lent_answers = Guarded::new(&answers, GUARD);
-    let result = library::batch(lent.items_mut(), lent_steps.items(), lent_answers.items_mut());
-
-    let got = image.to_vec();
-    let mut others = answers;
-    let wanted = reference::batch(image, steps, &mut others);
-    assert_eq!(result, wanted, "result of a batch of {} bytes on {} words", steps.len(), image.len());
-    assert!(lent.items() == image, "image after {steps:02x?}");
-    assert_eq!(lent_answers.items(), others, "answers of {steps:02x?}");
-    assert!(lent.guards_stand() && lent_answers.guards_stand(), "memory outside the slices");
-    assert!(lent_steps.guards_stand() && lent_steps.items() == steps, "step bytes written");
-
-    if result != 0 {
-        seen.refused += 1;
-        return;
-    }
-    seen.count(steps, &others);
-    if steps.len() == RECORD_BYTES && others[0] == 0 {
-        let (got, left) = (Image::of(&got).unwrap(), Image::of(image).unwrap());
-        seen.without_packet += usize::from(found_no_packet(steps, got, left));
-        seen.wiped.count(steps, got);
-    }
-}
 
 /// A random list of about `count` steps from the image, in random batches, misfits between.
 fn run(random: &mut Random, image: Vec<u16>, count: usize, seen: &mut Seen) {
@@ -349,22 +274,31 @@ fn outside_vectors() {
     }
 }
 
-#[test]
-fn outside_dues() {
-    let (cases, left_out) = parse_older_batches(include_str!("../../vectors/document_02/01-i.txt")).unwrap();
-    assert_eq!((cases.len(), left_out), (66, 4));
+fn assert_as_given(cases: Vec<BatchCase>) {
     for (case, answers) in run_vectors(cases) {
         assert_eq!(answers, case.given, "case {}", case.name);
     }
 }
 
 #[test]
+fn outside_dues() {
+    let (cases, left_out) = parse_older_batches(include_str!("../../vectors/document_02/01-i.txt")).unwrap();
+    assert_eq!((cases.len(), left_out), (66, 4));
+    assert_as_given(cases);
+}
+
+#[test]
 fn outside_wiping() {
     let cases = parse_batches(include_str!("../../vectors/document_02/02-ii.txt")).unwrap();
     assert_eq!(cases.len(), 70);
-    for (case, answers) in run_vectors(cases) {
-        assert_eq!(answers, case.given, "case {}", case.name);
-    }
+    assert_as_given(cases);
+}
+
+#[test]
+fn outside_dues_in_batches() {
+    let cases = parse_batches(include_str!("../../vectors/document_02/04-iv.txt")).unwrap();
+    assert_eq!(cases.len(), 70);
+    assert_as_given(cases);
 }
 
 /// A finish of the library on the outside vectors whose images have Cover too.

@@ -346,7 +346,7 @@ struct Held {
     object: usize,
 }
 
-fn of_a_player(random: &mut Random, image: Image, kind: u8) -> Record {
+pub(crate) fn of_a_player(random: &mut Random, image: Image, kind: u8) -> Record {
     let free: Vec<usize> = (0..PLAYERS).filter(|&p| image.owed_card(p).is_none()).collect();
     let Some(player) = random.pick(&free) else {
         return Record::new(BARRIER, random.below(PLAYERS) as u8, 0, 0, 0);

@@ -10,6 +10,7 @@ pub mod judge;
 pub mod layout;
 pub mod made;
 pub mod map;
+pub mod pinned;
 pub mod plain;
 pub mod program;
 pub mod random;

@@ -6,7 +6,7 @@ use common::*;
 use reference::image::{Image, Store};
 use reference::made::fresh_image;
 use reference::steps::step as run_step;
-use reference::vectors::{parse_older_batches, BatchCase};
+use reference::vectors::{parse_batches, parse_older_batches, BatchCase};
 
 /// What due says of an image.
 fn due_of(image: &[u16], wanted: u16) -> (u16, u16) {
@@ -96,6 +96,8 @@ fn assert_told(cases: &[&BatchCase], at_least: usize) {
 #[test]
 fn the_vectors_tell_wrong_rules() {
     let (cases, _) = parse_older_batches(include_str!("../../vectors/document_02/01-i.txt")).unwrap();
+    assert_told(&cases.iter().collect::<Vec<_>>(), 5);
+    let cases = parse_batches(include_str!("../../vectors/document_02/04-iv.txt")).unwrap();
     assert_told(&cases.iter().collect::<Vec<_>>(), 5);
 }
 

@@ -2,6 +2,7 @@
 
 use std::collections::BTreeMap;
 
+use reference::record::{records, DUE, RECORD_BYTES};
 use reference::vectors::{
     parse, parse_batches, parse_maps, parse_older, parse_older_batches, print, BatchCase, Case, UNTOUCHED,
     UNTOUCHED_BYTE,
@@ -12,6 +13,7 @@ const BATCHES: &str = include_str!("../../vectors/batches.txt");
 const DUES: &str = include_str!("../../vectors/document_02/01-i.txt");
 const WIPING: &str = include_str!("../../vectors/document_02/02-ii.txt");
 const MAPS: &str = include_str!("../../vectors/document_02/03-iii.txt");
+const DUES_IN_BATCHES: &str = include_str!("../../vectors/document_02/04-iv.txt");
 const FINISHES: &str = include_str!("../../vectors/finishes.txt");
 
 /// The reference's answers and image for a case, whose result must be right.
@@ -62,6 +64,20 @@ fn wiping() {
     cases.iter().for_each(assert_as_given);
 }
 
+/// Cases by their result, the longest batch, and the dues that say 0 and 1.
+#[test]
+fn dues_in_batches() {
+    let cases = parse_batches(DUES_IN_BATCHES).unwrap();
+    cases.iter().for_each(assert_as_given);
+    let results = [0, 1, 2].map(|result| cases.iter().filter(|case| case.result == result).count());
+    let longest = cases.iter().map(|case| case.steps.len() / RECORD_BYTES).max();
+    let answered = cases.iter().filter(|case| case.result == 0);
+    let answers = answered.flat_map(|case| records(&case.steps).zip(case.given.chunks(2)));
+    let dues: Vec<&[u16]> = answers.filter(|(record, _)| record.kind == DUE).map(|(_, answer)| answer).collect();
+    let said = [0, 1].map(|value| dues.iter().filter(|&&answer| answer == [0, value]).count());
+    assert_eq!((results, longest, said), ([69, 0, 1], Some(40), [408, 810]));
+}
+
 /// Results, cards by their state and granules by their sign.
 #[test]
 fn maps() {
@@ -110,7 +126,7 @@ fn a_finish_that_follows_all_is_caught() {
 
 #[test]
 fn printing_and_parsing_agree() {
-    for text in [BATCHES, DUES, WIPING, MAPS, FINISHES] {
+    for text in [BATCHES, DUES, WIPING, MAPS, DUES_IN_BATCHES, FINISHES] {
         let cases = parse(text).unwrap();
         let printed: String = cases.iter().map(print).collect();
         assert_eq!(parse(&printed).unwrap(), cases);

@@ -19,7 +19,8 @@ use Rattle.image_laws.proofs.Digits.{on-digit, bit-none, bit-not}
 use Rattle.image_laws.proofs.Lengths.{sized-as, sized-width}
 use Rattle.image_laws.proofs.Masks.{withoutBit-same, withoutBit-less, withoutBit-other}
 use Rattle.image_laws.proofs.Places.{by-width, place-in, words-full}
-use Rattle.finish_laws.specs.Gaps.{Edged, edged, keptAt, sweptFrom}
+use Rattle.runs_laws.specs.declared.Free.{Free}
+use Rattle.finish_laws.specs.Gaps.{Within, Edged, edged, keptAt, sweptFrom}
 use Rattle.image_laws.proofs.Leading.{Leading, test-past, word-leading}
 use Rattle.finish_laws.proofs.gaps.Granules.{from-marks, passed-keep, from-suc, from-unmarked, from-full}
 
@@ -29,7 +30,7 @@ module _ (w k : ℕ) (ws : List ℕ) (i : ℕ) where
   unfolding marked imageOf image
   word-mark x e j h = rw (bit-at w (imageOf w k ws .marks) i j h, e)
 
-  pub word-full : (e f x : ℕ) → x ≡ nth (imageOf w k ws .marks) i → x + 1 ≡ 2 ^ w → e ≡ w * i + w → edged (w * i) f (imageOf w k ws) ≡ sweptFrom (w * i + w) (edged e f (imageOf w k ws)) w
+  pub word-full : (e : ℕ) (f : Free) (x : ℕ) → x ≡ nth (imageOf w k ws .marks) i → x + 1 ≡ 2 ^ w → e ≡ w * i + w → edged (w * i) f (imageOf w k ws) ≡ sweptFrom (w * i + w) (edged e f (imageOf w k ws)) w
   word-full e f x ex u ee =
       let q : w * i + w - w ≡ w * i = omega arith in
       rw ee (sym (rw q at (from-full (w * i + w) f (imageOf w k ws) w (omega arith) all)))
@@ -41,7 +42,7 @@ module _ (w k : ℕ) (ws : List ℕ) (i : ℕ) where
 
 -- ---- the loop over the bits of word i: those below `at` are still to come
 
-pub record Taking (w k i e₀ f₀ : ℕ) (im₀ : List ℕ) (x : ℕ) (im : List ℕ) (e f : ℕ) : Type 0 where
+pub record Taking (w k i e₀ : ℕ) (f₀ : Free) (im₀ : List ℕ) (x : ℕ) (im : List ℕ) (e : ℕ) (f : Free) : Type 0 where
   pub at : ℕ
   pub high : at ≤ w
   pub fits : x < 2 ^ w
@@ -50,10 +51,10 @@ pub record Taking (w k i e₀ f₀ : ℕ) (im₀ : List ℕ) (x : ℕ) (im : Lis
   pub sized : Sized w k im
   pub same : length im ≡ length im₀
   pub low : w * i + at ≤ e
-  pub room : e + f ≤ 64 * k
+  pub room : Within k e f
   pub state : edged e f (imageOf w k im) ≡ sweptFrom (w * i + w) (edged e₀ f₀ (imageOf w k im₀)) (w - at)
 
-pub taking-none : {w k i e f : ℕ} {im : List ℕ} {x : ℕ} → Sized w k im → x ≡ nth (imageOf w k im .marks) i → x < 2 ^ w → w * i + w ≤ e → e + f ≤ 64 * k → Taking w k i e f im x im e f
+pub taking-none : {w k i e : ℕ} {f : Free} {im : List ℕ} {x : ℕ} → Sized w k im → x ≡ nth (imageOf w k im .marks) i → x < 2 ^ w → w * i + w ≤ e → Within k e f → Taking w k i e f im x im e f
 unfolding sweptFrom
 taking-none {w} {k} {i} {e} {f} {im} {x} z ex hx l r =
     let q : w - w ≡ 0 = omega arith in
@@ -70,7 +71,7 @@ taking-none {w} {k} {i} {e} {f} {im} {x} z ex hx l r =
       state = rw q;
     }
 
-module _ {w k i e₀ f₀ : ℕ} {im₀ : List ℕ} {x : ℕ} {im : List ℕ} {e f : ℕ} (t : Taking w k i e₀ f₀ im₀ x im e f) where
+module _ {w k i e₀ : ℕ} {f₀ : Free} {im₀ : List ℕ} {x : ℕ} {im : List ℕ} {e : ℕ} {f : Free} (t : Taking w k i e₀ f₀ im₀ x im e f) where
   abbrev s₀ : Edged
   s₀ = edged e₀ f₀ (imageOf w k im₀)
 
@@ -108,7 +109,7 @@ module _ {w k i e₀ f₀ : ℕ} {im₀ : List ℕ} {x : ℕ} {im : List ℕ} {e
     below-at : j < t .at
     below-at = elim (decLt j (t .at)) [ yes p ↦ p | no p ↦ false≢ (sym (t .above j (omega arith)) ∙ leading .top .is-set) ]
 
-    pub taking-room : i < 64 * k / w → (w * i + j < 64 * k) × (e + f ≤ 64 * k) × (w * i + j ≤ e)
+    pub taking-room : i < 64 * k / w → (w * i + j < 64 * k) × Within k e f × (w * i + j ≤ e)
     taking-room h = (rw (words-full w k (sized-width (t .sized))) at (place-in w i j (leading .top .within) (64 * k / w) h), t .room, omega (arith, below-at, t .low))
 
     -- to the next bit, and past it
@@ -120,8 +121,8 @@ module _ {w k i e₀ f₀ : ℕ} {im₀ : List ℕ} {x : ℕ} {im : List ℕ} {e
         (passed-keep (edged e f (imageOf w k im)) (w * i + j)
         (ap (λ (y : Edged). marked (y .image) (w * i + j)) (t .state) ∙ from-marks (w * i + w) s₀ (w - t .at) (w * i + j) ∙ t .below j below-at ∙ leading .top .is-set))
 
-    pub taking-more : (x' : ℕ) → x' ≡ withoutBit x j → (im' : List ℕ) (e' f' : ℕ) → length im' ≡ length im → edged e' f' (imageOf w k im') ≡ keptAt (w * i + j) (edged e f (imageOf w k im))
-        → (e' ≡ w * i + j) × (e' + f' ≤ 64 * k) → Taking w k i e₀ f₀ im₀ x' im' e' f'
+    pub taking-more : (x' : ℕ) → x' ≡ withoutBit x j → (im' : List ℕ) (e' : ℕ) (f' : Free) → length im' ≡ length im → edged e' f' (imageOf w k im') ≡ keptAt (w * i + j) (edged e f (imageOf w k im))
+        → (e' ≡ w * i + j) × Within k e' f' → Taking w k i e₀ f₀ im₀ x' im' e' f'
     taking-more x' ex im' e' f' ll s r =
         record {
           at = j;

@@ -9,6 +9,7 @@ use Rattle.model.proofs.Laws.{bool-cases}
 use lib.Dec.{ltb, eqb}
 use borrow.Author.Tests.{eq-eqb}
 use Rattle.model.specs.Image.{Image, marked, size, withHeap, withGeneral, setFirstRun, setWord}
+use Rattle.runs_laws.specs.declared.Free.{Free}
 use Rattle.finish_laws.specs.Gaps.{Edged, edged, headAt, runFrom, gap, closedAt, keptAt, passed, sweptFrom}
 
 -- ---- marks stay
@@ -66,11 +67,11 @@ from-add n s i (suc j) =
 
 -- ---- kept objects of one granule, right before another kept object
 
-kept-next : (h f : ℕ) (m : Image) → keptAt h (edged (h + 1) f m) ≡ edged h f m
+kept-next : (h : ℕ) (f : Free) (m : Image) → keptAt h (edged (h + 1) f m) ≡ edged h f m
 unfolding keptAt
 kept-next h f m = rw (eq-eqb (h + 1) (h + 1) refl)
 
-pub from-full : (n f : ℕ) (m : Image) (i : ℕ) → i ≤ n → ((h : ℕ) → n ≤ h + i → h < n → marked m h ≡ true) → sweptFrom n (edged n f m) i ≡ edged (n - i) f m
+pub from-full : (n : ℕ) (f : Free) (m : Image) (i : ℕ) → i ≤ n → ((h : ℕ) → n ≤ h + i → h < n → marked m h ≡ true) → sweptFrom n (edged n f m) i ≡ edged (n - i) f m
 from-full n f m zero l u = rw (swept-none, sub-zero)
 from-full n f m (suc i) l u =
     let q : n - i ≡ n - suc i + 1 = omega arith in

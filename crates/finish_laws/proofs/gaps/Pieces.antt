@@ -11,26 +11,34 @@ use lib.Seq.{take-add, take-at, take-all, drop-at, drop-drop, length-take-le}
 use borrow.Author.Tests.{eq-eqb, ne-eqb}
 use Rattle.model.specs.Base.{nth}
 use Rattle.model.specs.Image.{Image, word, isStart, marked, size, withHeap, withGeneral, setFirstRun}
-use Rattle.model.specs.Mutate.{freeFrom}
+use Rattle.model.specs.Mutate.{freeFrom, usableRun}
 use Rattle.model.specs.Finish.{runTail, Swept, sweptWords, firstOf, swept, sweep}
 use Rattle.model.proofs.Entries.{nth-take, nth-drop}
 use Rattle.theory.specs.Heap.{Filled, f-end, f-object, f-run, runWords, Bare}
 use Rattle.theory.proofs.heap.Free.{chain-end}
+use Rattle.theory.proofs.heap.Sums.{long-zero}
 use Rattle.theory.proofs.heap.Lists.{nth-head, nth-left, length-run, run-next}
 use Rattle.theory.proofs.finish.Sweep.{not-kept, sweep-piece}
+use Rattle.runs_laws.specs.declared.Free.{Free}
+use Rattle.runs_laws.specs.Granules.{noneFree, grown}
 use Rattle.finish_laws.specs.Gaps.{Edged, edged, closedAt, keptAt, passed, sweptFrom, sweptAll}
 use Rattle.finish_laws.proofs.gaps.Granules.{passed-none, passed-keep, from-suc}
 use Rattle.finish_laws.proofs.gaps.Runs.{withSweep, from, gap-zero, gap-done}
 
 -- ---- one granule
 
+-- no run more
+grown-none : (r : Free) → grown r 0 ≡ r
+unfolding grown
+grown-none r = rw (add-zero, long-zero usableRun, add-zero)
+
 -- the size of a kept object need not be read where the next one starts right behind its first granule
 kept-closed : (h : ℕ) (s : Edged) → 1 ≤ size (s .image) h → keptAt h s ≡ closedAt h (h + size (s .image) h) s
 unfolding keptAt closedAt
 kept-closed h s l = elim (ℕ-discrete (s .start) (h + 1)) [
   | yes u ↦
-      let z : s .free + (s .start - (h + size (s .image) h)) ≡ s .free = omega arith in
-      rw (eq-eqb (s .start) (h + 1) u, z, gap-zero (s .image) (h + size (s .image) h) (s .start) (omega arith))
+      let z : s .start - (h + size (s .image) h) ≡ 0 = omega arith in
+      rw (eq-eqb (s .start) (h + 1) u, z, grown-none (s .free), gap-zero (s .image) (h + size (s .image) h) (s .start) (omega arith))
   | no n ↦ rw (ne-eqb (s .start) (h + 1) n)
 ]
 
@@ -56,14 +64,14 @@ size-first H g s ws rest ew =
 
 module _ (G : ℕ) (m old : Image) (H : List ℕ) (lH : length H ≡ 4 * G) (hg : 1 < length (m .general)) (rd : (g i : ℕ) → word old g i ≡ nth H (4 * g + i)) (kept : (g : ℕ) → marked m g ≡ true → isStart m g ≡ true) where
   abbrev s₀ : Edged
-  s₀ = edged G 0 (withSweep m H 0)
+  s₀ = edged G noneFree (withSweep m H 0)
 
-  -- the state after the granules from g on; the runs behind the free granules in front have c granules
-  abbrev done : ℕ → Swept → ℕ → Edged
+  -- the state after the granules from g on; c is what the runs behind the free granules in front have
+  abbrev done : ℕ → Swept → Free → Edged
   done g r c = edged (g + r .free) c (from m H hg g r)
 
   -- granules behind the first of a piece change nothing
-  skip : (g s : ℕ) (r : Swept) (c : ℕ) → g + s ≤ G → sweptFrom G s₀ (G - (g + s)) ≡ done (g + s) r c → Bare (isStart m) g s → (j : ℕ) → j < s → sweptFrom G s₀ (G - (g + s) + j) ≡ done (g + s) r c
+  skip : (g s : ℕ) (r : Swept) (c : Free) → g + s ≤ G → sweptFrom G s₀ (G - (g + s)) ≡ done (g + s) r c → Bare (isStart m) g s → (j : ℕ) → j < s → sweptFrom G s₀ (G - (g + s) + j) ≡ done (g + s) r c
   skip g s r c hG d ba zero l = ap (sweptFrom G s₀) (omega arith) ∙ d
   skip g s r c hG d ba (suc j) l =
       let q : G - (g + s) + suc j ≡ suc (G - (g + s) + j) = omega arith in
@@ -73,14 +81,14 @@ module _ (G : ℕ) (m old : Image) (H : List ℕ) (lH : length H ≡ 4 * G) (hg 
       (marked-with-sweep m _ _ (G - suc (G - (g + s) + j)) ∙ not-kept (isStart m) (marked m) kept _ (ba (G - suc (G - (g + s) + j)) (omega arith) (omega arith))))
 
   -- the first granule of a piece, after those behind it
-  at-first : (g s : ℕ) (r : Swept) (c : ℕ) → 1 ≤ s → g + s ≤ G → sweptFrom G s₀ (G - (g + s)) ≡ done (g + s) r c → Bare (isStart m) g s → sweptFrom G s₀ (G - g) ≡ passed (done (g + s) r c) g
+  at-first : (g s : ℕ) (r : Swept) (c : Free) → 1 ≤ s → g + s ≤ G → sweptFrom G s₀ (G - (g + s)) ≡ done (g + s) r c → Bare (isStart m) g s → sweptFrom G s₀ (G - g) ≡ passed (done (g + s) r c) g
   at-first g s r c h1 hG d ba =
       let q : G - g ≡ suc (G - (g + s) + (s - 1)) = omega arith in
       let k : G - suc (G - (g + s) + (s - 1)) ≡ g = omega arith in
       rw (q, from-suc, skip g s r c hG d ba (s - 1) (omega arith), k)
 
   -- a piece that is kept
-  module _ (g s x : ℕ) (ws rest : List ℕ) (r : Swept) (c : ℕ) (ew : drop (4 * g) H ≡ (s ∷ ws) ++ rest) (lw : suc (length ws) ≡ 4 * s) (hl : 4 * (g + s + r .free) ≤ length H) where
+  module _ (g s x : ℕ) (ws rest : List ℕ) (r : Swept) (c : Free) (ew : drop (4 * g) H ≡ (s ∷ ws) ++ rest) (lw : suc (length ws) ≡ 4 * s) (hl : 4 * (g + s + r .free) ≤ length H) where
     size-here : size (from m H hg (g + s) r) g ≡ s
     unfolding withSweep setFirstRun withHeap withGeneral size word
     size-here =
@@ -88,7 +96,7 @@ module _ (G : ℕ) (m old : Image) (H : List ℕ) (lH : length H ≡ 4 * G) (hg 
         rw (add-zero, nth-left (take (4 * (g + s + r .free)) H) (r .rest) (4 * g) (omega arith), nth-take (4 * (g + s + r .free)) H (4 * g) (omega arith))
         (size-first H g s ws rest ew)
 
-    stays : marked m g ≡ true → passed (done (g + s) r c) g ≡ done g (record { free = 0; rest = (s ∷ ws) ++ sweptWords r; next = firstOf (g + s) r; freed = x }) (c + r .free)
+    stays : marked m g ≡ true → passed (done (g + s) r c) g ≡ done g (record { free = 0; rest = (s ∷ ws) ++ sweptWords r; next = firstOf (g + s) r; freed = x }) (grown c (r .free))
     unfolding closedAt
     stays u =
         let q : g + s + r .free - (g + s) ≡ r .free = omega arith in
@@ -100,10 +108,10 @@ module _ (G : ℕ) (m old : Image) (H : List ℕ) (lH : length H ≡ 4 * G) (hg 
 
   -- the state; and the granules of its runs, which are those freed and those of the chain from `next` on
   pub record Good (g next : ℕ) (r : Swept) : Type 0 where
-    pub runs : ℕ
+    pub runs : Free
     pub state : sweptFrom G s₀ (G - g) ≡ done g r runs
     pub inside : 4 * (g + r .free) ≤ length H
-    pub count : (n : ℕ) → G ≤ g + n → runs + r .free ≡ r .freed + freeFrom old n next
+    pub count : (n : ℕ) → G ≤ g + n → runs .granules + r .free ≡ r .freed + freeFrom old n next
 
   good-end : (g : ℕ) → 4 * g + 0 ≡ 4 * G → Good g 0 (record { free = 0; rest = []; next = 0; freed = 0 })
   unfolding sweptFrom
@@ -111,7 +119,7 @@ module _ (G : ℕ) (m old : Image) (H : List ℕ) (lH : length H ≡ 4 * G) (hg 
       let q : G - g ≡ 0 = omega arith in
       let w : G ≡ g + 0 = omega arith in
       record {
-        runs = 0;
+        runs = noneFree;
         state = rw (q, ← w, append-nil, take-all (4 * G) H (omega (arith, lH)));
         inside = omega (arith, lH);
         count = λ n l. omega (arith, chain-end old n);
@@ -123,13 +131,13 @@ module _ (G : ℕ) (m old : Image) (H : List ℕ) (lH : length H ≡ 4 * G) (hg 
 
   good-piece : (g s next next' : ℕ) (ws rest : List ℕ) (r : Swept) → Bare (isStart m) g s → drop (4 * g) H ≡ (s ∷ ws) ++ rest → suc (length ws) ≡ 4 * s → g + s ≤ G
       → Good (g + s) next' r → (b : Bool) → marked m g ≡ b → Counts g s next next' (s ∷ ws) r b → Good g next (swept (isStart m) g s (s ∷ ws) b r)
-  unfolding swept
+  unfolding swept grown
   good-piece g s next next' ws rest r ba ew lw hG d true u cc =
       record {
-        runs = d .runs + r .free;
+        runs = grown (d .runs) (r .free);
         state = at-first g s r (d .runs) (omega arith) hG (d .state) ba ∙ stays g s (r .freed) ws rest r (d .runs) ew lw (d .inside) u;
         inside = omega (arith, lH);
-        count = λ n l. omega (arith, cc n l (d .runs + r .free) (λ i q. d .count i q));
+        count = λ n l. omega (arith, cc n l (d .runs .granules + r .free) (λ i q. d .count i q));
       }
   good-piece g s next next' ws rest r ba ew lw hG d false u cc =
       let q : g + s + r .free ≡ g + (s + r .free) = omega arith in
@@ -137,7 +145,7 @@ module _ (G : ℕ) (m old : Image) (H : List ℕ) (lH : length H ≡ 4 * G) (hg 
         runs = d .runs;
         state = at-first g s r (d .runs) (omega arith) hG (d .state) ba ∙ passed-none (done (g + s) r (d .runs)) g (marked-with-sweep m _ _ g ∙ u) ∙ rw q;
         inside = omega (arith, d .inside);
-        count = λ n l. omega (arith, cc n l (d .runs + r .free) (λ i q. d .count i q));
+        count = λ n l. omega (arith, cc n l (d .runs .granules + r .free) (λ i q. d .count i q));
       }
 
   object-counts : (g s next : ℕ) (ws : List ℕ) (r : Swept) (b : Bool) → isStart m g ≡ true → Counts g s next next ws r b
@@ -178,19 +186,19 @@ module _ (G : ℕ) (m old : Image) (H : List ℕ) (lH : length H ≡ 4 * G) (hg 
 
 -- what the sweep leaves, where r is the model's
 pub record SweptRuns (k : ℕ) (m old : Image) (next : ℕ) (r : Swept) : Type 0 where
-  pub runs : ℕ
+  pub runs : Free
   pub image : sweptAll k m ≡ edged 0 runs (withSweep m (take 4 (m .heap) ++ sweptWords r) (firstOf 1 r))
-  pub count : runs ≡ r .freed + freeFrom old (64 * k) next
+  pub count : runs .granules ≡ r .freed + freeFrom old (64 * k) next
 
 module _ (k : ℕ) (m old : Image) (hk : 1 ≤ k) (lH : length (m .heap) ≡ 4 * (64 * k)) (hg : 1 < length (m .general)) (eh : m .heap ≡ old .heap) (kept : (g : ℕ) → marked m g ≡ true → isStart m g ≡ true) where
   pub swept-all : {next : ℕ} {b : Bool} (n : ℕ) → Filled (isStart m) 1 (drop 4 (m .heap)) next b → isStart m 0 ≡ false → length (drop 4 (m .heap)) < 4 * n → 4 + length (drop 4 (m .heap)) ≡ 4 * (64 * k)
       → SweptRuns k m old next (sweep (isStart m) (marked m) n 1 (drop 4 (m .heap)))
-  unfolding sweptAll closedAt withSweep setFirstRun withHeap withGeneral
+  unfolding sweptAll closedAt grown withSweep setFirstRun withHeap withGeneral
   swept-all {next} n f none l e =
       let r : Swept = sweep (isStart m) (marked m) n 1 (drop 4 (m .heap)) in
       let rd : (g i : ℕ) → word old g i ≡ nth (m .heap) (4 * g + i) = λ g i. unfold word in rw eh in
       let q : Good (64 * k) m old (m .heap) lH hg rd kept 1 next r = fold (64 * k) m old (m .heap) lH hg rd kept n f (omega arith) l (omega arith) refl in
-      let t : Edged = edged (64 * k) 0 (withSweep m (m .heap) 0) in
+      let t : Edged = edged (64 * k) noneFree (withSweep m (m .heap) 0) in
       let u : 64 * k ≡ suc (64 * k - 1) = omega arith in
       let z : 64 * k - suc (64 * k - 1) ≡ 0 = omega arith in
       let v : 1 + r .free - 1 ≡ r .free = omega arith in
@@ -198,4 +206,4 @@ module _ (k : ℕ) (m old : Image) (hk : 1 ≤ k) (lH : length (m .heap) ≡ 4 *
       -- granule 0 is not marked
       let zeroth : passed d 0 ≡ d = passed-none d 0 (marked-with-sweep m _ _ 0 ∙ not-kept (isStart m) (marked m) kept 0 none) in
       let last : sweptFrom (64 * k) t (64 * k) ≡ d = ap (sweptFrom (64 * k) t) u ∙ rw (from-suc, q .state, z) zeroth in
-      record { runs = q .runs + r .free; image = rw (last, v, gap-done m (m .heap) hg 1 r (q .inside)); count = q .count (64 * k) (omega arith) }
+      record { runs = grown (q .runs) (r .free); image = rw (last, v, gap-done m (m .heap) hg 1 r (q .inside)); count = q .count (64 * k) (omega arith) }

@@ -10,9 +10,11 @@ slice-write-answers-2 c = simp length-set (omega arith)
 
 returns : tie.Need-returns
 returns c =
-    let A = c .before .before .before .before .before .before .before .before .args in
-    let a = c .before .before .before .before .perform .ensures in
-    turn _ _ (A .answers .now) (A .i) _ _ _ (rw (c .before .number .ensures, c .value .ensures) a)
+    let P = c .before .before .before .before .before in
+    let A = P .before .before .before .before .args in
+    let a = P .perform .ensures in
+    let t = turn _ _ (A .answers .now) (A .i) _ _ _ (rw (← c .before .number .ensures, ← c .value .ensures) at (a .0)) in
+    (t .0, (t .1, a .1))
 
 pub one-spec : {M : Type 1} → statement M
 one-spec =

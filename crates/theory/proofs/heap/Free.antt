@@ -11,10 +11,11 @@ use Rattle.model.specs.Base.{sumBelow}
 use Rattle.model.specs.Image.{Image, granules, word, isStart}
 use Rattle.model.proofs.Counts.{sum-same}
 use Rattle.model.proofs.Laws.{bool-cases}
-use Rattle.model.specs.Mutate.{sumRuns, freeFrom, freeGranules}
+use Rattle.model.specs.Mutate.{freeFrom, freeGranules}
 use Rattle.model.specs.Finish.{runTail, swept, sweep, finishWith}
 use Rattle.theory.specs.Heap.{runWords, Bare, Filled, f-end, f-object, f-run, HeapFilled, HeapSized}
 use Rattle.theory.specs.Pieces.{Reads, Pieces, at-end, at-object, at-run, sizes, usedGranules}
+use Rattle.theory.proofs.heap.Sums.{sum-end}
 use Rattle.theory.proofs.heap.Lists.{nth-head, length-run}
 use Rattle.theory.proofs.heap.Walk.{word-behind, object-at, no-start-zero}
 use Rattle.theory.proofs.finish.Sweep.{sweep-piece, not-kept}
@@ -45,11 +46,6 @@ module _ (st : ℕ → Bool) (rd : ℕ → ℕ → ℕ) where
   total-past x s l ba = omega (arith, total-same (sizes st rd) 0 (suc x) (x + s) (omega arith) (λ h p q. sizes-no h (ba h p q)))
 
 -- ---- the chain has every granule that no object has
-
-pub sum-end : (v : ℕ → ℕ) (m : Image) (n : ℕ) → sumRuns v m n 0 ≡ 0
-unfolding sumRuns
-sum-end v m zero = refl
-sum-end v m (suc n) = refl
 
 pub chain-end : (m : Image) (n : ℕ) → freeFrom m n 0 ≡ 0
 unfolding freeFrom

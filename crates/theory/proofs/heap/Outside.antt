@@ -16,7 +16,8 @@ use Rattle.theory.specs.Heap.{HeapFilled, HeapSized}
 use Rattle.theory.specs.Pieces.{at-end, at-object, at-run, PiecesIn, RunApart, Unused, InRun, Clear, granulesOutside, unused, isStretch, inStretch, granulesInStretches}
 use Rattle.theory.proofs.heap.Walk.{object-at}
 use Rattle.theory.proofs.heap.Pieces.{image-pieces}
-use Rattle.theory.proofs.heap.Free.{total-same, sum-end}
+use Rattle.theory.proofs.heap.Free.{total-same}
+use Rattle.theory.proofs.heap.Sums.{sum-end}
 use Rattle.theory.proofs.heap.Unused.{clear-object, clear-run, run-apart, run-unused, run-here, clear-one, unused-in-run, in-run-zero}
 
 module _ (m : Image) where

@@ -15,7 +15,7 @@ use Rattle.theory.proofs.heap.Pieces.{loosen}
 
 -- ---- where the places lie
 
-place-order : (m : Image) {b x next last r before : ℕ} {f : Bool} → PlaceIn m b x next f last r before → (x ≤ r) × ((before ≡ last) ⊎ ((x ≤ before) × (before < r)))
+pub place-order : (m : Image) {b x next last r before : ℕ} {f : Bool} → PlaceIn m b x next f last r before → (x ≤ r) × ((before ≡ last) ⊎ ((x ≤ before) × (before < r)))
 place-order m (past-object o p) = let k = place-order m p in (omega (arith, k .0), elim (k .1) [ inl e ↦ inl e | inr l ↦ inr (omega arith) ])
 place-order m (past-run o s p) = let k = place-order m p in (omega (arith, k .0), inr (elim (k .1) [ inl e ↦ omega (arith, k .0) | inr l ↦ omega arith ]))
 place-order m (place-here o l p) = (omega arith, inl refl)
@@ -118,11 +118,18 @@ module _ (m n : Image) (b c r before next : ℕ) (w : Carved m n b c r before ne
 
   -- ---- all pieces, from granule x on, behind the run `last`
 
-  other-last : (last now : ℕ) → (last ≡ before → ⊥) → following before next last now ≡ now
+  pub other-last : (last now : ℕ) → (last ≡ before → ⊥) → following before next last now ≡ now
   other-last last now ne = rw (ne-eqb last before ne)
 
-  same-last : (last now : ℕ) → last ≡ before → following before next last now ≡ next
+  pub same-last : (last now : ℕ) → last ≡ before → following before next last now ≡ next
   same-last last now e = rw (eq-eqb last before e)
+
+  -- a run before the one that is taken points where it did, or at what is left
+  pub run-points : (x : ℕ) {nx : ℕ} {f : Bool} → PlaceIn m b (x + word m x 0) nx f x r before → 1 ≤ x → 1 ≤ word m x 0 → word n x 1 ≡ following before next x (word m x 1)
+  run-points x p h long = elim (place-order m p .1) [
+    | inl y ↦ ap (λ y. word n y 1) (sym y) ∙ (w .pointer (omega arith) ∙ sym (same-last x (word m x 1) (sym y)))
+    | inr y ↦ word-before x 1 (omega (arith, place-order m p .0)) (omega arith) ∙ sym (other-last x (word m x 1) (omega arith))
+  ]
 
   pub carve : {x nx last : ℕ} {f : Bool} → b ≤ 1024 → c + 2 ≤ 4 * b → PlaceIn m b x nx f last r before → last < x → Now x (following before next last nx) f
   carve {x} {nx} {last} few fits (past-object o p) h =
@@ -138,11 +145,7 @@ module _ (m n : Image) (b c r before next : ℕ) (w : Carved m n b c r before ne
       let up : x ≤ before = elim d [ inl y ↦ omega arith | inr y ↦ omega arith ] in
       let e : word n x 0 ≡ word m x 0 = word-before x 0 (omega arith) (omega arith) in
       let off : (i : ℕ) → 2 + i < 4 * word m x 0 → 4 * x + (2 + i) ≡ 4 * before + 1 → ⊥ = λ i k. elim d [ inl y ↦ omega arith | inr y ↦ omega arith ] in
-      let points : word n x 1 ≡ following before next x (word m x 1) = elim d [
-        | inl y ↦ ap (λ y. word n y 1) (sym y) ∙ (w .pointer (omega arith) ∙ sym (same-last x (word m x 1) (sym y)))
-        | inr y ↦ word-before x 1 (omega arith) (omega arith) ∙ sym (other-last x (word m x 1) (omega arith))
-      ] in
       subst (λ y. Now x y false) (sym (other-last last x (omega arith)))
       (at-run (run-same x (omega arith) e (λ i k. word-before x (2 + i) (omega arith) (off i k)) (λ i u v. omega arith) o)
-      (rw (e, points) (carve few fits p (omega arith))))
+      (rw (e, run-points x p (omega arith) (o .long)) (carve few fits p (omega arith))))
   carve {x} {last = last} few fits (place-here o l p) h = subst (λ y. Now x y false) (sym (same-last last x refl)) (here o l few fits p)

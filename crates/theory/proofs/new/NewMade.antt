@@ -7,15 +7,17 @@ use native.Mathlib.Decide.{ℕ-discrete}
 use native.Mathlib.Omega.{arith}
 use Rattle.model.specs.Base.{nth, put}
 use Rattle.model.specs.Image.{Image, granules, word, isStart, size, links, reg, firstRun, withRegs, setReg, owed}
-use Rattle.model.specs.Mutate.{roomFor, newObject}
+use Rattle.model.specs.Mutate.{roomFor, newObject, ifLong, granulesInRuns}
 use Rattle.model.proofs.Laws.{not-make}
 use Rattle.theory.specs.Heap.{HeapFilled, HeapSized, Laid}
 use Rattle.theory.specs.Pieces.{Pieces, PiecesIn, PlaceIn, RunApart}
 use Rattle.theory.specs.New.{placed, reheaped, nextOf, Carved, NewMade}
 use Rattle.theory.proofs.heap.Pieces.{pieces-image}
+use Rattle.theory.proofs.heap.Sums.{sum-alike, long-zero}
 use Rattle.theory.proofs.heap.Unused.{clear-one}
 use Rattle.theory.proofs.new.Room.{room-place, room-stretch, place-apart, before-apart}
 use Rattle.theory.proofs.new.Carve.{place-below, carve, word-before, word-after}
+use Rattle.theory.proofs.new.Shrink.{shrink}
 use Rattle.theory.proofs.new.NewHeap.{placed-sections, placed-granules, placed-length, placed-first, placed-general, placed-starts-length, placed-sized, placed-carved}
 use borrow.Author.Tests.{not-true}
 
@@ -97,6 +99,15 @@ module _ (m : Image) (b c g : ℕ) (o : HeapFilled m) (z : HeapSized m) (hb : 1 
   new-made p r =
       let is : newObject m p r b c ≡ setReg made p r (suc g) = unfold newObject placed in rw e in
       subst (λ n. NewMade m n p r b c (suc g)) (sym is) (with-reg p r)
+
+  -- what the other runs of so many granules have, and what this one counts before and after
+  pub new-runs : (p r least : ℕ) → (rest : ℕ) × (granulesInRuns least m ≡ rest + ifLong least (word m (suc g) 0)) × (granulesInRuns least (newObject m p r b c) ≡ rest + ifLong least (word m (suc g) 0 - b))
+  unfolding granulesInRuns
+  new-runs p r least =
+      let is : newObject m p r b c ≡ setReg made p r (suc g) = unfold newObject placed in rw e in
+      let d = shrink m made b c (suc g) before next is-carved hb below (ifLong least) (granules m) (long-zero least) place (omega arith) (omega arith) in
+      let same : granulesInRuns least (setReg made p r (suc g)) ≡ granulesInRuns least made = unfold setReg withRegs firstRun granules in sum-alike (ifLong least) made (setReg made p r (suc g)) (λ h i. unfold word in refl) (granules made) (firstRun made) in
+      (d .0, d .1, ap (granulesInRuns least) is ∙ same ∙ (rw (placed-granules m (suc g) before b c, placed-first m (suc g) before b c (z .general-words)) (d .2)))
 
 -- ---- what that says of the object and of the other sections
 

@@ -44,22 +44,22 @@ module _ (m : Image) (s : Step) (u : Undamaged m) where
       (record { sound = record { lines = r .lines; idle = λ q. absurd (z (sym (ap (λ x. nth (x .2) 0) f) ∙ q)) }; cover = r .cover }, ap (λ x. x .0) f, ap (λ x. x .1) f)
 
   -- an object register that is not nil holds a start
-  held-start : (r : ℕ) → eqb (object m s r) 0 ≡ false → Start m (object m s r)
+  pub register-start : (r : ℕ) → eqb (object m s r) 0 ≡ false → Start m (object m s r)
   unfolding object
-  held-start r n = elim (reg-value (u .sound .lines) (s .who) r) [ inl z ↦ absurd (eqb-false _ _ n z) | inr h ↦ h ]
+  register-start r n = elim (reg-value (u .sound .lines) (s .who) r) [ inl z ↦ absurd (eqb-false _ _ n z) | inr h ↦ h ]
 
   pub kind-keeps : (n : Kind) → refusal m s n ≡ 0 → Keeps m ((act m s n) .image)
   unfolding act accept object offDesk owing noObject pastEnd nothingToDo wrongPhase finishDone finishStep finishWith beginCycle fields-open
   kind-keeps new r = let e = new-does m s (u .sound .lines) r .sections in (new-step m s u r, ap (λ x. x .width) e, ap (λ x. x .k) e)
   kind-keeps load r =
       let d = some-false _ (line m s load r 1) in
-      let v = link-value (u .sound .lines) (object m s (s .b)) (s .c) (held-start (s .b) (line m s load r 3)) (leb-false _ _ (line m s load r 4)) in
+      let v = link-value (u .sound .lines) (object m s (s .b)) (s .c) (register-start (s .b) (line m s load r 3)) (leb-false _ _ (line m s load r 4)) in
       let w = owes-none m s (s .who) (some-false _ (line m s load r 2) 0) in
       (reg-keeps m u (s .who) (s .a) _ (not-above 15 (s .who) (d 0)) (not-above 15 (s .a) (d 1)) w v, refl, refl)
   kind-keeps store r =
       let d = some-false _ (line m s store r 1) in
       let w = owes-none m s (s .who) (some-false _ (line m s store r 2) 0) in (
-        store-keeps m u (s .who) (object m s (s .a)) (s .b) (s .c) (not-above 15 (s .who) (d 0)) (not-above 15 (s .c) (d 3)) w (held-start (s .a) (line m s store r 3))
+        store-keeps m u (s .who) (object m s (s .a)) (s .b) (s .c) (not-above 15 (s .who) (d 0)) (not-above 15 (s .c) (d 3)) w (register-start (s .a) (line m s store r 3))
             (leb-false _ _ (line m s store r 4)),
         refl,
         refl,
@@ -82,7 +82,7 @@ module _ (m : Image) (s : Step) (u : Undamaged m) where
   kind-keeps write r =
       let g : ℕ = object m s (s .a) in
       let l : s .b < levels m g = leb-false _ _ (line m s write r 4) in
-      (write-keeps m u g (s .b) (s .c) (held-start (s .a) (line m s write r 3)) (omega arith), refl, refl)
+      (write-keeps m u g (s .b) (s .c) (register-start (s .a) (line m s write r 3)) (omega arith), refl, refl)
   kind-keeps begin r =
       let z : nth (m .general) 0 ≡ 0 = omega (arith, u .sound .lines .general-ok .runs, eqb-false (nth (m .general) 0) 1 (line m s begin r 7)) in
       (begin-does m (u .sound .lines) (u .sound .idle z), refl, refl)

@@ -70,6 +70,10 @@ module _ {m : Image} (o : Lines m) (g x v : ℕ) (sg : isStart m g ≡ true) (hx
   inner : (h y : ℕ) → isStart m h ≡ true → y < 2 + links m h → 4 * h + y ≡ 4 * g + x → (h ≡ g) × (y ≡ x)
   inner h y sh hy e = same-place m L h g y x sh sg (omega (arith, L .inside h sh)) hx′ e
 
+  pub size-written : (h : ℕ) → isStart m h ≡ true → size (setWord m g x v) h ≡ size m h
+  unfolding setWord withHeap size word
+  size-written h sh = nth-put-other (m .heap) (4 * g + x) (4 * h + 0) v (λ e. omega (arith, inner h 0 sh (omega arith) e))
+
   pub links-written : (h : ℕ) → isStart m h ≡ true → links (setWord m g x v) h ≡ links m h
   unfolding setWord withHeap links word
   links-written h sh = nth-put-other (m .heap) (4 * g + x) (4 * h + 1) v (λ e. omega (arith, inner h 1 sh (omega arith) e))

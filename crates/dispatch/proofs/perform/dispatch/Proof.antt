@@ -1,39 +1,47 @@
+use mathlib.Core.Path.{ap}
 use borrow.Author.Needs.{needs}
-use Rattle.model.specs.Image.{image, imageOf}
-use Rattle.show_store_laws.proofs.Perform.{new-fields, load-fields, store-fields, barrier-fields, hand-fields, drop-fields, read-fields, write-fields, scan-fields, trace-fields, clean-fields, undirty-fields, new-dispatched, load-dispatched, store-dispatched, barrier-dispatched, hand-dispatched, drop-dispatched, read-dispatched, write-dispatched, begin-dispatched, scan-dispatched, trace-dispatched, clean-dispatched, finish-dispatched, due-dispatched, undirty-dispatched, no-step}
+use Rattle.runs_laws.specs.declared.Free.{Free}
+use Rattle.show_store_laws.proofs.Perform.{new-fields, new-dispatched, finish-dispatched, free-left}
 use Rattle.dispatch.proofs.perform.dispatch.Statement.{statement}
 use Rattle.dispatch.proofs.perform.dispatch.Tie as tie
 
-write-requires : tie.Need-write-requires
-write-requires c κs =
+new-requires : tie.Need-new-requires
+new-requires c κs =
     let q = c .before .before .before .pre in
-    let f = write-fields _ (q .1 .1 .1) (c .before .match .keys8) in
-    (q .0, (q .1 .0, (f .0, (f .1, q .1 .1 .0 .c-small))))
+    let f = new-fields _ (q .1 .1 .1 .0) (c .before .match .keys1) in
+    (q .0, (q .1 .0 .sound, (f .0, (f .1, q .1 .1 .1 .1))))
 
-undirty-requires : tie.Need-undirty-requires
-unfolding imageOf image
-undirty-requires c κs = let q = c .before .before .before .pre in (q .0, undirty-fields _ (q .1 .1 .1) (c .before .match .keys15))
+finish-requires : tie.Need-finish-requires
+finish-requires c κs = let q = c .before .before .before .pre in (q .0, (q .1 .0 .sound, q .1 .1 .1 .1))
+
+dispatch-others-requires : tie.Need-dispatch-others-requires
+dispatch-others-requires c κs =
+    let q = c .before .before .before .pre in
+    let r = c .before .match .rest in
+    (q .0, (q .1 .0 .sound, (q .1 .1 .0, (q .1 .1 .1 .0, ((r .0 .1, r .1), ap (λ (f : Free). f .usable) (q .1 .1 .1 .1))))))
+
+returns : tie.Need-returns
+returns c =
+    let q = c .before .before .before .before .before .before .pre in
+    let s = c .before .before .new .ensures in
+    (new-dispatched _ (q .1 .1 .1 .0) (c .before .before .before .before .match .keys1) _ (s .0), s .1)
+
+returns-2 : tie.Need-returns-2
+returns-2 c =
+    let q = c .before .before .before .before .before .before .pre in
+    let s = c .before .before .finish .ensures in
+    (finish-dispatched _ (q .1 .1 .1 .0) (c .before .before .before .before .match .keys2) _ (s .0), s .1)
+
+returns-3 : tie.Need-returns-3
+returns-3 c =
+    let S = c .before .before .before .before .before .before in
+    let q = S .pre in
+    let r = c .before .before .before .before .match .rest in
+    let s = c .before .before .dispatch-others .ensures in
+    (s, free-left _ _ (S .args .r) (q .1 .0) (r .0 .1) (r .1) _ _ s _ (q .1 .1 .1 .1))
 
 pub dispatch-spec : {M : Type 1} → statement M
 dispatch-spec =
     tie.close
-    (tie.spec
-    (λ c κs. let q = c .before .before .before .pre in (q .0, (q .1 .0, new-fields _ (q .1 .1 .1) (c .before .match .keys1))))
-    (λ c κs. let q = c .before .before .before .pre in (q .0, (q .1 .0, load-fields _ (q .1 .1 .1) (c .before .match .keys2))))
-    (λ c κs. let q = c .before .before .before .pre in (q .0, (q .1 .0, store-fields _ (q .1 .1 .1) (c .before .match .keys3))))
-    (λ c κs. let q = c .before .before .before .pre in (q .0, (q .1 .0, barrier-fields _ (q .1 .1 .1) (c .before .match .keys4))))
-    (λ c κs. let q = c .before .before .before .pre in (q .0, hand-fields _ (q .1 .1 .1) (c .before .match .keys5)))
-    (λ c κs. let q = c .before .before .before .pre in (q .0, drop-fields _ (q .1 .1 .1) (c .before .match .keys6)))
-    (λ c κs. let q = c .before .before .before .pre in (q .0, (q .1 .0, read-fields _ (q .1 .1 .1) (c .before .match .keys7))))
-    write-requires (λ c κs. search needs)
-    (λ c κs. let q = c .before .before .before .pre in (q .0, (q .1 .0, scan-fields _ (q .1 .1 .1) (c .before .match .keys10))))
-    (λ c κs. let q = c .before .before .before .pre in (q .0, (q .1 .0, trace-fields _ (q .1 .1 .1) (c .before .match .keys11))))
-    (λ c κs. let q = c .before .before .before .pre in (q .0, (q .1 .0, clean-fields _ (q .1 .1 .1) (c .before .match .keys12))))
-    (λ c κs. search needs) (λ c κs. search needs) undirty-requires (λ c. search needs) (λ c. search new-dispatched) (λ c. search needs)
-    (λ c. search load-dispatched) (λ c. search needs) (λ c. search store-dispatched) (λ c. search needs)
-    (λ c. search barrier-dispatched) (λ c. search needs) (λ c. search hand-dispatched) (λ c. search needs)
-    (λ c. search drop-dispatched) (λ c. search needs) (λ c. search read-dispatched) (λ c. search needs) (λ c. search write-dispatched)
-    (λ c. search needs) (λ c. search begin-dispatched) (λ c. search needs) (λ c. search scan-dispatched) (λ c. search needs)
-    (λ c. search trace-dispatched) (λ c. search needs) (λ c. search clean-dispatched) (λ c. search needs)
-    (λ c. search finish-dispatched) (λ c. search needs) (λ c. search due-dispatched) (λ c. search needs) (λ c. search undirty-dispatched)
-    (λ c. no-step _ (c .before .before .args .r) (c .match .rest)))
+    (tie.spec new-requires finish-requires dispatch-others-requires (λ c. search needs) returns (λ c. search needs) returns-2
+    (λ c. search needs) returns-3)

@@ -1,5 +1,5 @@
 use Rattle.image.specs.Layout.{width}
-use Rattle.finish_laws.proofs.gaps.Code.{Sweeping, sweeping-none, sweeping-word, sweeping-more, sweeping-end}
+use Rattle.finish_laws.proofs.gaps.Code.{Sweeping, sweeping-none, sweeping-word, sweeping-more, sweeping-end, within-grown}
 use native.Mathlib.Omega.{arith}
 use borrow.Author.Needs.{needs}
 use Rattle.finish.proofs.gaps.sweep_all.Statement.{statement}
@@ -21,13 +21,22 @@ loop-again : tie.Need-loop-again Inv-loop μ-loop
 loop-again c = let L = c .before .before .before .before .before .loop in sweeping-more (L .inv) (c .before .before .before .before .loop-test .taken) _ _ _ (search needs) (c .before .before .sweep-word .ensures .0) (c .before .before .sweep-word .ensures .1)
 
 close-gap-requires : tie.Need-close-gap-requires Inv-loop μ-loop
-close-gap-requires c κs = let L = c .before .before .loop in (L .inv .sized, omega (arith, L .inv .room))
+close-gap-requires c κs = let L = c .before .before .before .loop in (L .inv .sized, omega (arith, L .inv .room .room))
+
+grow-requires : tie.Need-grow-requires Inv-loop μ-loop
+grow-requires c κs = let L = c .before .before .before .before .before .before .loop in (omega (arith, L .inv .room .room, c .before .before .close-gap .ensures .1), omega (arith, L .inv .room .room, L .inv .room .fewer, c .before .before .close-gap .ensures .1))
 
 returns : tie.Need-returns Inv-loop μ-loop
-returns c = let L = c .before .before .before .before .before .loop in let G = c .before .before .close-gap in (sweeping-end (L .inv) _ (c .before .before .before .before .before .before .before .before .set-first-run .ensures) (c .before .before .before .before .loop-test .left) _ (G .ensures .0) _ (G .ensures .1), omega (arith, L .inv .room, G .ensures .1))
+returns c =
+    let G = c .before .before .before .close-gap in
+    let T = c .before .before .before .before .before .before in
+    let L = T .before .loop in (
+      sweeping-end (L .inv) _ (T .before .before .before .before .set-first-run .ensures) (T .loop-test .left) _ (G .ensures .0) _ (G .ensures .1) _ (c .grow .ensures),
+      within-grown _ _ _ _ (L .inv .room) (omega arith) _ (omega arith) _ (G .ensures .1) _ (c .grow .ensures),
+    )
 
 pub sweep-all-spec : {M : Type 1} → statement M
 sweep-all-spec =
     tie.close
     (tie.spec Inv-loop μ-loop (λ c κs. search needs) (λ c. search needs) (λ c. search needs) loop-holds (λ c. search needs)
-    sweep-word-requires (λ c. search needs) loop-again close-gap-requires (λ c. search needs) (λ c. search needs) returns)
+    sweep-word-requires (λ c. search needs) loop-again close-gap-requires grow-requires (λ c. search needs) returns)

@@ -1,0 +1,163 @@
+//! Document 02, (iv): "keep the count from step to step within a batch [..]; due answers from it without a walk." A count kept so answers as
+//! the walk does, over lists that tell each near way to keep it wrongly.
+
+mod common;
+
+use common::*;
+use reference::batch;
+use reference::image::{Image, Store};
+use reference::pinned::{lists, run_taken, List, Shown};
+use reference::steps::step as run_step;
+use reference::vectors::{parse_batches, BatchCase};
+
+#[derive(Clone, Copy, Debug, PartialEq, Eq)]
+enum Slip {
+    StartForgotten,
+    NewForgotten,
+    UsedUpForgotten,
+    RestForgotten,
+    NewTakesItsSize,
+    FirstRunTaken,
+    RefusedNewTaken,
+    KeptOverFinish,
+    FreedAdded,
+    RefusedFinishClears,
+    SevensCounted,
+    EightsForgotten,
+}
+
+use Slip::*;
+
+const SLIPS: [Slip; 12] = [
+    StartForgotten,
+    NewForgotten,
+    UsedUpForgotten,
+    RestForgotten,
+    NewTakesItsSize,
+    FirstRunTaken,
+    RefusedNewTaken,
+    KeptOverFinish,
+    FreedAdded,
+    RefusedFinishClears,
+    SevensCounted,
+    EightsForgotten,
+];
+
+/// The count of a batch, kept rightly or with a slip; a slip may take it below 0.
+struct Kept {
+    count: isize,
+    slip: Option<Slip>,
+}
+
+impl Kept {
+    /// The one walk, where the batch begins.
+    fn at_first(image: Image, slip: Option<Slip>) -> Kept {
+        let mut kept = Kept { count: 0, slip };
+        if slip != Some(StartForgotten) {
+            kept.count = kept.walked(image);
+        }
+        kept
+    }
+
+    fn walked(&self, image: Image) -> isize {
+        image.runs().map(|(_, length)| self.counted(length)).sum()
+    }
+
+    /// What a run counts for: its granules, if it has 8 or more.
+    fn counted(&self, length: usize) -> isize {
+        let least = match self.slip {
+            Some(SevensCounted) => 7,
+            Some(EightsForgotten) => 9,
+            _ => 8,
+        };
+        if length >= least {
+            length as isize
+        } else {
+            0
+        }
+    }
+
+    /// A new has taken from a run: its rest counts in its place.
+    fn take(&mut self, length: usize, size: usize) {
+        let rest = length.saturating_sub(size);
+        self.count += match self.slip {
+            Some(NewForgotten) => 0,
+            Some(UsedUpForgotten) if rest == 0 => 0,
+            Some(RestForgotten) => -self.counted(length),
+            Some(NewTakesItsSize) => -(size as isize),
+            _ => self.counted(rest) - self.counted(length),
+        };
+    }
+
+    fn finish(&mut self, left: Image, freed: u16) {
+        self.count = match self.slip {
+            Some(KeptOverFinish) => self.count,
+            Some(FreedAdded) => self.count + freed as isize,
+            _ => self.walked(left),
+        };
+    }
+
+    /// One step: an accepted due is answered from the count.
+    fn step(&mut self, store: &mut Store, record: Record) -> [u16; 2] {
+        if record.kind == DUE && !record.is_unknown() {
+            return [0, u16::from(self.count < record.a() as isize)];
+        }
+        let taken = match self.slip {
+            Some(FirstRunTaken) => store.image().runs().next().map(|(_, length)| length),
+            _ => run_taken(store.image(), record.b()),
+        };
+        let (number, value) = run_step(store, record);
+        let is_accepted = number == 0;
+        match (record.kind, taken) {
+            (NEW, Some(length)) if is_accepted || self.slip == Some(RefusedNewTaken) => self.take(length, record.b()),
+            (FINISH, _) if is_accepted => self.finish(store.image(), value),
+            (FINISH, _) if self.slip == Some(RefusedFinishClears) => self.count = 0,
+            _ => {}
+        }
+        [number, value]
+    }
+}
+
+/// The answers of a list in one batch with the count kept.
+fn kept_answers(image: &[u16], steps: &[u8], slip: Option<Slip>) -> Vec<u16> {
+    let mut image = image.to_vec();
+    let mut store = Store::of(&mut image).unwrap();
+    let mut kept = Kept::at_first(store.image(), slip);
+    records(steps).flat_map(|record| kept.step(&mut store, record)).collect()
+}
+
+/// The answers of the walk.
+fn walked_answers(list: &List) -> Vec<u16> {
+    let mut answers = vec![0; list.steps.len() / RECORD_BYTES * 2];
+    assert_eq!(batch(&mut list.image.clone(), &list.steps, &mut answers), 0);
+    answers
+}
+
+#[test]
+fn a_kept_count_answers_as_the_walk_does() {
+    let mut shown = Shown::default();
+    let mut told = SLIPS.map(|slip| (slip, 0));
+    for list in lists() {
+        shown.count(&list);
+        let walked = walked_answers(&list);
+        assert!(kept_answers(&list.image, &list.steps, None) == walked);
+        for (slip, told) in &mut told {
+            *told += usize::from(kept_answers(&list.image, &list.steps, Some(*slip)) != walked);
+        }
+    }
+    println!("{shown:#?}\n{told:?}");
+    assert!(shown.is_worth_running(), "{shown:?}");
+    assert!(told.iter().all(|&(_, told)| told >= 300), "{told:?}");
+}
+
+/// The outside vectors have short batches, and no refused finish before a due that it could move; they tell every other slip.
+#[test]
+fn the_vectors_tell_slips() {
+    let cases = parse_batches(include_str!("../../vectors/document_02/04-iv.txt")).unwrap();
+    let cases: Vec<BatchCase> = cases.into_iter().filter(|case| case.result == 0).collect();
+    let differs = |case: &&BatchCase, slip| kept_answers(&case.image, &case.steps, slip) != case.given;
+    assert!(!cases.iter().any(|case| differs(&case, None)));
+    let told = SLIPS.map(|slip| (slip, cases.iter().filter(|case| differs(case, Some(slip))).count()));
+    println!("{told:?}");
+    assert!(told.iter().all(|&(slip, told)| told >= 1 || slip == RefusedFinishClears), "{told:?}");
+}
