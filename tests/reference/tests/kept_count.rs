@@ -10,8 +10,19 @@ use reference::pinned::{lists, run_taken, List, Shown};
 use reference::steps::step as run_step;
 use reference::vectors::{parse_batches, BatchCase};
 
-#[derive(Clone, Copy, Debug, PartialEq, Eq)]
-enum Slip {
+/// Near ways to keep the count wrongly: the type and the list of all of them.
+macro_rules! slips {
+    ($($slip:ident),* $(,)?) => {
+        #[derive(Clone, Copy, Debug, PartialEq, Eq)]
+        enum Slip {
+            $($slip),*
+        }
+
+        const SLIPS: &[Slip] = &[$($slip),*];
+    };
+}
+
+slips! {
     StartForgotten,
     NewForgotten,
     UsedUpForgotten,
@@ -27,21 +38,6 @@ enum Slip {
 }
 
 use Slip::*;
-
-const SLIPS: [Slip; 12] = [
-    StartForgotten,
-    NewForgotten,
-    UsedUpForgotten,
-    RestForgotten,
-    NewTakesItsSize,
-    FirstRunTaken,
-    RefusedNewTaken,
-    KeptOverFinish,
-    FreedAdded,
-    RefusedFinishClears,
-    SevensCounted,
-    EightsForgotten,
-];
 
 /// The count of a batch, kept rightly or with a slip; a slip may take it below 0.
 struct Kept {
@@ -136,7 +132,7 @@ fn walked_answers(list: &List) -> Vec<u16> {
 #[test]
 fn a_kept_count_answers_as_the_walk_does() {
     let mut shown = Shown::default();
-    let mut told = SLIPS.map(|slip| (slip, 0));
+    let mut told: Vec<(Slip, usize)> = SLIPS.iter().map(|&slip| (slip, 0)).collect();
     for list in lists() {
         shown.count(&list);
         let walked = walked_answers(&list);
@@ -157,7 +153,8 @@ fn the_vectors_tell_slips() {
     let cases: Vec<BatchCase> = cases.into_iter().filter(|case| case.result == 0).collect();
     let differs = |case: &&BatchCase, slip| kept_answers(&case.image, &case.steps, slip) != case.given;
     assert!(!cases.iter().any(|case| differs(&case, None)));
-    let told = SLIPS.map(|slip| (slip, cases.iter().filter(|case| differs(case, Some(slip))).count()));
+    let told_by = |slip| cases.iter().filter(|case| differs(case, Some(slip))).count();
+    let told: Vec<(Slip, usize)> = SLIPS.iter().map(|&slip| (slip, told_by(slip))).collect();
     println!("{told:?}");
     assert!(told.iter().all(|&(slip, told)| told >= 1 || slip == RefusedFinishClears), "{told:?}");
 }
