@@ -45,7 +45,7 @@ enum show_store_result {
 
 /* Kinds of step, with the fields that each one names; the others must be 0. The value is 0 unless one is given. */
 enum show_step {
-    SHOW_STEP_NEW = 1,      /* player, a, b, c: register a gets an object of b granules and c links; value: its granule */
+    SHOW_STEP_NEW = 1,      /* player, a, b, c: register a gets an object of b granules and c links, in the tightest run; value: its granule */
     SHOW_STEP_LOAD = 2,     /* player, a, b, c: register a gets link c of the object in register b; value: that link */
     SHOW_STEP_STORE = 3,    /* player, a, b, c: link b of the object in register a gets register c; then the player owes a barrier */
     SHOW_STEP_BARRIER = 4,  /* player: pays for the store; till then the player can do nothing else */

@@ -16,8 +16,8 @@ struct line {
 
 /* Two objects fill the store: one of one granule and one link, in r0, and one of the rest and no link, in r1. The scan marks the first,
  * so that the first finish keeps both, though all registers are dropped by then; the next one frees them. The card is wiped before the
- * scan, when nothing on it is marked, and not after it. At last a run of 8 granules is left, which due counts, and then one of 7, which
- * it does not. */
+ * scan, when nothing on it is marked, and not after it. Then a run of 8 granules is left, which due counts, and then one of 7, which
+ * it does not. At last there are runs of 4 and of 2: a new of 2 takes the second, and the first stays for one of 4. */
 static const struct line lines[] = {
     {SHOW_STEP_NEW, 0, 0, 1, 1, SHOW_NUMBER_ACCEPTED, 1},
     {SHOW_STEP_NEW, 0, 1, FULL - 1, 0, SHOW_NUMBER_ACCEPTED, 2},
@@ -68,6 +68,14 @@ static const struct line lines[] = {
     {SHOW_STEP_NEW, 0, 1, 1, 0, SHOW_NUMBER_ACCEPTED, FULL - 7},
     {SHOW_STEP_DUE, 0, 1, 0, 0, SHOW_NUMBER_ACCEPTED, 1},
     {SHOW_STEP_DUE, 0, 0, 0, 0, SHOW_NUMBER_ACCEPTED, 0},
+    {SHOW_STEP_NEW, 0, 2, 4, 0, SHOW_NUMBER_ACCEPTED, FULL - 6},
+    {SHOW_STEP_NEW, 0, 3, 1, 0, SHOW_NUMBER_ACCEPTED, FULL - 2},
+    {SHOW_STEP_DROP, 0, 2, 0, 0, SHOW_NUMBER_ACCEPTED, 0},
+    {SHOW_STEP_BEGIN, 0, 0, 0, 0, SHOW_NUMBER_ACCEPTED, 0},
+    {SHOW_STEP_FINISH, 0, 0, 0, 0, SHOW_NUMBER_ACCEPTED, 4},
+    {SHOW_STEP_NEW, 0, 2, 2, 0, SHOW_NUMBER_ACCEPTED, FULL - 1},
+    {SHOW_STEP_NEW, 0, 4, 4, 0, SHOW_NUMBER_ACCEPTED, FULL - 6},
+    {SHOW_STEP_NEW, 0, 5, 1, 0, SHOW_NUMBER_NO_ROOM, 0},
 };
 enum { LINES = sizeof lines / sizeof *lines };
 

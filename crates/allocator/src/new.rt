@@ -1,8 +1,8 @@
-// New: an object at the start of the lowest run that suffices.
+// New: an object at the start of the tightest run that suffices.
 ghost use mathlib.Core.Path.{_≡_};
 ghost use Prim.Native.Nat.{_*_, _-_, _≤_, _<_};
 ghost use Rattle.model.specs.Image.{imageOf, word, owed, setWord, setStart, setReg};
-ghost use Rattle.model.specs.Mutate.{setNext, takeRun, ifLong, usableRun};
+ghost use Rattle.model.specs.Mutate.{tightest, setNext, takeRun, ifLong, usableRun};
 ghost use Rattle.model.specs.Steps.{step};
 ghost use Rattle.theory.specs.Lines.{Sound};
 ghost use Rattle.image_laws.specs.Sized.{Sized};
@@ -77,7 +77,7 @@ pub fn new(im: &mut [Word], k: usize, p: usize, a: usize, b: usize, c: usize, fr
     requires { ⌜ (p < 16) × (a < 16) ⌝ }
     requires { ⌜ owed (imageOf width k (now im)) p ≡ 0 ⌝ }
     requires { ⌜ free ≡ freeOf (imageOf width k (now im)) ⌝ }
-    ensures { λ r. ⌜ doneOf (r .answer) (imageOf width k (now (im .exit))) ≡ step (imageOf width k (now (im .entry))) (asked 1 p a b c) ⌝ }
+    ensures { λ r. ⌜ doneOf (r .answer) (imageOf width k (now (im .exit))) ≡ step tightest (imageOf width k (now (im .entry))) (asked 1 p a b c) ⌝ }
     ensures { λ r. ⌜ r .free ≡ freeOf (imageOf width k (now (im .exit))) ⌝ }
 {
     if b == 0 {

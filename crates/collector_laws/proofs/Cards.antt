@@ -8,14 +8,14 @@ use native.Mathlib.Numerals.{add-one}
 use native.Mathlib.Omega.{arith}
 use lib.Dec.{eqb}
 use borrow.Author.Tests.{eq-eqb, ne-eqb}
-use Rattle.model.specs.Base.{best, lowest}
+use Rattle.model.specs.Base.{best, lowestOf}
 use Rattle.model.specs.Image.{Image, imageOf, image, state}
 use Rattle.model.specs.Collect.{lowestDirty}
 
 -- ---- the lowest number that passes
 
-lowest-on : (ok : ℕ → Bool) (d n p : ℕ) → lowest ok n ≡ suc p → lowest ok (d + n) ≡ suc p
-unfolding lowest best
+lowest-on : (ok : ℕ → Bool) (d n p : ℕ) → lowestOf ok n ≡ suc p → lowestOf ok (d + n) ≡ suc p
+unfolding lowestOf best
 lowest-on ok zero n p e = rw (zero-add n) e
 lowest-on ok (suc d) n p e = rw (suc-add d n, lowest-on ok d n p e, and-false (ok (d + n)), best)
 
@@ -23,10 +23,10 @@ lowest-on ok (suc d) n p e = rw (suc-add d n, lowest-on ok d n p e, and-false (o
 
 -- none of the first c cards is in state 1
 pub record NoDirty (m : Image) (c : ℕ) : Type 0 where
-  pub none : lowest (λ d. eqb (state m d) 1) c ≡ 0
+  pub none : lowestOf (λ d. eqb (state m d) 1) c ≡ 0
 
 pub dirty-first : (m : Image) → NoDirty m 0
-unfolding lowest best
+unfolding lowestOf best
 dirty-first m = record { none = refl }
 
 module _ (w k : ℕ) (ws : List ℕ) (c : ℕ) (o : NoDirty (imageOf w k ws) c) where
@@ -36,11 +36,11 @@ module _ (w k : ℕ) (ws : List ℕ) (c : ℕ) (o : NoDirty (imageOf w k ws) c) 
 
   module _ (x : ℕ) (e : x ≡ state (imageOf w k ws) c) where
     pub dirty-more : (x ≡ 1 → ⊥) → NoDirty (imageOf w k ws) (c + 1)
-    unfolding lowest best
+    unfolding lowestOf best
     dirty-more ne = record { none = rw (add-one c, o .none, ne-eqb (state (imageOf w k ws) c) 1 (λ q. ne (e ∙ q)), best) }
 
     pub dirty-found : x ≡ 1 → c < k → c + 1 ≡ lowestDirty (imageOf w k ws)
-    unfolding lowestDirty lowest best imageOf image
+    unfolding lowestDirty lowestOf best imageOf image
     dirty-found q h =
         let d : k - suc c + suc c ≡ k = omega arith in
         let r = lowest-on (λ d. eqb (state (imageOf w k ws) d) 1) (k - suc c) (suc c) c (rw (o .none, eq-eqb (state (imageOf w k ws) c) 1 (sym e ∙ q), best)) in

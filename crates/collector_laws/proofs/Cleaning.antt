@@ -6,7 +6,7 @@ use Prim.Native.Nat.{ℕ, zero, suc, _+_, _*_, _-_, _≤_, _<_}
 use native.Mathlib.Omega.{arith}
 use lib.Dec.{eqb}
 use borrow.Author.Tests.{eq-eqb, ne-eqb}
-use Rattle.model.specs.Base.{first, lowest}
+use Rattle.model.specs.Base.{first, lowestOf}
 use Rattle.model.specs.Image.{Image, imageOf, image, marked, hand, handCard, setState, withCards}
 use Rattle.model.specs.Collect.{traceHand, takeObject, nextMarked, cleanTo, cleanCard, lowestDirty, takeCard, cleanLine, cleanStep}
 use Rattle.model.proofs.Laws.{best-ok, bool-cases}
@@ -63,7 +63,7 @@ module _ (w k : ℕ) (ws : List ℕ) (o : Lines (imageOf w k ws)) (t : ℕ) (h :
 -- ---- a card taken
 
 pub dirty-in : (w k : ℕ) (ws : List ℕ) (c : ℕ) → c ≡ lowestDirty (imageOf w k ws) → (c ≡ 0 → ⊥) → c - 1 < k
-unfolding lowestDirty lowest imageOf image
+unfolding lowestDirty lowestOf imageOf image
 dirty-in w k ws zero e z = absurd (z refl)
 dirty-in w k ws (suc c) e z = let r = best-ok _ _ k c (sym e) .0 in omega arith
 

@@ -1,7 +1,7 @@
 // A request's step: its fields are tested in one place, then it goes by its kind.
 ghost use mathlib.Core.Path.{_≡_};
 ghost use Rattle.model.specs.Image.{imageOf};
-ghost use Rattle.model.specs.Mutate.{usableGranules};
+ghost use Rattle.model.specs.Mutate.{tightest, usableGranules};
 ghost use Rattle.model.specs.Records.{kindOf};
 ghost use Rattle.model.specs.Steps.{step};
 ghost use Rattle.theory.specs.Lines.{Sound, Undamaged};
@@ -26,7 +26,7 @@ fn dispatch_others(im: &mut [Word], k: usize, r: Request, usable: usize) -> Answ
     requires { ⌜ Passed (imageOf width k (now im)) (requested r) (kindOf (r .kind)) ⌝ }
     requires { ⌜ (r .kind ≡ 1 → ⊥) × (r .kind ≡ 13 → ⊥) ⌝ }
     requires { ⌜ usable ≡ usableGranules (imageOf width k (now im)) ⌝ }
-    ensures { λ a. ⌜ doneOf a (imageOf width k (now (im .exit))) ≡ step (imageOf width k (now (im .entry))) (requested r) ⌝ }
+    ensures { λ a. ⌜ doneOf a (imageOf width k (now (im .exit))) ≡ step tightest (imageOf width k (now (im .entry))) (requested r) ⌝ }
 {
     let kind = r.kind;
     match kind {
@@ -54,7 +54,7 @@ fn dispatch(im: &mut [Word], k: usize, r: Request, free: Free) -> Counted
     requires { ⌜ InRange width r ⌝ }
     requires { ⌜ Passed (imageOf width k (now im)) (requested r) (kindOf (r .kind)) ⌝ }
     requires { ⌜ free ≡ freeOf (imageOf width k (now im)) ⌝ }
-    ensures { λ a. ⌜ doneOf (a .answer) (imageOf width k (now (im .exit))) ≡ step (imageOf width k (now (im .entry))) (requested r) ⌝ }
+    ensures { λ a. ⌜ doneOf (a .answer) (imageOf width k (now (im .exit))) ≡ step tightest (imageOf width k (now (im .entry))) (requested r) ⌝ }
     ensures { λ a. ⌜ a .free ≡ freeOf (imageOf width k (now (im .exit))) ⌝ }
 {
     let kind = r.kind;
@@ -73,7 +73,7 @@ pub fn perform(im: &mut [Word], k: usize, r: Request, free: Free) -> Counted
     requires { ⌜ Undamaged (imageOf width k (now im)) ⌝ }
     requires { ⌜ InRange width r ⌝ }
     requires { ⌜ free ≡ freeOf (imageOf width k (now im)) ⌝ }
-    ensures { λ a. ⌜ doneOf (a .answer) (imageOf width k (now (im .exit))) ≡ step (imageOf width k (now (im .entry))) (requested r) ⌝ }
+    ensures { λ a. ⌜ doneOf (a .answer) (imageOf width k (now (im .exit))) ≡ step tightest (imageOf width k (now (im .entry))) (requested r) ⌝ }
     ensures { λ a. ⌜ a .free ≡ freeOf (imageOf width k (now (im .exit))) ⌝ }
 {
     let a = request::fields::admit(im, k, r);

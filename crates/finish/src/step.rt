@@ -1,6 +1,7 @@
 // Kind 13: the finish as a step. Its fields are tested before.
 ghost use mathlib.Core.Path.{_≡_};
 ghost use Rattle.model.specs.Image.{imageOf};
+ghost use Rattle.model.specs.Mutate.{tightest};
 ghost use Rattle.model.specs.Steps.{step};
 ghost use Rattle.theory.specs.Lines.{Sound};
 ghost use Rattle.image_laws.specs.Sized.{Sized};
@@ -17,7 +18,7 @@ pub fn finish(im: &mut [Word], k: usize, free: Free) -> Counted
     requires { ⌜ Sized width k (now im) ⌝ }
     requires { ⌜ Sound (imageOf width k (now im)) ⌝ }
     requires { ⌜ free ≡ freeOf (imageOf width k (now im)) ⌝ }
-    ensures { λ r. ⌜ doneOf (r .answer) (imageOf width k (now (im .exit))) ≡ step (imageOf width k (now (im .entry))) (asked 13 0 0 0 0) ⌝ }
+    ensures { λ r. ⌜ doneOf (r .answer) (imageOf width k (now (im .exit))) ≡ step tightest (imageOf width k (now (im .entry))) (asked 13 0 0 0 0) ⌝ }
     ensures { λ r. ⌜ r .free ≡ freeOf (imageOf width k (now (im .exit))) ⌝ }
 {
     if image::sections::running(im, k) == 0 {

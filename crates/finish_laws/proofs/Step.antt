@@ -5,6 +5,7 @@ use borrow.Author.Tests.{eq-eqb, ne-eqb}
 use Rattle.model.specs.Image.{Image, running}
 use Rattle.model.specs.Records.{finish, kindOf}
 use Rattle.model.specs.Finish.{finishStep}
+use Rattle.model.specs.Mutate.{tightest}
 use Rattle.model.specs.Steps.{numbers-open, finishDone, accept, act, step}
 use Rattle.request_laws.specs.Answer.{done, asked}
 use Rattle.request_laws.specs.Passed.{Passed}
@@ -17,10 +18,10 @@ unfolding numbers-open kindOf asked
 finish-passes m = record { is-kind = refl; named = refl; on-desk = refl; none-owed = refl }
 
 module _ (m : Image) (x : ℕ) (ex : x ≡ running m) where
-  pub finish-idle : x ≡ 0 → done 10 0 m ≡ step m (asked 13 0 0 0 0)
+  pub finish-idle : x ≡ 0 → done 10 0 m ≡ step tightest m (asked 13 0 0 0 0)
   unfolding numbers-open asked
   finish-idle e = number-10 (finish-passes m) refl refl refl refl (rw (← ex) (eq-eqb x 0 e))
 
-  pub finish-accepted : (x ≡ 0 → ⊥) → (v : ℕ) (n : Image) → finished v n ≡ finishStep m → done 0 v n ≡ step m (asked 13 0 0 0 0)
+  pub finish-accepted : (x ≡ 0 → ⊥) → (v : ℕ) (n : Image) → finished v n ≡ finishStep m → done 0 v n ≡ step tightest m (asked 13 0 0 0 0)
   unfolding numbers-open asked act finishDone accept
-  finish-accepted h v n e = ap (finishDone m (asked 13 0 0 0 0)) e ∙ number-0 (finish-passes m) refl refl refl refl (rw (← ex) (ne-eqb x 0 h)) refl
+  finish-accepted h v n e = ap finishDone e ∙ number-0 (finish-passes m) refl refl refl refl (rw (← ex) (ne-eqb x 0 h)) refl

@@ -4,6 +4,7 @@ ghost use Prim.Native.Nat.{_<_};
 ghost use lib.Dec.{eqb};
 ghost use Rattle.model.specs.Image.{imageOf};
 ghost use Rattle.model.specs.Collect.{cleanCard, takeCard, cleanLine, cleanStep};
+ghost use Rattle.model.specs.Mutate.{tightest};
 ghost use Rattle.model.specs.Steps.{step};
 ghost use Rattle.theory.specs.Lines.{Lines, Sound};
 ghost use Rattle.image_laws.specs.Sized.{Sized};
@@ -76,7 +77,7 @@ pub fn clean(im: &mut [Word], k: usize, t: usize) -> Answer
     requires { ⌜ Sized width k (now im) ⌝ }
     requires { ⌜ Sound (imageOf width k (now im)) ⌝ }
     requires { ⌜ t < 8 ⌝ }
-    ensures { λ r. ⌜ doneOf r (imageOf width k (now (im .exit))) ≡ step (imageOf width k (now (im .entry))) (asked 12 t 0 0 0) ⌝ }
+    ensures { λ r. ⌜ doneOf r (imageOf width k (now (im .exit))) ≡ step tightest (imageOf width k (now (im .entry))) (asked 12 t 0 0 0) ⌝ }
 {
     if image::sections::running(im, k) == 0 {
         return Answer::WrongPhase;

@@ -5,6 +5,7 @@ ghost use Prim.Native.Nat.{suc, _<_};
 ghost use lib.Dec.{eqb};
 ghost use Rattle.model.specs.Image.{imageOf, input, count};
 ghost use Rattle.model.specs.Collect.{traceInput, traceLine, traceStep, hasEntries};
+ghost use Rattle.model.specs.Mutate.{tightest};
 ghost use Rattle.model.specs.Steps.{step};
 ghost use Rattle.theory.specs.Lines.{Lines, Sound};
 ghost use Rattle.image_laws.specs.Sized.{Sized};
@@ -78,7 +79,7 @@ pub fn trace(im: &mut [Word], k: usize, t: usize) -> Answer
     requires { ⌜ Sized width k (now im) ⌝ }
     requires { ⌜ Sound (imageOf width k (now im)) ⌝ }
     requires { ⌜ t < 8 ⌝ }
-    ensures { λ r. ⌜ doneOf r (imageOf width k (now (im .exit))) ≡ step (imageOf width k (now (im .entry))) (asked 11 t 0 0 0) ⌝ }
+    ensures { λ r. ⌜ doneOf r (imageOf width k (now (im .exit))) ≡ step tightest (imageOf width k (now (im .entry))) (asked 11 t 0 0 0) ⌝ }
 {
     if image::sections::running(im, k) == 0 {
         return Answer::WrongPhase;

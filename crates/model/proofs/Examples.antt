@@ -1,17 +1,20 @@
 -- What is said of the worked images, by computation.
 use mathlib.Core.Path.{_≡_, refl, sym, _∙_}
 use mathlib.Core.Bool.{true}
-use mathlib.Core.List.{[], _∷_}
+use mathlib.Core.List.{[], _∷_, _++_}
 use lib.ListN.{replicate}
 use Rattle.model.specs.Base.{put}
 use Rattle.model.specs.Image.{heapAt, parts}
 use Rattle.model.specs.Undamaged.{sound}
+use Rattle.model.specs.Mutate.{lowest, tightest}
+use Rattle.model.specs.Steps.{answersOf}
 use Rattle.model.specs.Batch.{judgeOf, finishOf}
 use Rattle.model.specs.Map.{mapOf}
 use Rattle.model.specs.Plain.{old, plainOf, feed, plainRun, readings, SameAnswers}
+use Rattle.model.specs.BothRules.{shared}
 use Rattle.model.specs.Open.{model-open}
 use Rattle.model.specs.Cases.{bytes, oneCard, answered, ok, refused, cases-open}
-use Rattle.model.specs.Examples.{at, linkBehind, owedByOne, owedAndHeld, allFreed, scattered, longCue, duesNear, wiping, wipingSaid, miscounted, shown, shownSheet, crossing, crossingSheet, dueBefore, again, againSaid, examples-open}
+use Rattle.model.specs.Examples.{at, linkBehind, owedByOne, owedAndHeld, allFreed, scattered, longCue, duesNear, inGaps, nibbled, wiping, wipingSaid, miscounted, shown, shownSheet, crossing, crossingSheet, dueBefore, again, againSaid, examples-open}
 
 -- a link before the next one of an object in hand: Cover fails, and a finish, which goes by object, keeps what it links to
 pub behind-sound : sound (parts 16 linkBehind) ≡ true
@@ -53,6 +56,28 @@ scattered-due = refl
 pub near-eight : duesNear ≡ bytes (ok 0 ∷ ok 1 ∷ ok 0 ∷ [])
 unfolding model-open cases-open examples-open
 near-eight = refl
+
+-- the shortest run that suffices, the lowest of equals, and what is left of it the next time; the lowest that suffices
+pub gaps-tightest : inGaps tightest ≡ bytes (ok 5 ∷ ok 6 ∷ ok 8 ∷ ok 1 ∷ [])
+unfolding model-open cases-open examples-open
+gaps-tightest = refl
+
+pub gaps-lowest : inGaps lowest ≡ bytes (ok 1 ∷ ok 2 ∷ ok 3 ∷ ok 11 ∷ [])
+unfolding model-open cases-open examples-open
+gaps-lowest = refl
+
+-- a new that is refused for room under one rule only, and the answers before it, on either side
+pub nibbled-tightest : answersOf (nibbled tightest) ≡ bytes (ok 6 ∷ ok 1 ∷ ok 0 ∷ [])
+unfolding model-open cases-open examples-open
+nibbled-tightest = refl
+
+pub nibbled-lowest : answersOf (nibbled lowest) ≡ bytes (ok 1 ∷ refused 9 ∷ ok 0 ∷ [])
+unfolding model-open cases-open examples-open
+nibbled-lowest = refl
+
+pub nibbled-shared : answersOf (shared (nibbled tightest) (nibbled lowest)) ++ answersOf (shared (nibbled lowest) (nibbled tightest)) ≡ bytes (ok 6 ∷ ok 1 ∷ [])
+unfolding model-open cases-open examples-open
+nibbled-shared = refl
 
 -- every number of undirty; it is accepted while the card is owed, and while it is in hand
 pub wiping-said : answered wiping ≡ 0 ∷ bytes wipingSaid

@@ -85,8 +85,8 @@ best better ok (suc n) =
     elim (best better ok n) [ zero ↦ cond (ok n) (suc n) 0 | suc b ↦ cond (ok n && better n b) (suc n) (suc b) ]
 
 -- 1 + the lowest number below n that passes; 0 if none passes
-unfoldable pub lowest : (ℕ → Bool) → ℕ → ℕ
-lowest ok n = best (λ a b. false) ok n
+unfoldable pub lowestOf : (ℕ → Bool) → ℕ → ℕ
+lowestOf ok n = best (λ a b. false) ok n
 
 -- v 0 + v 1 + .. + v (n - 1)
 unfoldable pub sumBelow : (ℕ → ℕ) → ℕ → ℕ
@@ -127,5 +127,5 @@ addBits w p (suc n) l = let r = addBits w p n l in cond (p n) (setBit w r n) r
 
 -- opens all of these where an `unfolding` line names it
 unfoldable pub base-open : ℕ
-unfolding nth put zeros all any every some either implies zeroes elem distinct eachPiece table best lowest sumBelow howMany first testBit withBit bit setBit addBits
+unfolding nth put zeros all any every some either implies zeroes elem distinct eachPiece table best lowestOf sumBelow howMany first testBit withBit bit setBit addBits
 base-open = 0

@@ -8,6 +8,7 @@ use Rattle.model.specs.Base.{some, first}
 use Rattle.model.specs.Image.{fits, parts, words}
 use Rattle.model.specs.Undamaged.{undamaged, Made, freshAt, judgeAt}
 use Rattle.model.specs.Records.{recordBytes, records}
+use Rattle.model.specs.Mutate.{Placing, tightest}
 use Rattle.model.specs.Finish.{Finish, finishStep}
 use Rattle.model.specs.Steps.{Event, run, after, answersOf}
 
@@ -31,18 +32,18 @@ unfoldable pub callNumber : ℕ → List ℕ → List ℕ → List ℕ → ℕ
 callNumber w ws bytes answers = first 1 (misfit w ws bytes answers ∷ not (undamaged (parts w ws)) ∷ [])
 
 -- the records of the bytes, run on the image
-unfoldable pub events : ℕ → List ℕ → List ℕ → List Event
-events w ws bytes = run (parts w ws) (records w bytes)
+unfoldable pub events : Placing → ℕ → List ℕ → List ℕ → List Event
+events rule w ws bytes = run rule (parts w ws) (records w bytes)
 
 -- "1 and 2 refuse the call, are its result (0 otherwise) and leave image and answers alone"
-unfoldable pub batchWith : ℕ → List ℕ → List ℕ → List ℕ → ℕ → Batch
-batchWith w ws bytes answers (suc r) = record { result = suc r; image = ws; answers = answers }
-batchWith w ws bytes answers zero =
-    let es : List Event = events w ws bytes in
+unfoldable pub batchWith : Placing → ℕ → List ℕ → List ℕ → List ℕ → ℕ → Batch
+batchWith rule w ws bytes answers (suc r) = record { result = suc r; image = ws; answers = answers }
+batchWith rule w ws bytes answers zero =
+    let es : List Event = events rule w ws bytes in
     record { result = 0; image = words (after (parts w ws) es); answers = answersOf es }
 
-unfoldable pub batchAt : ℕ → List ℕ → List ℕ → List ℕ → Batch
-batchAt w ws bytes answers = batchWith w ws bytes answers (callNumber w ws bytes answers)
+unfoldable pub batchAt : Placing → ℕ → List ℕ → List ℕ → List ℕ → Batch
+batchAt rule w ws bytes answers = batchWith rule w ws bytes answers (callNumber w ws bytes answers)
 
 -- the finish alone: "proved equal to this rule also on images that are undamaged but for Cover"
 pub record Finished : Type 0 where
@@ -60,8 +61,9 @@ freshOf = freshAt 16
 unfoldable pub judgeOf : List ℕ → ℕ
 judgeOf = judgeAt 16
 
+-- document 02, (v): "New shall use the start of the shortest run that suffices, the lowest of equals."
 unfoldable pub batchOf : List ℕ → List ℕ → List ℕ → Batch
-batchOf = batchAt 16
+batchOf = batchAt tightest 16
 
 unfoldable pub finishOf : List ℕ → Finished
 finishOf = finishAt 16

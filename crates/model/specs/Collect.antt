@@ -4,7 +4,7 @@ use mathlib.Core.List.{List, [], _∷_}
 use Prim.Native.Nat.{ℕ, zero, suc, _+_, _*_, _-_, _/_}
 use lib.Dec.{leb, ltb, eqb}
 use lib.ListN.{getD, take, drop}
-use Rattle.model.specs.Base.{put, zeros, any, every, some, best, lowest, first}
+use Rattle.model.specs.Base.{put, zeros, any, every, some, best, lowestOf, first}
 use Rattle.model.specs.Image.{Image, links, link, marked, state, dirty, count, entry, input, output, hand, nextLink, handCard, nextGranule, markObject, setState, dirtyCard, setTracer, setScanned, withPackets, withCards, withGeneral}
 
 module _ (m : Image) where
@@ -124,7 +124,7 @@ cleanCard m t = cleanTo m t (nextMarked m (64 * handCard m t - nextGranule m t) 
 
 -- 3: "Else the lowest card in state 1 becomes 2 and is in hand at its first granule."
 unfoldable pub lowestDirty : Image → ℕ
-lowestDirty m = lowest (λ c. eqb (state m c) 1) (m .k)
+lowestDirty m = lowestOf (λ c. eqb (state m c) 1) (m .k)
 
 unfoldable pub takeCard : Image → ℕ → ℕ → Image
 takeCard m t c = putCard (setState m c 2) t (suc c) (64 * c)

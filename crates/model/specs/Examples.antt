@@ -1,5 +1,5 @@
 -- Worked images and lists that the starred cases do not reach: a finish on an image without Cover, Cover and its two players, runs joined, runs
--- too short to be usable, cards wiped, maps; and a history with the plain store beside it.
+-- too short to be usable, news by either rule, cards wiped, maps; and a history with the plain store beside it.
 use mathlib.Core.Bool.{cond}
 use mathlib.Core.List.{List, [], _∷_, _++_}
 use Prim.Native.Nat.{ℕ, zero, suc, _+_, _*_}
@@ -7,8 +7,8 @@ use lib.Dec.{ltb}
 use lib.ListN.{length, replicate}
 use Rattle.model.specs.Base.{put, table}
 use Rattle.model.specs.Image.{Image, heapAt, countsAt, regsAt, playersAt, lengths, imageLength, place}
-use Rattle.model.specs.Mutate.{freeGranules}
-use Rattle.model.specs.Batch.{Batch, freshOf, batchOf}
+use Rattle.model.specs.Mutate.{Placing, tightest, freeGranules}
+use Rattle.model.specs.Batch.{Batch, freshOf, batchAt, batchOf}
 use Rattle.model.specs.Steps.{Event}
 use Rattle.model.specs.Plain.{made, as-object, as-is, Reply}
 use Rattle.model.specs.Claim.{history}
@@ -67,6 +67,23 @@ nearEight = left (rec 1 0 0 7 0 ∷ rec 1 0 1 1 0 ∷ rec 1 0 2 8 0 ∷ rec 1 0 
 unfoldable pub duesNear : List ℕ
 duesNear = let r : Batch = batchOf nearEight (bytes (rec 14 0 8 0 0 ∷ rec 14 0 9 0 0 ∷ rec 14 0 0 0 0 ∷ [])) (replicate 6 0) in r .answers
 
+-- runs of 3 granules at 1, of 2 at 5 and at 8, and the rest at 11; then news of 1, 1, 1 and 3 granules, by either rule
+unfoldable pub gaps : List ℕ
+gaps =
+    left
+    (rec 1 0 0 3 0 ∷ rec 1 1 0 1 0 ∷ rec 1 0 1 2 0 ∷ rec 1 1 1 1 0 ∷ rec 1 0 2 2 0 ∷ rec 1 1 2 1 0
+    ∷ rec 6 0 0 0 0 ∷ rec 6 0 1 0 0 ∷ rec 6 0 2 0 0 ∷ rec 9 0 0 0 0 ∷ rec 13 0 0 0 0 ∷ [])
+
+unfoldable pub inGaps : Placing → List ℕ
+inGaps rule = let r : Batch = batchAt rule 16 gaps (bytes (rec 1 0 0 1 0 ∷ rec 1 0 1 1 0 ∷ rec 1 0 2 1 0 ∷ rec 1 0 3 3 0 ∷ [])) (replicate 8 0) in r .answers
+
+-- "Long runs get nibbled by small palettes": runs of 4 granules at 1 and of 2 at 6, and no more room; then news of 2 and of 4, and a drop
+unfoldable pub fourAndTwo : List ℕ
+fourAndTwo = left (rec 1 0 0 4 0 ∷ rec 1 0 1 1 0 ∷ rec 1 0 2 2 0 ∷ rec 1 0 3 56 0 ∷ rec 6 0 0 0 0 ∷ rec 6 0 2 0 0 ∷ rec 9 0 0 0 0 ∷ rec 13 0 0 0 0 ∷ [])
+
+unfoldable pub nibbled : Placing → List Event
+nibbled rule = history rule 16 fourAndTwo (record { steps = bytes (rec 1 0 4 2 0 ∷ rec 1 0 5 4 0 ∷ rec 6 0 4 0 0 ∷ []); answers = replicate 6 0 } ∷ [])
+
 -- Undirty of card 0, with O = 1 in player 0's r0: outside a cycle, of no card, with a second byte; in a cycle after a barrier while the player owes
 -- the card again, once more, after that barrier and a clean with the card in hand, once more, and when O is marked.
 unfoldable pub wiping : List (List ℕ)
@@ -113,7 +130,7 @@ dueBefore m a = cond (ltb (freeGranules m) a) 1 0
 
 -- an object made at granule 1, written, read, dropped and freed; then another at granule 1, whose level words are zero
 unfoldable pub again : List Event
-again = history 16 oneCard (record { steps = bytes (rec 1 0 0 1 0 ∷ rec 8 0 0 1 7 ∷ rec 7 0 0 1 0 ∷ rec 6 0 0 0 0 ∷ rec 9 0 0 0 0 ∷ []); answers = replicate 10 0 } ∷ record { steps = bytes (rec 13 0 0 0 0 ∷ rec 1 0 3 1 0 ∷ rec 7 0 3 1 0 ∷ rec 7 0 0 0 0 ∷ []); answers = replicate 8 0 } ∷ [])
+again = history tightest 16 oneCard (record { steps = bytes (rec 1 0 0 1 0 ∷ rec 8 0 0 1 7 ∷ rec 7 0 0 1 0 ∷ rec 6 0 0 0 0 ∷ rec 9 0 0 0 0 ∷ []); answers = replicate 10 0 } ∷ record { steps = bytes (rec 13 0 0 0 0 ∷ rec 1 0 3 1 0 ∷ rec 7 0 3 1 0 ∷ rec 7 0 0 0 0 ∷ []); answers = replicate 8 0 } ∷ [])
 
 -- what the players are answered in it
 unfoldable pub againSaid : List Reply
@@ -129,5 +146,5 @@ againSaid =
 
 -- opens all of these
 unfoldable pub examples-open : ℕ
-unfolding at left inHand linkBehind traced owedByOne owedAndHeld allFreed byTurns scattered longCue nearEight duesNear wiping wipingSaid miscounted shown shownSheet crossing crossingSheet dueBefore again againSaid
+unfolding at left inHand linkBehind traced owedByOne owedAndHeld allFreed byTurns scattered longCue nearEight duesNear gaps inGaps fourAndTwo nibbled wiping wipingSaid miscounted shown shownSheet crossing crossingSheet dueBefore again againSaid
 examples-open = 0

@@ -14,4 +14,5 @@ pub mod Cases
 pub mod Examples
 pub mod Plain
 pub mod Claim
+pub mod BothRules
 pub mod Open

@@ -10,7 +10,8 @@ use Rattle.model.specs.Batch.{batch-open}
 use Rattle.model.specs.Map.{map-open}
 use Rattle.model.specs.Plain.{plain-open}
 use Rattle.model.specs.Claim.{claim-open}
+use Rattle.model.specs.BothRules.{both-rules-open}
 
 unfoldable pub model-open : ℕ
-unfolding undamaged-open records-open mutate-open collect-open finish-open steps-open batch-open map-open plain-open claim-open
+unfolding undamaged-open records-open mutate-open collect-open finish-open steps-open batch-open map-open plain-open claim-open both-rules-open
 model-open = 0

@@ -159,10 +159,20 @@ pub record Fed : Type 0 where
   pub place : ℕ
   pub request : Step
 
+-- kinds 1 to 8
+unfoldable pub byPlayer : Kind → Bool
+unfolding rowOf isPlayer
+byPlayer n = isPlayer ((rowOf n) .who)
+
+-- a new answered 9
+unfoldable pub forRoom : Kind → ℕ → Bool
+unfolding is
+forRoom n r = is n new && eqb r 9
+
 -- "all steps of kinds 1 to 8 in order, refused ones too, but no new answered 9"
 unfoldable pub feeds : Kind → ℕ → Bool
-unfolding rowOf is isPlayer
-feeds n r = isPlayer ((rowOf n) .who) && not (is n new && eqb r 9)
+unfolding byPlayer forRoom
+feeds n r = byPlayer n && not (forRoom n r)
 
 unfoldable pub feedsEvent : Event → Bool
 feedsEvent e = feeds (kindOf (e .request .kind)) (e .done .number)
@@ -213,5 +223,5 @@ SameAnswers m es = readings old 0 es ≡ plainRun (plainOf m) (feed 0 es)
 
 -- opens all of these
 unfoldable pub plain-open : ℕ
-unfolding sameObject isNil upd updObject putReg putLink putLevel putOwing putObject ofImage plainOf holding plainOwing plainNoObject plainLevels plainPastEnd plainNothing plainRefusal plainAccept plainAct plainOutcome plainStep feeds feedsEvent feed plainRun named objectAt reading readings SameAnswers
+unfolding sameObject isNil upd updObject putReg putLink putLevel putOwing putObject ofImage plainOf holding plainOwing plainNoObject plainLevels plainPastEnd plainNothing plainRefusal plainAccept plainAct plainOutcome plainStep byPlayer forRoom feeds feedsEvent feed plainRun named objectAt reading readings SameAnswers
 plain-open = 0

@@ -7,7 +7,7 @@ use Rattle.model.specs.Base.{some, first}
 use Rattle.model.specs.Image.{Image, links, link, levels, level, reg, owed, scanned, running, dirty, cardCount, setWord, setReg, setOwed, dirtyCard, undirtyCard}
 use Rattle.model.specs.Records.{Step, Kind, new, load, store, barrier, handOver, dropReg, read, write, begin, scan, trace, clean, finish, isDue, undirty, unknown, kindOf}
 use Rattle.model.specs.Rows.{Phase, anyPhase, noCycle, inCycle, rowOf, is, forKind, isUnused, isPlayer, limit, reaches, fields, atTarget, rows-open}
-use Rattle.model.specs.Mutate.{roomFor, newObject, usableGranules}
+use Rattle.model.specs.Mutate.{Placing, roomFor, hasRoom, newObject, usableGranules}
 use Rattle.model.specs.Collect.{beginCycle, scanPlayer, traceLine, traceStep, cleanLine, cleanStep}
 use Rattle.model.specs.Finish.{Finish, finishStep}
 
@@ -75,7 +75,7 @@ module _ (m : Image) (s : Step) where
   -- 9 no room: "no b neighbouring granules free"
   unfoldable pub noRoom : Kind → Bool
   unfolding is
-  noRoom n = is n new && eqb ((roomFor m (s .b)) .run) 0
+  noRoom n = is n new && not (hasRoom m (s .b))
 
   -- 10 wrong phase: "begin in a cycle; 10 to 13 outside one"; kind 15 "10 outside a cycle"
   unfoldable pub outOf : Phase → Bool
@@ -115,39 +115,41 @@ module _ (m : Image) (s : Step) where
       ∷ nothingToDo n
       ∷ [])
 
-  -- ---- what an accepted step does
+-- ---- what an accepted step does
 
-  unfoldable pub accept : Image → ℕ → Done
-  accept i v = record { image = i; number = 0; value = v }
+unfoldable pub accept : Image → ℕ → Done
+accept i v = record { image = i; number = 0; value = v }
 
-  unfoldable pub finishDone : Finish → Done
-  finishDone f = accept (f .image) (f .value)
+unfoldable pub finishDone : Finish → Done
+finishDone f = accept (f .image) (f .value)
 
-  -- by any rule of kind 14: what due says of an image and a. Nothing else goes by it (`due-rule` of the theory).
-  module _ (rule : Image → ℕ → ℕ) where
+-- by a rule of placing, and by any rule of kind 14: what due says of an image and a. Only a new goes by the first (`placing-rule` of the theory),
+-- and only kind 14 by the second (`due-rule`).
+module _ (rule : Placing) (m : Image) (s : Step) where
+  module _ (dueBy : Image → ℕ → ℕ) where
     unfoldable pub actBy : Kind → Done
-    -- "new: register a gets an object of b granules and c links, all else zero, at the start of the lowest run that suffices; value its granule"
-    actBy new = accept (newObject m (s .who) (s .a) (s .b) (s .c)) ((roomFor m (s .b)) .run)
+    -- "new: register a gets an object of b granules and c links, all else zero, at the start of" the run that the rule takes; "value its granule"
+    actBy new = accept (newObject rule m (s .who) (s .a) (s .b) (s .c)) ((roomFor rule m (s .b)) .run)
     -- "load: register a gets link c of the object in register b; value that link"
-    actBy load = let l : ℕ = link m (object (s .b)) (s .c) in accept (setReg m (s .who) (s .a) l) l
+    actBy load = let l : ℕ = link m (object m s (s .b)) (s .c) in accept (setReg m (s .who) (s .a) l) l
     -- "store: link b of the object in a gets register c, and the player owes the object's card"
-    actBy store = let g : ℕ = object (s .a) in accept (setOwed (setWord m g (2 + s .b) (object (s .c))) (s .who) (suc (g / 64))) 0
+    actBy store = let g : ℕ = object m s (s .a) in accept (setOwed (setWord m g (2 + s .b) (object m s (s .c))) (s .who) (suc (g / 64))) 0
     -- "barrier: the owed card turns dirty and the player owes nothing"
     actBy barrier = accept (setOwed (dirtyCard m (owed m (s .who) - 1)) (s .who) 0) 0
     -- "hand: player b's register c gets a copy of own register a"
-    actBy handOver = accept (setReg m (s .b) (s .c) (object (s .a))) 0
+    actBy handOver = accept (setReg m (s .b) (s .c) (object m s (s .a))) 0
     -- "drop: register a becomes nil"
     actBy dropReg = accept (setReg m (s .who) (s .a) 0) 0
     -- "read: level word b of the object in a"
-    actBy read = accept m (level m (object (s .a)) (s .b))
+    actBy read = accept m (level m (object m s (s .a)) (s .b))
     -- "write: c into that word"
-    actBy write = let g : ℕ = object (s .a) in accept (setWord m g (2 + links m g + s .b) (s .c)) 0
+    actBy write = let g : ℕ = object m s (s .a) in accept (setWord m g (2 + links m g + s .b) (s .c)) 0
     actBy begin = accept (beginCycle m) 0
     actBy scan = accept (scanPlayer m (s .who) (s .a)) 0
     actBy trace = accept (traceStep m (s .who)) 0
     actBy clean = accept (cleanStep m (s .who)) 0
     actBy finish = finishDone (finishStep m)
-    actBy isDue = accept m (rule m (s .a))
+    actBy isDue = accept m (dueBy m (s .a))
     -- document 02, (ii): "Step 15, undirty, names a card in a [..]; it turns state 1 to 0 and 3 to 2"
     actBy undirty = accept (undirtyCard m (s .a)) 0
     actBy unknown = accept m 0
@@ -158,9 +160,9 @@ module _ (m : Image) (s : Step) where
     outcomeBy n (suc r) = record { image = m; number = suc r; value = 0 }
 
     unfoldable pub stepBy : Done
-    stepBy = let n : Kind = kindOf (s .kind) in outcomeBy n (refusal n)
+    stepBy = let n : Kind = kindOf (s .kind) in outcomeBy n (refusal m s n)
 
-  -- ---- the same, by the rule of document 02
+  -- ---- the same, with document 02's rule of kind 14
 
   unfoldable pub act : Kind → Done
   unfolding actBy
@@ -187,9 +189,9 @@ pub record Event : Type 0 where
   pub request : Step
   pub done : Done
 
-unfoldable pub run : Image → List Step → List Event
-run m [] = []
-run m (s ∷ ss) = let d : Done = step m s in record { got = m; request = s; done = d } ∷ run (d .image) ss
+unfoldable pub run : Placing → Image → List Step → List Event
+run rule m [] = []
+run rule m (s ∷ ss) = let d : Done = step rule m s in record { got = m; request = s; done = d } ∷ run rule (d .image) ss
 
 -- the image that a list of steps leaves
 unfoldable pub after : Image → List Event → Image

@@ -2,6 +2,7 @@
 ghost use mathlib.Core.Path.{_≡_};
 ghost use Prim.Native.Nat.{_^_, _<_};
 ghost use Rattle.model.specs.Image.{imageOf, levels, owed};
+ghost use Rattle.model.specs.Mutate.{tightest};
 ghost use Rattle.model.specs.Steps.{step};
 ghost use Rattle.theory.specs.Heap.{ObjectAt};
 ghost use Rattle.theory.specs.Lines.{Sound};
@@ -28,7 +29,7 @@ pub fn read(im: &[Word], k: usize, p: usize, a: usize, b: usize) -> Answer
     requires { ⌜ Sound (imageOf width k (now im)) ⌝ }
     requires { ⌜ (p < 16) × (a < 16) ⌝ }
     requires { ⌜ owed (imageOf width k (now im)) p ≡ 0 ⌝ }
-    ensures { λ r. ⌜ doneOf r (imageOf width k (now (im .entry))) ≡ step (imageOf width k (now (im .entry))) (asked 7 p a b 0) ⌝ }
+    ensures { λ r. ⌜ doneOf r (imageOf width k (now (im .entry))) ≡ step tightest (imageOf width k (now (im .entry))) (asked 7 p a b 0) ⌝ }
 {
     let g = image::sections::reg(im, k, p, a) as usize;
     if g == 0 {
@@ -47,7 +48,7 @@ pub fn write(im: &mut [Word], k: usize, p: usize, a: usize, b: usize, c: usize) 
     requires { ⌜ (p < 16) × (a < 16) ⌝ }
     requires { ⌜ owed (imageOf width k (now im)) p ≡ 0 ⌝ }
     requires { ⌜ c < 2 ^ width ⌝ }
-    ensures { λ r. ⌜ doneOf r (imageOf width k (now (im .exit))) ≡ step (imageOf width k (now (im .entry))) (asked 8 p a b c) ⌝ }
+    ensures { λ r. ⌜ doneOf r (imageOf width k (now (im .exit))) ≡ step tightest (imageOf width k (now (im .entry))) (asked 8 p a b c) ⌝ }
 {
     let g = image::sections::reg(im, k, p, a) as usize;
     if g == 0 {

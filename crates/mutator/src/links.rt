@@ -2,6 +2,7 @@
 ghost use mathlib.Core.Path.{_≡_};
 ghost use Prim.Native.Nat.{_<_};
 ghost use Rattle.model.specs.Image.{imageOf, owed};
+ghost use Rattle.model.specs.Mutate.{tightest};
 ghost use Rattle.model.specs.Steps.{step};
 ghost use Rattle.theory.specs.Lines.{Sound};
 ghost use Rattle.image_laws.specs.Sized.{Sized};
@@ -16,7 +17,7 @@ pub fn load(im: &mut [Word], k: usize, p: usize, a: usize, b: usize, c: usize) -
     requires { ⌜ Sound (imageOf width k (now im)) ⌝ }
     requires { ⌜ (p < 16) × (a < 16) × (b < 16) ⌝ }
     requires { ⌜ owed (imageOf width k (now im)) p ≡ 0 ⌝ }
-    ensures { λ r. ⌜ doneOf r (imageOf width k (now (im .exit))) ≡ step (imageOf width k (now (im .entry))) (asked 2 p a b c) ⌝ }
+    ensures { λ r. ⌜ doneOf r (imageOf width k (now (im .exit))) ≡ step tightest (imageOf width k (now (im .entry))) (asked 2 p a b c) ⌝ }
 {
     let g = image::sections::reg(im, k, p, b) as usize;
     if g == 0 {
@@ -35,7 +36,7 @@ pub fn store(im: &mut [Word], k: usize, p: usize, a: usize, b: usize, c: usize) 
     requires { ⌜ Sound (imageOf width k (now im)) ⌝ }
     requires { ⌜ (p < 16) × (a < 16) × (c < 16) ⌝ }
     requires { ⌜ owed (imageOf width k (now im)) p ≡ 0 ⌝ }
-    ensures { λ r. ⌜ doneOf r (imageOf width k (now (im .exit))) ≡ step (imageOf width k (now (im .entry))) (asked 3 p a b c) ⌝ }
+    ensures { λ r. ⌜ doneOf r (imageOf width k (now (im .exit))) ≡ step tightest (imageOf width k (now (im .entry))) (asked 3 p a b c) ⌝ }
 {
     let g = image::sections::reg(im, k, p, a) as usize;
     if g == 0 {

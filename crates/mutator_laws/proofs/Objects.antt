@@ -10,6 +10,7 @@ use borrow.Author.Tests.{le-leb, lt-leb, eq-eqb, ne-eqb}
 use Rattle.model.specs.Image.{Image, imageOf, isStart, links, levels, reg}
 use Rattle.model.specs.Records.{Step, Kind}
 use Rattle.model.specs.Rows.{Target, rowOf, atTarget}
+use Rattle.model.specs.Mutate.{tightest}
 use Rattle.model.specs.Steps.{object, noObject, pastEnd, badSize, noRoom, wrongPhase, nothingToDo, act, step}
 use Rattle.theory.specs.Heap.{ObjectAt}
 use Rattle.theory.specs.Lines.{Start, Sound}
@@ -35,7 +36,7 @@ module _ {m : Image} {s : Step} where
   past-by (means-level e f h) = rw (f, e, h)
 
   module _ {n : Kind} {g l i : ℕ} (q : Passed m s n) (t : Means m s ((rowOf n) .target) g l i) where
-    pub object-nil : g ≡ 0 → done 6 0 m ≡ step m s
+    pub object-nil : g ≡ 0 → done 6 0 m ≡ step tightest m s
     unfolding noObject
     object-nil z = number-6 q (none-by t ∙ eq-eqb g 0 z)
 
@@ -44,11 +45,11 @@ module _ {m : Image} {s : Step} where
       unfolding noObject
       some-object = none-by t ∙ ne-eqb g 0 nz
 
-      pub word-past : l ≤ i → done 7 0 m ≡ step m s
+      pub word-past : l ≤ i → done 7 0 m ≡ step tightest m s
       unfolding pastEnd
       word-past h = number-7 q some-object (past-by t ∙ le-leb l i h)
 
-      pub word-acts : i < l → badSize s n ≡ false → noRoom m s n ≡ false → wrongPhase m s n ≡ false → nothingToDo m s n ≡ false → act m s n ≡ step m s
+      pub word-acts : i < l → badSize s n ≡ false → noRoom m s n ≡ false → wrongPhase m s n ≡ false → nothingToDo m s n ≡ false → act tightest m s n ≡ step tightest m s
       unfolding pastEnd
       word-acts h = number-0 q some-object (past-by t ∙ lt-leb l i h)
 

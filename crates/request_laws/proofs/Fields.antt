@@ -12,6 +12,7 @@ use Rattle.model.specs.Base.{some, all}
 use Rattle.model.specs.Image.{Image, owed}
 use Rattle.model.specs.Records.{Step, Kind, unknown, kindOf}
 use Rattle.model.specs.Rows.{Role, unused, player, tracer, register, card, number, rowOf, isPlayer, below, limit, fields}
+use Rattle.model.specs.Mutate.{tightest}
 use Rattle.model.specs.Steps.{unnamed, offDesk, owes, owing, step}
 use Rattle.model.proofs.Laws.{false≢, bool-cases, and-split, all-use}
 use Rattle.model.proofs.Rows.{kind-known, kind-unknown}
@@ -162,13 +163,13 @@ module _ (m : Image) (s : Step) {x : Admission} (f : x ≡ admissionOf m s) wher
   unfolding admissionOf
   said e = let n : Kind = kindOf (s .kind) in rw (sym f ∙ e) at (says (unnamed s n) (offDesk s (m .k) n) (owing m s n))
 
-  pub refused-unknown : x ≡ Unknown → done 3 0 m ≡ step m s
+  pub refused-unknown : x ≡ Unknown → done 3 0 m ≡ step tightest m s
   refused-unknown e = number-3 m s (kindOf (s .kind)) refl (said e)
 
-  pub refused-off : x ≡ OffDesk → done 4 0 m ≡ step m s
+  pub refused-off : x ≡ OffDesk → done 4 0 m ≡ step tightest m s
   refused-off e = let q = said e in number-4 m s (kindOf (s .kind)) refl (q .0) (q .1)
 
-  pub refused-owing : x ≡ Owing → done 5 0 m ≡ step m s
+  pub refused-owing : x ≡ Owing → done 5 0 m ≡ step tightest m s
   refused-owing e = let q = said e in number-5 m s (kindOf (s .kind)) refl (q .0) (q .1) (q .2)
 
   pub admitted-passes : x ≡ Admitted → Passed m s (kindOf (s .kind))

@@ -1,6 +1,7 @@
 // Kind 9: "cards become 0, the cycle runs".
 ghost use mathlib.Core.Path.{_≡_};
 ghost use Rattle.model.specs.Image.{imageOf};
+ghost use Rattle.model.specs.Mutate.{tightest};
 ghost use Rattle.model.specs.Steps.{step};
 ghost use Rattle.image_laws.specs.Sized.{Sized};
 ghost use Rattle.image.specs.Layout.{width};
@@ -11,7 +12,7 @@ use request::answer::Answer;
 
 pub fn begin(im: &mut [Word], k: usize) -> Answer
     requires { ⌜ Sized width k (now im) ⌝ }
-    ensures { λ r. ⌜ doneOf r (imageOf width k (now (im .exit))) ≡ step (imageOf width k (now (im .entry))) (asked 9 0 0 0 0) ⌝ }
+    ensures { λ r. ⌜ doneOf r (imageOf width k (now (im .exit))) ≡ step tightest (imageOf width k (now (im .entry))) (asked 9 0 0 0 0) ⌝ }
 {
     if image::sections::running(im, k) == 1 {
         return Answer::WrongPhase;

@@ -5,6 +5,7 @@ ghost use lib.Dec.{eqb};
 ghost use lib.ListN.{take, drop};
 ghost use Rattle.model.specs.Image.{imageOf, scanned};
 ghost use Rattle.model.specs.Collect.{reachAll, scanPlayer};
+ghost use Rattle.model.specs.Mutate.{tightest};
 ghost use Rattle.model.specs.Steps.{step};
 ghost use Rattle.theory.specs.Lines.{Lines, Sound};
 ghost use Rattle.image_laws.specs.Sized.{Sized};
@@ -45,7 +46,7 @@ pub fn scan(im: &mut [Word], k: usize, t: usize, p: usize) -> Answer
     requires { ⌜ Sized width k (now im) ⌝ }
     requires { ⌜ Sound (imageOf width k (now im)) ⌝ }
     requires { ⌜ (t < 8) × (p < 16) ⌝ }
-    ensures { λ r. ⌜ doneOf r (imageOf width k (now (im .exit))) ≡ step (imageOf width k (now (im .entry))) (asked 10 t p 0 0) ⌝ }
+    ensures { λ r. ⌜ doneOf r (imageOf width k (now (im .exit))) ≡ step tightest (imageOf width k (now (im .entry))) (asked 10 t p 0 0) ⌝ }
 {
     if image::sections::running(im, k) == 0 {
         return Answer::WrongPhase;

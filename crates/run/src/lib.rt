@@ -4,6 +4,7 @@ ghost use Prim.Native.Nat.{_+_, _*_, _/_, _%_, _≤_};
 ghost use lib.ListN.{length};
 ghost use Rattle.model.specs.Image.{imageOf};
 ghost use Rattle.model.specs.Records.{records};
+ghost use Rattle.model.specs.Mutate.{tightest};
 ghost use Rattle.model.specs.Steps.{step, run, after, answersOf};
 ghost use Rattle.theory.specs.Lines.{Undamaged};
 ghost use Rattle.image_laws.specs.Sized.{Sized};
@@ -29,8 +30,8 @@ pub fn one(
     requires { ⌜ InRange width r ⌝ }
     requires { ⌜ 2 * i + 2 ≤ length (now answers) ⌝ }
     requires { ⌜ free ≡ freeOf (imageOf width k (now im)) ⌝ }
-    ensures { λ _. ⌜ imageOf width k (now (im .exit)) ≡ (step (imageOf width k (now (im .entry))) (requested r)) .image ⌝ }
-    ensures { λ _. ⌜ now (answers .exit) ≡ writtenAt (now (answers .entry)) i (step (imageOf width k (now (im .entry))) (requested r)) ⌝ }
+    ensures { λ _. ⌜ imageOf width k (now (im .exit)) ≡ (step tightest (imageOf width k (now (im .entry))) (requested r)) .image ⌝ }
+    ensures { λ _. ⌜ now (answers .exit) ≡ writtenAt (now (answers .entry)) i (step tightest (imageOf width k (now (im .entry))) (requested r)) ⌝ }
     ensures { λ f. ⌜ f ≡ freeOf (imageOf width k (now (im .exit))) ⌝ }
 {
     let c = dispatch::perform::perform(im, k, r, free);
@@ -49,8 +50,8 @@ pub fn run_counted(im: &mut [Word], k: usize, steps: &[u8], answers: &mut [Word]
     requires { ⌜ Undamaged (imageOf width k (now im)) ⌝ }
     requires { ⌜ (length (now steps) % recordLength ≡ 0) × (length (now answers) ≡ 2 * (length (now steps) / recordLength)) ⌝ }
     requires { ⌜ free ≡ freeOf (imageOf width k (now im)) ⌝ }
-    ensures { λ _. ⌜ imageOf width k (now (im .exit)) ≡ after (imageOf width k (now (im .entry))) (run (imageOf width k (now (im .entry))) (records width (now (steps .entry)))) ⌝ }
-    ensures { λ _. ⌜ now (answers .exit) ≡ answersOf (run (imageOf width k (now (im .entry))) (records width (now (steps .entry)))) ⌝ }
+    ensures { λ _. ⌜ imageOf width k (now (im .exit)) ≡ after (imageOf width k (now (im .entry))) (run tightest (imageOf width k (now (im .entry))) (records width (now (steps .entry)))) ⌝ }
+    ensures { λ _. ⌜ now (answers .exit) ≡ answersOf (run tightest (imageOf width k (now (im .entry))) (records width (now (steps .entry)))) ⌝ }
 {
     let mut reader = records::reader::new(steps);
     let n = records::reader::left(reader);
@@ -67,8 +68,8 @@ pub fn run_all(im: &mut [Word], k: usize, steps: &[u8], answers: &mut [Word])
     requires { ⌜ Sized width k (now im) ⌝ }
     requires { ⌜ Undamaged (imageOf width k (now im)) ⌝ }
     requires { ⌜ (length (now steps) % recordLength ≡ 0) × (length (now answers) ≡ 2 * (length (now steps) / recordLength)) ⌝ }
-    ensures { λ _. ⌜ imageOf width k (now (im .exit)) ≡ after (imageOf width k (now (im .entry))) (run (imageOf width k (now (im .entry))) (records width (now (steps .entry)))) ⌝ }
-    ensures { λ _. ⌜ now (answers .exit) ≡ answersOf (run (imageOf width k (now (im .entry))) (records width (now (steps .entry)))) ⌝ }
+    ensures { λ _. ⌜ imageOf width k (now (im .exit)) ≡ after (imageOf width k (now (im .entry))) (run tightest (imageOf width k (now (im .entry))) (records width (now (steps .entry)))) ⌝ }
+    ensures { λ _. ⌜ now (answers .exit) ≡ answersOf (run tightest (imageOf width k (now (im .entry))) (records width (now (steps .entry)))) ⌝ }
 {
     let free = runs::granules::count(im, k);
     run_counted(im, k, steps, answers, free);

@@ -1,5 +1,6 @@
 // A batch at this store's width: refused by a length or a damaged image, or run to its end.
 ghost use mathlib.Core.Path.{_≡_};
+ghost use Rattle.model.specs.Mutate.{tightest};
 ghost use Rattle.model.specs.Batch.{batchAt};
 ghost use Rattle.image.specs.Layout.{width};
 ghost use Rattle.image_laws.specs.Result.{resultOf};
@@ -10,7 +11,7 @@ use image_laws::Extent;
 use image_laws::Verdict;
 
 fn verdict(im: &mut [Word], steps: &[u8], answers: &mut [Word]) -> Verdict
-    ensures { λ r. ⌜ batched (resultOf r) (now (im .exit)) (now (answers .exit)) ≡ batchAt width (now (im .entry)) (now (steps .entry)) (now (answers .entry)) ⌝ }
+    ensures { λ r. ⌜ batched (resultOf r) (now (im .exit)) (now (answers .exit)) ≡ batchAt tightest width (now (im .entry)) (now (steps .entry)) (now (answers .entry)) ⌝ }
 {
     let s = size::cards(im.len());
     match s {
@@ -34,7 +35,7 @@ fn verdict(im: &mut [Word], steps: &[u8], answers: &mut [Word]) -> Verdict
 
 // "1 and 2 refuse the call, are its result (0 otherwise) and leave image and answers alone"
 pub fn batch(im: &mut [Word], steps: &[u8], answers: &mut [Word]) -> Word
-    ensures { λ r. ⌜ batched r (now (im .exit)) (now (answers .exit)) ≡ batchAt width (now (im .entry)) (now (steps .entry)) (now (answers .entry)) ⌝ }
+    ensures { λ r. ⌜ batched r (now (im .exit)) (now (answers .exit)) ≡ batchAt tightest width (now (im .entry)) (now (steps .entry)) (now (answers .entry)) ⌝ }
 {
     image::result::result(verdict(im, steps, answers))
 }

@@ -10,7 +10,7 @@ use lib.Dec.{eqb}
 use borrow.Author.Tests.{eqb-true}
 use Rattle.model.specs.Base.{all, elem}
 use Rattle.model.specs.Image.{Image, owed}
-use Rattle.model.specs.Mutate.{freeGranules, granulesInRuns, usableRun, usableGranules}
+use Rattle.model.specs.Mutate.{tightest, freeGranules, granulesInRuns, usableRun, usableGranules}
 use Rattle.model.specs.Records.{Kind, new, finish, unknown, kindOf}
 use Rattle.model.specs.Rows.{unused, player, below, limit, rowOf}
 use Rattle.model.specs.Steps as steps
@@ -31,7 +31,7 @@ use Rattle.runs_laws.specs.declared.Free.{Free}
 use Rattle.runs_laws.specs.Granules.{freeOf}
 
 -- the step of a request, by the fields that its kind names; the others are 0
-by-kind : (m : Image) (r : Request) (n w a b c : ℕ) (d : steps.Done) → r .kind ≡ n → r .who ≡ w → r .a ≡ a → r .b ≡ b → r .c ≡ c → d ≡ step m (asked n w a b c) → d ≡ step m (requested r)
+by-kind : (m : Image) (r : Request) (n w a b c : ℕ) (d : steps.Done) → r .kind ≡ n → r .who ≡ w → r .a ≡ a → r .b ≡ b → r .c ≡ c → d ≡ step tightest m (asked n w a b c) → d ≡ step tightest m (requested r)
 unfolding requested asked
 by-kind m r n w a b c d e f g h i q = rw (e, f, g, h, i) q
 
@@ -53,28 +53,28 @@ module _ {m : Image} (r : Request) (q : Passed m (requested r) (kindOf (r .kind)
   unfolding kindOf roleAt limit fieldAt requested
   new-fields e = ((below-at 1 e 0 (omega arith) 16 refl, below-at 1 e 1 (omega arith) 16 refl), paid-at 1 e 0 (omega arith) refl refl)
 
-  pub new-dispatched : r .kind ≡ 1 → (d : steps.Done) → d ≡ step m (asked 1 (r .who) (r .a) (r .b) (r .c)) → d ≡ step m (requested r)
+  pub new-dispatched : r .kind ≡ 1 → (d : steps.Done) → d ≡ step tightest m (asked 1 (r .who) (r .a) (r .b) (r .c)) → d ≡ step tightest m (requested r)
   new-dispatched e d = by-kind m r 1 (r .who) (r .a) (r .b) (r .c) d e refl refl refl refl
 
   pub load-fields : r .kind ≡ 2 → ((r .who < 16) × (r .a < 16) × (r .b < 16)) × (owed m (r .who) ≡ 0)
   unfolding kindOf roleAt limit fieldAt requested
   load-fields e = ((below-at 2 e 0 (omega arith) 16 refl, below-at 2 e 1 (omega arith) 16 refl, below-at 2 e 2 (omega arith) 16 refl), paid-at 2 e 0 (omega arith) refl refl)
 
-  pub load-dispatched : r .kind ≡ 2 → (d : steps.Done) → d ≡ step m (asked 2 (r .who) (r .a) (r .b) (r .c)) → d ≡ step m (requested r)
+  pub load-dispatched : r .kind ≡ 2 → (d : steps.Done) → d ≡ step tightest m (asked 2 (r .who) (r .a) (r .b) (r .c)) → d ≡ step tightest m (requested r)
   load-dispatched e d = by-kind m r 2 (r .who) (r .a) (r .b) (r .c) d e refl refl refl refl
 
   pub store-fields : r .kind ≡ 3 → ((r .who < 16) × (r .a < 16) × (r .c < 16)) × (owed m (r .who) ≡ 0)
   unfolding kindOf roleAt limit fieldAt requested
   store-fields e = ((below-at 3 e 0 (omega arith) 16 refl, below-at 3 e 1 (omega arith) 16 refl, below-at 3 e 3 (omega arith) 16 refl), paid-at 3 e 0 (omega arith) refl refl)
 
-  pub store-dispatched : r .kind ≡ 3 → (d : steps.Done) → d ≡ step m (asked 3 (r .who) (r .a) (r .b) (r .c)) → d ≡ step m (requested r)
+  pub store-dispatched : r .kind ≡ 3 → (d : steps.Done) → d ≡ step tightest m (asked 3 (r .who) (r .a) (r .b) (r .c)) → d ≡ step tightest m (requested r)
   store-dispatched e d = by-kind m r 3 (r .who) (r .a) (r .b) (r .c) d e refl refl refl refl
 
   pub barrier-fields : r .kind ≡ 4 → r .who < 16
   unfolding kindOf roleAt limit fieldAt requested
   barrier-fields e = below-at 4 e 0 (omega arith) 16 refl
 
-  pub barrier-dispatched : r .kind ≡ 4 → (d : steps.Done) → d ≡ step m (asked 4 (r .who) 0 0 0) → d ≡ step m (requested r)
+  pub barrier-dispatched : r .kind ≡ 4 → (d : steps.Done) → d ≡ step tightest m (asked 4 (r .who) 0 0 0) → d ≡ step tightest m (requested r)
   unfolding kindOf roleAt limit fieldAt requested
   barrier-dispatched e d = by-kind m r 4 (r .who) 0 0 0 d e refl (zero-at 4 e 1 (omega arith) refl) (zero-at 4 e 2 (omega arith) refl) (zero-at 4 e 3 (omega arith) refl)
 
@@ -82,14 +82,14 @@ module _ {m : Image} (r : Request) (q : Passed m (requested r) (kindOf (r .kind)
   unfolding kindOf roleAt limit fieldAt requested
   hand-fields e = ((below-at 5 e 0 (omega arith) 16 refl, below-at 5 e 1 (omega arith) 16 refl, below-at 5 e 2 (omega arith) 16 refl, below-at 5 e 3 (omega arith) 16 refl), (paid-at 5 e 0 (omega arith) refl refl, paid-at 5 e 2 (omega arith) refl refl))
 
-  pub hand-dispatched : r .kind ≡ 5 → (d : steps.Done) → d ≡ step m (asked 5 (r .who) (r .a) (r .b) (r .c)) → d ≡ step m (requested r)
+  pub hand-dispatched : r .kind ≡ 5 → (d : steps.Done) → d ≡ step tightest m (asked 5 (r .who) (r .a) (r .b) (r .c)) → d ≡ step tightest m (requested r)
   hand-dispatched e d = by-kind m r 5 (r .who) (r .a) (r .b) (r .c) d e refl refl refl refl
 
   pub drop-fields : r .kind ≡ 6 → ((r .who < 16) × (r .a < 16)) × (owed m (r .who) ≡ 0)
   unfolding kindOf roleAt limit fieldAt requested
   drop-fields e = ((below-at 6 e 0 (omega arith) 16 refl, below-at 6 e 1 (omega arith) 16 refl), paid-at 6 e 0 (omega arith) refl refl)
 
-  pub drop-dispatched : r .kind ≡ 6 → (d : steps.Done) → d ≡ step m (asked 6 (r .who) (r .a) 0 0) → d ≡ step m (requested r)
+  pub drop-dispatched : r .kind ≡ 6 → (d : steps.Done) → d ≡ step tightest m (asked 6 (r .who) (r .a) 0 0) → d ≡ step tightest m (requested r)
   unfolding kindOf roleAt limit fieldAt requested
   drop-dispatched e d = by-kind m r 6 (r .who) (r .a) 0 0 d e refl refl (zero-at 6 e 2 (omega arith) refl) (zero-at 6 e 3 (omega arith) refl)
 
@@ -97,7 +97,7 @@ module _ {m : Image} (r : Request) (q : Passed m (requested r) (kindOf (r .kind)
   unfolding kindOf roleAt limit fieldAt requested
   read-fields e = ((below-at 7 e 0 (omega arith) 16 refl, below-at 7 e 1 (omega arith) 16 refl), paid-at 7 e 0 (omega arith) refl refl)
 
-  pub read-dispatched : r .kind ≡ 7 → (d : steps.Done) → d ≡ step m (asked 7 (r .who) (r .a) (r .b) 0) → d ≡ step m (requested r)
+  pub read-dispatched : r .kind ≡ 7 → (d : steps.Done) → d ≡ step tightest m (asked 7 (r .who) (r .a) (r .b) 0) → d ≡ step tightest m (requested r)
   unfolding kindOf roleAt limit fieldAt requested
   read-dispatched e d = by-kind m r 7 (r .who) (r .a) (r .b) 0 d e refl refl refl (zero-at 7 e 3 (omega arith) refl)
 
@@ -105,10 +105,10 @@ module _ {m : Image} (r : Request) (q : Passed m (requested r) (kindOf (r .kind)
   unfolding kindOf roleAt limit fieldAt requested
   write-fields e = ((below-at 8 e 0 (omega arith) 16 refl, below-at 8 e 1 (omega arith) 16 refl), paid-at 8 e 0 (omega arith) refl refl)
 
-  pub write-dispatched : r .kind ≡ 8 → (d : steps.Done) → d ≡ step m (asked 8 (r .who) (r .a) (r .b) (r .c)) → d ≡ step m (requested r)
+  pub write-dispatched : r .kind ≡ 8 → (d : steps.Done) → d ≡ step tightest m (asked 8 (r .who) (r .a) (r .b) (r .c)) → d ≡ step tightest m (requested r)
   write-dispatched e d = by-kind m r 8 (r .who) (r .a) (r .b) (r .c) d e refl refl refl refl
 
-  pub begin-dispatched : r .kind ≡ 9 → (d : steps.Done) → d ≡ step m (asked 9 0 0 0 0) → d ≡ step m (requested r)
+  pub begin-dispatched : r .kind ≡ 9 → (d : steps.Done) → d ≡ step tightest m (asked 9 0 0 0 0) → d ≡ step tightest m (requested r)
   unfolding kindOf roleAt limit fieldAt requested
   begin-dispatched e d = by-kind m r 9 0 0 0 0 d e (zero-at 9 e 0 (omega arith) refl) (zero-at 9 e 1 (omega arith) refl) (zero-at 9 e 2 (omega arith) refl) (zero-at 9 e 3 (omega arith) refl)
 
@@ -116,7 +116,7 @@ module _ {m : Image} (r : Request) (q : Passed m (requested r) (kindOf (r .kind)
   unfolding kindOf roleAt limit fieldAt requested
   scan-fields e = (below-at 10 e 0 (omega arith) 8 refl, below-at 10 e 1 (omega arith) 16 refl)
 
-  pub scan-dispatched : r .kind ≡ 10 → (d : steps.Done) → d ≡ step m (asked 10 (r .who) (r .a) 0 0) → d ≡ step m (requested r)
+  pub scan-dispatched : r .kind ≡ 10 → (d : steps.Done) → d ≡ step tightest m (asked 10 (r .who) (r .a) 0 0) → d ≡ step tightest m (requested r)
   unfolding kindOf roleAt limit fieldAt requested
   scan-dispatched e d = by-kind m r 10 (r .who) (r .a) 0 0 d e refl refl (zero-at 10 e 2 (omega arith) refl) (zero-at 10 e 3 (omega arith) refl)
 
@@ -124,7 +124,7 @@ module _ {m : Image} (r : Request) (q : Passed m (requested r) (kindOf (r .kind)
   unfolding kindOf roleAt limit fieldAt requested
   trace-fields e = below-at 11 e 0 (omega arith) 8 refl
 
-  pub trace-dispatched : r .kind ≡ 11 → (d : steps.Done) → d ≡ step m (asked 11 (r .who) 0 0 0) → d ≡ step m (requested r)
+  pub trace-dispatched : r .kind ≡ 11 → (d : steps.Done) → d ≡ step tightest m (asked 11 (r .who) 0 0 0) → d ≡ step tightest m (requested r)
   unfolding kindOf roleAt limit fieldAt requested
   trace-dispatched e d = by-kind m r 11 (r .who) 0 0 0 d e refl (zero-at 11 e 1 (omega arith) refl) (zero-at 11 e 2 (omega arith) refl) (zero-at 11 e 3 (omega arith) refl)
 
@@ -132,15 +132,15 @@ module _ {m : Image} (r : Request) (q : Passed m (requested r) (kindOf (r .kind)
   unfolding kindOf roleAt limit fieldAt requested
   clean-fields e = below-at 12 e 0 (omega arith) 8 refl
 
-  pub clean-dispatched : r .kind ≡ 12 → (d : steps.Done) → d ≡ step m (asked 12 (r .who) 0 0 0) → d ≡ step m (requested r)
+  pub clean-dispatched : r .kind ≡ 12 → (d : steps.Done) → d ≡ step tightest m (asked 12 (r .who) 0 0 0) → d ≡ step tightest m (requested r)
   unfolding kindOf roleAt limit fieldAt requested
   clean-dispatched e d = by-kind m r 12 (r .who) 0 0 0 d e refl (zero-at 12 e 1 (omega arith) refl) (zero-at 12 e 2 (omega arith) refl) (zero-at 12 e 3 (omega arith) refl)
 
-  pub finish-dispatched : r .kind ≡ 13 → (d : steps.Done) → d ≡ step m (asked 13 0 0 0 0) → d ≡ step m (requested r)
+  pub finish-dispatched : r .kind ≡ 13 → (d : steps.Done) → d ≡ step tightest m (asked 13 0 0 0 0) → d ≡ step tightest m (requested r)
   unfolding kindOf roleAt limit fieldAt requested
   finish-dispatched e d = by-kind m r 13 0 0 0 0 d e (zero-at 13 e 0 (omega arith) refl) (zero-at 13 e 1 (omega arith) refl) (zero-at 13 e 2 (omega arith) refl) (zero-at 13 e 3 (omega arith) refl)
 
-  pub due-dispatched : r .kind ≡ 14 → (d : steps.Done) → d ≡ step m (asked 14 0 (r .a) 0 0) → d ≡ step m (requested r)
+  pub due-dispatched : r .kind ≡ 14 → (d : steps.Done) → d ≡ step tightest m (asked 14 0 (r .a) 0 0) → d ≡ step tightest m (requested r)
   unfolding kindOf roleAt limit fieldAt requested
   due-dispatched e d = by-kind m r 14 0 (r .a) 0 0 d e (zero-at 14 e 0 (omega arith) refl) refl (zero-at 14 e 2 (omega arith) refl) (zero-at 14 e 3 (omega arith) refl)
 
@@ -148,7 +148,7 @@ module _ {m : Image} (r : Request) (q : Passed m (requested r) (kindOf (r .kind)
   unfolding kindOf roleAt limit fieldAt requested
   undirty-fields e = below-at 15 e 1 (omega arith) (m .k) refl
 
-  pub undirty-dispatched : r .kind ≡ 15 → (d : steps.Done) → d ≡ step m (asked 15 0 (r .a) 0 0) → d ≡ step m (requested r)
+  pub undirty-dispatched : r .kind ≡ 15 → (d : steps.Done) → d ≡ step tightest m (asked 15 0 (r .a) 0 0) → d ≡ step tightest m (requested r)
   unfolding kindOf roleAt limit fieldAt requested
   undirty-dispatched e d = by-kind m r 15 0 (r .a) 0 0 d e (zero-at 15 e 0 (omega arith) refl) refl (zero-at 15 e 2 (omega arith) refl) (zero-at 15 e 3 (omega arith) refl)
 
@@ -176,7 +176,7 @@ unfolding kindOf elem all
 no-kind zero h = refl
 no-kind (suc n) h = kind-unknown (suc n) (elim (decLt (suc n) 16) [ yes l ↦ absurd (none-of (suc n) kinds h (all-use 15 (λ x. elem (suc x) kinds) refl n (omega arith))) | no l ↦ omega arith ])
 
-pub no-step : (m : Image) (r : Request) → NoneOf (r .kind) others → (r .kind ≡ 1 → ⊥) × (r .kind ≡ 13 → ⊥) → done 3 0 m ≡ step m (requested r)
+pub no-step : (m : Image) (r : Request) → NoneOf (r .kind) others → (r .kind ≡ 1 → ⊥) × (r .kind ≡ 13 → ⊥) → done 3 0 m ≡ step tightest m (requested r)
 unfolding requested unnamed
 no-step m r h k = number-3 m (requested r) unknown (no-kind (r .kind) ((h, k .1), k .0)) refl
 
@@ -187,10 +187,10 @@ not-kind : (r : Request) (n : Kind) → (r .kind ≡ (rowOf n) .code → ⊥) �
 not-kind r n h nz e = h (kind-number (r .kind) n e nz)
 
 -- all kinds but new and finish leave them as many as they were
-module _ (m n : Image) (r : Request) (u : Undamaged m) (a : r .kind ≡ 1 → ⊥) (b : r .kind ≡ 13 → ⊥) (number value : ℕ) (d : done number value n ≡ step m (requested r)) where
+module _ (m n : Image) (r : Request) (u : Undamaged m) (a : r .kind ≡ 1 → ⊥) (b : r .kind ≡ 13 → ⊥) (number value : ℕ) (d : done number value n ≡ step tightest m (requested r)) where
   runs-left : (least : ℕ) → granulesInRuns least n ≡ granulesInRuns least m
   unfolding requested rowOf
-  runs-left least = ap (λ x. granulesInRuns least (x .image)) d ∙ runs-stay m (requested r) u (not-kind r new a (omega arith)) (not-kind r finish b (omega arith)) least
+  runs-left least = ap (λ x. granulesInRuns least (x .image)) d ∙ runs-stay tightest m (requested r) u (not-kind r new a (omega arith)) (not-kind r finish b (omega arith)) least
 
   pub free-left : (free : Free) → free ≡ freeOf m → free ≡ freeOf n
   unfolding usableGranules

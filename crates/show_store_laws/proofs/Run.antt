@@ -10,6 +10,7 @@ use lib.Seq.{drop-drop, take-at, drop-at, sets-eq}
 use Rattle.model.specs.Base.{table}
 use Rattle.model.specs.Image.{Image, imageOf}
 use Rattle.model.specs.Records.{Step, recordBytes, records}
+use Rattle.model.specs.Mutate.{tightest}
 use Rattle.model.specs.Steps.{Done, Event, step, run, after, answersOf}
 use Rattle.model.proofs.Laws.{table-more}
 use Rattle.theory.specs.Lines.{Undamaged}
@@ -24,7 +25,7 @@ use Rattle.request_laws.specs.Answer.{done}
 -- ---- one turn: its step, and its two answer words
 
 pub turn : (m m₁ : Image) (answers : List ℕ) (i : ℕ) (s : Step) (number value : ℕ)
-    → done number value m₁ ≡ step m s → (m₁ ≡ (step m s) .image) × (set (set answers (2 * i) number) (2 * i + 1) value ≡ writtenAt answers i (step m s))
+    → done number value m₁ ≡ step tightest m s → (m₁ ≡ (step tightest m s) .image) × (set (set answers (2 * i) number) (2 * i + 1) value ≡ writtenAt answers i (step tightest m s))
 unfolding writtenAt
 turn m m₁ answers i s number value d = rw (← d) (refl, refl)
 
@@ -44,31 +45,31 @@ module _ (w : ℕ) (m : Image) (bytes : List ℕ) (i : ℕ) where
   so-far : Image
   so-far = after m (ran w m bytes i)
 
-  ran-one : ran w m bytes (suc i) ≡ ran w m bytes i ++ run so-far (recordAt w bytes i ∷ [])
+  ran-one : ran w m bytes (suc i) ≡ ran w m bytes i ++ run tightest so-far (recordAt w bytes i ∷ [])
   unfolding ran so-far
-  ran-one = ap (run m) (table-more i (recordAt w bytes)) ∙ run-append m (table i (recordAt w bytes)) (recordAt w bytes i ∷ [])
+  ran-one = ap (run tightest m) (table-more i (recordAt w bytes)) ∙ run-append tightest m (table i (recordAt w bytes)) (recordAt w bytes i ∷ [])
 
-  after-one : after m (ran w m bytes (suc i)) ≡ (step so-far (recordAt w bytes i)) .image
+  after-one : after m (ran w m bytes (suc i)) ≡ (step tightest so-far (recordAt w bytes i)) .image
   unfolding so-far run after
-  after-one = ap (after m) ran-one ∙ after-append m (ran w m bytes i) (run so-far (recordAt w bytes i ∷ []))
+  after-one = ap (after m) ran-one ∙ after-append m (ran w m bytes i) (run tightest so-far (recordAt w bytes i ∷ []))
 
-  answers-one : answersOf (ran w m bytes (suc i)) ≡ answersOf (ran w m bytes i) ++ ((step so-far (recordAt w bytes i)) .number ∷ (step so-far (recordAt w bytes i)) .value ∷ [])
+  answers-one : answersOf (ran w m bytes (suc i)) ≡ answersOf (ran w m bytes i) ++ ((step tightest so-far (recordAt w bytes i)) .number ∷ (step tightest so-far (recordAt w bytes i)) .value ∷ [])
   unfolding run answersOf
-  answers-one = ap answersOf ran-one ∙ answers-append (ran w m bytes i) (run so-far (recordAt w bytes i ∷ []))
+  answers-one = ap answersOf ran-one ∙ answers-append (ran w m bytes i) (run tightest so-far (recordAt w bytes i ∷ []))
 
 -- ---- two words written behind a list
 
 module _ (w : ℕ) (m : Image) (bytes : List ℕ) (i : ℕ) (long : length (answersOf (ran w m bytes i)) ≡ 2 * i) where
   long-one : length (answersOf (ran w m bytes (suc i))) ≡ 2 * suc i
-  long-one = rw (answers-one w m bytes i, length-append (answersOf (ran w m bytes i)) ((step (so-far w m bytes i) (recordAt w bytes i)) .number ∷ (step (so-far w m bytes i) (recordAt w bytes i)) .value ∷ [])) (omega arith)
+  long-one = rw (answers-one w m bytes i, length-append (answersOf (ran w m bytes i)) ((step tightest (so-far w m bytes i) (recordAt w bytes i)) .number ∷ (step tightest (so-far w m bytes i) (recordAt w bytes i)) .value ∷ [])) (omega arith)
 
   written-one : (answers : List ℕ) → 2 * suc i ≤ length answers
-      → writtenAt (answersOf (ran w m bytes i) ++ drop (2 * i) answers) i (step (so-far w m bytes i) (recordAt w bytes i)) ≡ answersOf (ran w m bytes (suc i)) ++ drop (2 * suc i) answers
+      → writtenAt (answersOf (ran w m bytes i) ++ drop (2 * i) answers) i (step tightest (so-far w m bytes i) (recordAt w bytes i)) ≡ answersOf (ran w m bytes (suc i)) ++ drop (2 * suc i) answers
   unfolding writtenAt
   written-one answers h =
       let p : List ℕ = answersOf (ran w m bytes i) in
       let r : List ℕ = drop (2 * i) answers in
-      let d : Done = step (so-far w m bytes i) (recordAt w bytes i) in
+      let d : Done = step tightest (so-far w m bytes i) (recordAt w bytes i) in
       let q : 2 * i + 2 ≡ 2 * suc i = omega arith in
       let o : 2 * i + 1 ≡ suc (2 * i) = omega arith in
       rw (o, answers-one w m bytes i)
@@ -94,11 +95,11 @@ ran-none w k im bytes answers n z u free c = record { low = zero-le; image = ref
 
 module _ (w k : ℕ) (im₀ bytes answers₀ : List ℕ) (n : ℕ) (im answers : List ℕ) (free : Free) (i : ℕ) (im₁ answers₁ : List ℕ) (free₁ : Free) where
   pub ran-more : Ran w k im₀ bytes answers₀ n im answers free i → i < n → length answers₀ ≡ 2 * n
-      → imageOf w k im₁ ≡ (step (imageOf w k im) (recordAt w bytes i)) .image → answers₁ ≡ writtenAt answers i (step (imageOf w k im) (recordAt w bytes i))
+      → imageOf w k im₁ ≡ (step tightest (imageOf w k im) (recordAt w bytes i)) .image → answers₁ ≡ writtenAt answers i (step tightest (imageOf w k im) (recordAt w bytes i))
       → free₁ ≡ freeOf (imageOf w k im₁) → length im₁ ≡ length im → length answers₁ ≡ length answers → Ran w k im₀ bytes answers₀ n im₁ answers₁ free₁ (i + 1)
   ran-more r h l e f u d c =
       let m : Image = imageOf w k im₀ in
-      let q : step (imageOf w k im) (recordAt w bytes i) ≡ step (so-far w m bytes i) (recordAt w bytes i) = ap (λ x. step x (recordAt w bytes i)) (unfold so-far in r .image) in
+      let q : step tightest (imageOf w k im) (recordAt w bytes i) ≡ step tightest (so-far w m bytes i) (recordAt w bytes i) = ap (λ x. step tightest x (recordAt w bytes i)) (unfold so-far in r .image) in
       record {
         low = omega arith;
         image = rw add-one (e ∙ (ap (λ x. x .image) q ∙ sym (after-one w m bytes i)));
@@ -107,7 +108,7 @@ module _ (w k : ℕ) (im₀ bytes answers₀ : List ℕ) (n : ℕ) (im answers :
         sized = record { low = r .sized .low; high = r .sized .high; long = d ∙ r .sized .long };
         same = d ∙ r .same;
         long = c ∙ r .long;
-        undamaged = rw e (step-keeps (imageOf w k im) (recordAt w bytes i) (r .undamaged));
+        undamaged = rw e (step-keeps tightest (imageOf w k im) (recordAt w bytes i) (r .undamaged));
         counted = u;
       }
 
@@ -115,8 +116,8 @@ module _ (w k : ℕ) (im₀ bytes answers₀ : List ℕ) (n : ℕ) (im answers :
 
 module _ (w k : ℕ) (im₀ bytes answers₀ : List ℕ) (n : ℕ) (im answers : List ℕ) (free : Free) where
   pub ran-end : Ran w k im₀ bytes answers₀ n im answers free n → n ≡ length bytes / recordBytes w → length answers₀ ≡ 2 * n
-      → (imageOf w k im ≡ after (imageOf w k im₀) (run (imageOf w k im₀) (records w bytes))) × (answers ≡ answersOf (run (imageOf w k im₀) (records w bytes)))
+      → (imageOf w k im ≡ after (imageOf w k im₀) (run tightest (imageOf w k im₀) (records w bytes))) × (answers ≡ answersOf (run tightest (imageOf w k im₀) (records w bytes)))
   ran-end r h l =
       let m : Image = imageOf w k im₀ in
-      let e : ran w m bytes n ≡ run m (records w bytes) = unfold ran records recordAt in rw h in
+      let e : ran w m bytes n ≡ run tightest m (records w bytes) = unfold ran records recordAt in rw h in
       (r .image ∙ ap (after m) e, r .written ∙ (rw (drop-of-length-le answers₀ {i = 2 * n} (omega arith)) (append-nil _) ∙ ap answersOf e))

@@ -5,6 +5,7 @@ use lib.ListN.{set, take, drop}
 use Rattle.model.specs.Base.{table}
 use Rattle.model.specs.Image.{Image}
 use Rattle.model.specs.Records.{Step, recordBytes, stepOf}
+use Rattle.model.specs.Mutate.{tightest}
 use Rattle.model.specs.Steps.{Done, Event, run}
 use Rattle.model.specs.Batch.{Batch}
 
@@ -14,7 +15,7 @@ recordAt w bytes i = stepOf w (take (recordBytes w) (drop (recordBytes w * i) by
 
 -- the first n records, run
 unfoldable pub ran : ℕ → Image → List ℕ → ℕ → List Event
-ran w m bytes n = run m (table n (recordAt w bytes))
+ran w m bytes n = run tightest m (table n (recordAt w bytes))
 
 -- the answer words with the two of record i written
 unfoldable pub writtenAt : List ℕ → ℕ → Done → List ℕ

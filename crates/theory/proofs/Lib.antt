@@ -8,3 +8,5 @@ pub mod plain
 pub mod Claim
 pub mod InOrder
 pub mod Demand
+pub mod Histories
+pub mod BothRules

@@ -12,4 +12,5 @@ pub mod EachKind
 pub mod Kept
 pub mod Numbers
 pub mod Due
+pub mod Rules
 pub mod Runs

@@ -6,6 +6,7 @@ use Prim.Native.Nat.{ℕ, _<_}
 use lib.ListN.{length}
 use Rattle.model.specs.Image.{Image, word, isStart, marked, links, link, reg, owed, hand, nextLink, running}
 use Rattle.model.specs.Records.{Step, finish, kindOf}
+use Rattle.model.specs.Mutate.{Placing}
 use Rattle.model.specs.Steps.{step}
 use Rattle.model.specs.Claim.{Chain}
 use Rattle.theory.specs.Heap.{Proper, Laid}
@@ -51,8 +52,8 @@ pub record Quiet (P : ℕ → Type 0) (m n : Image) : Type 0 where
   pub new-marks : (g : ℕ) → marked n g ≡ true → (marked m g ≡ true) ⊎ P g
 
 -- the record is no finish that is accepted
-abbrev pub NoFinish : Image → Step → Type 0
-NoFinish m s = kindOf (s .kind) ≡ finish → (step m s) .number ≡ 0 → ⊥
+abbrev pub NoFinish : Placing → Image → Step → Type 0
+NoFinish rule m s = kindOf (s .kind) ≡ finish → (step rule m s) .number ≡ 0 → ⊥
 
 -- ---- what stays true from a begin on
 

@@ -8,6 +8,7 @@ pub mod Events
 pub mod Sweep
 pub mod Finish
 pub mod New
+pub mod Placing
 pub mod Numbers
 pub mod Fields
 pub mod Due

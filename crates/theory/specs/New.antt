@@ -8,7 +8,7 @@ use lib.ListN.{length}
 use Rattle.model.specs.Base.{nth}
 use Rattle.model.specs.Image.{Image, granules, word, isStart, size, links, setWord, setStart, setReg}
 use Rattle.model.specs.Records.{Step, new}
-use Rattle.model.specs.Mutate.{roomFor, takeRun, newObject}
+use Rattle.model.specs.Mutate.{Placing, roomFor, takeRun, newObject}
 use Rattle.model.specs.Steps.{refusal}
 use Rattle.theory.specs.Heap.{HeapFilled, HeapSized}
 use Rattle.theory.specs.Pieces.{Stretch}
@@ -82,5 +82,5 @@ pub record NewMade (m n : Image) (p r b c g : ℕ) : Type 0 where
   pub sections : n ≡ setReg (reheaped m (n .heap) (n .starts) (n .general)) p r g
 
 -- what an accepted new leaves
-abbrev pub NewLeaves : Image → Step → Type 0
-NewLeaves m s = refusal m s new ≡ 0 → NewMade m (newObject m (s .who) (s .a) (s .b) (s .c)) (s .who) (s .a) (s .b) (s .c) ((roomFor m (s .b)) .run)
+abbrev pub NewLeaves : Placing → Image → Step → Type 0
+NewLeaves rule m s = refusal m s new ≡ 0 → NewMade m (newObject rule m (s .who) (s .a) (s .b) (s .c)) (s .who) (s .a) (s .b) (s .c) ((roomFor rule m (s .b)) .run)

@@ -5,13 +5,14 @@ use mathlib.Core.Bool.{true, false}
 use Prim.Native.Nat.{ℕ, suc, _+_, _*_, _-_, _/_, _≤_, _<_}
 use Rattle.model.specs.Image.{Image, marked, dirty, state, count, input, output, hand, handCard, owed, running}
 use Rattle.model.specs.Records.{Step}
+use Rattle.model.specs.Mutate.{Placing}
 use Rattle.model.specs.Steps.{step}
 
 -- the step is refused with number n exactly where P holds, and else accepted
-pub record RefusedWhere (m : Image) (s : Step) (n : ℕ) (P : Type 0) : Type 0 where
-  pub refused-if : P → (step m s) .number ≡ n
-  pub only-if : (step m s) .number ≡ n → P
-  pub else-accepted : (P → ⊥) → (step m s) .number ≡ 0
+pub record RefusedWhere (rule : Placing) (m : Image) (s : Step) (n : ℕ) (P : Type 0) : Type 0 where
+  pub refused-if : P → (step rule m s) .number ≡ n
+  pub only-if : (step rule m s) .number ≡ n → P
+  pub else-accepted : (P → ⊥) → (step rule m s) .number ≡ 0
 
 -- ---- fields for which no lower number applies
 

@@ -38,10 +38,10 @@ module _ (st : ℕ → Bool) (rd : ℕ → ℕ → ℕ) (e : ℕ) where
     at-object : {g next : ℕ} {b : Bool} → ObjectHere g → Pieces (g + rd g 0) next false → Pieces g next b
     at-run : {g : ℕ} → RunHere g → Pieces (g + rd g 0) (rd g 1) true → Pieces g g false
 
-  -- the same, up to the lowest run of at least b granules: it is at r, and the run before it at `before`
+  -- the same, up to a run of at least b granules: it is at r, and the run before it at `before`
   pub data Place (b : ℕ) : ℕ → ℕ → Bool → ℕ → ℕ → ℕ → Type 0 where
     past-object : {g next last r before : ℕ} {f : Bool} → ObjectHere g → Place b (g + rd g 0) next false last r before → Place b g next f last r before
-    past-run : {g last r before : ℕ} → RunHere g → rd g 0 < b → Place b (g + rd g 0) (rd g 1) true g r before → Place b g g false last r before
+    past-run : {g last r before : ℕ} → RunHere g → Place b (g + rd g 0) (rd g 1) true g r before → Place b g g false last r before
     place-here : {g last : ℕ} → RunHere g → b ≤ rd g 0 → Pieces (g + rd g 0) (rd g 1) true → Place b g g false last g last
 
 -- ---- of an image
@@ -79,9 +79,9 @@ pub record Unused (m : Image) (y : ℕ) : Type 0 where
 abbrev pub Stretch : Image → ℕ → ℕ → Type 0
 Stretch m b g = (y : ℕ) → g ≤ y → y < g + b → Unused m y
 
--- none starts from x on, below r
-abbrev pub Blocked : Image → ℕ → ℕ → ℕ → Type 0
-Blocked m b x r = (u : ℕ) → x ≤ u → u < r → Stretch m b u → ⊥
+-- none starts from x on
+abbrev pub Blocked : Image → ℕ → ℕ → Type 0
+Blocked m b x = (u : ℕ) → x ≤ u → Stretch m b u → ⊥
 
 -- granule y lies in a run, behind whose end stands an object or nothing: runs are joined
 pub record InRun (m : Image) (y : ℕ) : Type 0 where

@@ -2,6 +2,7 @@
 ghost use mathlib.Core.Path.{_≡_};
 ghost use Prim.Native.Nat.{_<_};
 ghost use Rattle.model.specs.Image.{imageOf, cleanState, undirtyCard};
+ghost use Rattle.model.specs.Mutate.{tightest};
 ghost use Rattle.model.specs.Steps.{step};
 ghost use Rattle.image_laws.specs.Sized.{Sized};
 ghost use Rattle.image.specs.Layout.{width};
@@ -33,7 +34,7 @@ fn undirty_card(im: &mut [Word], k: usize, c: usize)
 pub fn undirty(im: &mut [Word], k: usize, c: usize) -> Answer
     requires { ⌜ Sized width k (now im) ⌝ }
     requires { ⌜ c < k ⌝ }
-    ensures { λ r. ⌜ doneOf r (imageOf width k (now (im .exit))) ≡ step (imageOf width k (now (im .entry))) (asked 15 0 c 0 0) ⌝ }
+    ensures { λ r. ⌜ doneOf r (imageOf width k (now (im .exit))) ≡ step tightest (imageOf width k (now (im .entry))) (asked 15 0 c 0 0) ⌝ }
 {
     if image::sections::running(im, k) == 0 {
         return Answer::WrongPhase;

@@ -3,12 +3,12 @@
 use reference::record::{Record, DUE, READ};
 
 use crate::calls::{judge_all, Call};
-use crate::shows::{runs_in_turn, show, Free, Sizes};
+use crate::shows::{self, show, with_runs, Free, Sizes};
 use crate::stepping::alone;
 use crate::timing::{in_turn, Goals, NOT_SLOWER};
 use crate::work;
 
-const RUNS: usize = 8_000;
+pub const RUNS: usize = 8_000;
 
 /// Steps of the playback loop in a batch, each with a due or a read behind it.
 const STEPS: usize = 500;
@@ -24,14 +24,16 @@ pub fn dues(goals: &mut Goals) {
     where_a_batch_begins(&shows);
 }
 
-/// A playback loop that sends a due with every step, and the same with a read by another player in place of each due. The news take from
-/// two runs of 8; at the second the dues turn from 0 to 1.
+/// A playback loop that sends a due with every step, and the same with a read by another player in place of each due. The news use runs of 8
+/// up; at the second the dues turn from 0 to 1.
 fn in_long_batches(goals: &mut Goals) {
     println!("due in long batches         library ns  second ns  library/second  (a batch)");
-    let image = runs_in_turn(512, RUNS);
+    let image = with_runs(512, &shows::in_turn(RUNS));
     let wanted = 8 * (RUNS / 4 - 1);
     let behind = [Record::new(DUE, 0, wanted as u16, 0, 0), Record::new(READ, 1, 0, 0, 0)];
     let steps = behind.map(|record| work::playback(&image, STEPS, record));
+    let dues: Vec<u16> = work::accepted_values(&image, &steps[0]).into_iter().skip(1).step_by(2).collect();
+    assert!(dues.is_sorted() && dues.contains(&0) && dues.contains(&1), "dues that turn from 0 to 1 once");
     let [dues, reads] = [&steps[0], &steps[1]].map(|steps| Call::new(&image, steps));
     let timed = in_turn(
         4,

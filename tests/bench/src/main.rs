@@ -9,6 +9,7 @@ mod halts;
 mod judging;
 mod mapping;
 mod pauses;
+mod placing;
 mod shows;
 mod stepping;
 mod timing;
@@ -19,13 +20,14 @@ use timing::Goals;
 
 type Part = fn(&mut Goals);
 
-const PARTS: [(&str, Part); 11] = [
+const PARTS: [(&str, Part); 12] = [
     ("judge", judging::judging),
     ("growth", judging::growing),
     ("fresh", judging::making),
     ("map", mapping::mapping),
     ("steps", stepping::stepping),
     ("finish", stepping::finishing),
+    ("new", placing::placing),
     ("due", dues::dues),
     ("undirty", stepping::wiping),
     ("pauses", pauses::pauses),

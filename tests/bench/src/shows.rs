@@ -1,4 +1,4 @@
-//! Shows for the timings of a finish and of due, laid directly in an image with no cycle.
+//! Shows for the timings of a finish, of due and of new, laid directly in an image with no cycle.
 
 use reference::image::Store;
 use reference::layout::length;
@@ -91,20 +91,25 @@ fn lay_between_runs(store: &mut Store) -> Vec<usize> {
     objects
 }
 
-/// A store with so many runs, of 1, 2, 1 and 8 granules in turn, each behind an object of one granule; one more object fills what is left.
-/// Two players hold the first, which has a link to the second and a level word.
-pub fn runs_in_turn(k: usize, runs: usize) -> Vec<u16> {
+/// The lengths of so many runs, of 1, 2, 1 and 8 granules in turn.
+pub fn in_turn(runs: usize) -> Vec<usize> {
+    [1, 2, 1, 8].into_iter().cycle().take(runs).collect()
+}
+
+/// A store with runs of these lengths, each behind an object of one granule; one more object fills what is left. Two players hold the first,
+/// which has a link to the second and a level word.
+pub fn with_runs(k: usize, lengths: &[usize]) -> Vec<u16> {
     let mut words = vec![0; length(k)];
     let mut store = Store::of(&mut words).expect("a fitting length");
     let mut g = 1;
-    for (n, length) in [1, 2, 1, 8].into_iter().cycle().take(runs).enumerate() {
+    for (n, length) in lengths.iter().enumerate() {
         store.set_object(g, 1, 1);
-        store.set_run(g + 1, length, if n + 1 < runs { g + length + 2 } else { 0 });
+        store.set_run(g + 1, *length, if n + 1 < lengths.len() { g + length + 2 } else { 0 });
         g += 1 + length;
     }
     store.set_first_run(2);
     store.set_object(g, store.layout.granules() - g, 0);
-    store.set_link(1, 0, 3);
+    store.set_link(1, 0, 1 + 1 + lengths[0]);
     (0..2).for_each(|player| store.set_register(player, 0, 1));
     assert_undamaged(&words);
     words

@@ -104,18 +104,20 @@ pub fn filling(image: &[u16], stores: usize, is_wiped: bool) -> Vec<u8> {
             steps.extend(Record::new(UNDIRTY, 0, card_of(cue) as u16, 0, 0).to_bytes());
         }
     }
-    assert_accepted(image, &steps);
+    accepted_values(image, &steps);
     steps
 }
 
-fn assert_accepted(image: &[u16], steps: &[u8]) {
+/// The values of steps, none of which is refused.
+pub fn accepted_values(image: &[u16], steps: &[u8]) -> Vec<u16> {
     let mut answers = vec![0; steps.len() / 4];
     assert_eq!(reference::batch(&mut image.to_vec(), steps, &mut answers), 0);
     assert!(answers.chunks(2).all(|answer| answer[0] == 0), "a step that is refused");
+    answers.chunks(2).map(|answer| answer[1]).collect()
 }
 
 /// A playback loop on a cue in register 0 with a link and a level word, so many steps, with that record behind each. Now and then
-/// there is a new of one granule.
+/// there is a new of eight granules.
 pub fn playback(image: &[u16], count: usize, behind: Record) -> Vec<u8> {
     let round = [
         Record::new(READ, 0, 0, 0, 0),
@@ -126,9 +128,9 @@ pub fn playback(image: &[u16], count: usize, behind: Record) -> Vec<u8> {
         Record::new(HAND, 0, 0, 1, 0),
         Record::new(DROP, 0, 1, 0, 0),
     ];
-    let rounds = [&round[..], &round, &round, &[Record::new(NEW, 0, 2, 1, 1)]].concat();
+    let rounds = [&round[..], &round, &round, &[Record::new(NEW, 0, 2, 8, 1)]].concat();
     let steps: Vec<u8> =
         rounds.iter().cycle().take(count).flat_map(|step| [*step, behind]).flat_map(Record::to_bytes).collect();
-    assert_accepted(image, &steps);
+    accepted_values(image, &steps);
     steps
 }

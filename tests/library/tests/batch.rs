@@ -1,13 +1,14 @@
 //! `batch` of the proved library against the second implementation, memory for memory.
 
 use library::compared::{same, Seen};
+use reference::cases::{by, otherwise_by_lowest};
 use reference::generate::{batches, list, list_with_dues, list_with_wiping, miscount, spoil, Pace};
 use reference::image::Store;
 use reference::made::{bare, fresh_image, holes, idle, running, starved, STARVED_CARDS};
 use reference::random::Random;
 use reference::record::{Record, RECORD_BYTES, UNDIRTY};
 use reference::vectors::{parse_batches, parse_older, parse_older_batches, BatchCase, Case, UNTOUCHED};
-use reference::{whole_list, Counts};
+use reference::{whole_list, Counts, Placing};
 
 /// A random list of about `count` steps from the image, in random batches, misfits between.
 fn run(random: &mut Random, image: Vec<u16>, count: usize, seen: &mut Seen) {
@@ -264,12 +265,22 @@ fn run_vectors(cases: Vec<BatchCase>) -> Vec<(BatchCase, Vec<u16>)> {
     cases.into_iter().map(run).collect()
 }
 
-/// The vectors of document 01: of all that they give, only dues have moved since.
+/// Cases that were made by the lowest run, as the tightest has them: the vectors' own words where both do the same, else the second
+/// implementation's, which has the vectors' by the lowest.
+fn by_tightest(cases: Vec<BatchCase>) -> Vec<BatchCase> {
+    let by_tightest = |case: BatchCase| match otherwise_by_lowest(&case) {
+        Some(_) => by(Placing::Tightest, &case),
+        None => case,
+    };
+    cases.into_iter().map(by_tightest).collect()
+}
+
+/// The vectors of document 01: of all that they give, only dues have moved since, and where a new goes.
 #[test]
 fn outside_vectors() {
     let (cases, left_out) = parse_older_batches(include_str!("../../vectors/batches.txt")).unwrap();
     assert_eq!((cases.len(), left_out), (115, 5));
-    for (case, answers) in run_vectors(cases) {
+    for (case, answers) in run_vectors(by_tightest(cases)) {
         assert!(case.gives_but_for_due(&answers), "case {}", case.name);
     }
 }
@@ -284,19 +295,26 @@ fn assert_as_given(cases: Vec<BatchCase>) {
 fn outside_dues() {
     let (cases, left_out) = parse_older_batches(include_str!("../../vectors/document_02/01-i.txt")).unwrap();
     assert_eq!((cases.len(), left_out), (66, 4));
-    assert_as_given(cases);
+    assert_as_given(by_tightest(cases));
 }
 
 #[test]
 fn outside_wiping() {
     let cases = parse_batches(include_str!("../../vectors/document_02/02-ii.txt")).unwrap();
     assert_eq!(cases.len(), 70);
-    assert_as_given(cases);
+    assert_as_given(by_tightest(cases));
 }
 
 #[test]
 fn outside_dues_in_batches() {
     let cases = parse_batches(include_str!("../../vectors/document_02/04-iv.txt")).unwrap();
+    assert_eq!(cases.len(), 70);
+    assert_as_given(by_tightest(cases));
+}
+
+#[test]
+fn outside_tight() {
+    let cases = parse_batches(include_str!("../../vectors/document_02/05-v.txt")).unwrap();
     assert_eq!(cases.len(), 70);
     assert_as_given(cases);
 }

@@ -7,8 +7,9 @@ use std::process::{Command, Stdio};
 
 use reference::generate::{list, Pace};
 use reference::made::fresh_image;
-use reference::program::{lines, CARDS, MOST_BYTES};
+use reference::program::{lines, lines_by, CARDS, MOST_BYTES};
 use reference::random::Random;
+use reference::Placing;
 
 fn top() -> PathBuf {
     PathBuf::from(env!("CARGO_MANIFEST_DIR")).join("../..")
@@ -48,6 +49,17 @@ fn stored_list_has_every_kind() {
     for kind in 1..=15 {
         assert!(stored.lines().any(|line| line.contains(&format!(" {kind} 0 "))), "kind {kind} is never accepted");
     }
+}
+
+/// "The granule numbers in steprun's stored outputs change with it and are compared against this rule": the stored list has a new for each of
+/// two equal gaps, for one of just its size, and for a longer one below that shorter ones have left whole.
+#[test]
+fn stored_list_by_the_tightest_run() {
+    let steps = std::fs::read(top().join("crates/steprun/stdin")).unwrap();
+    let [lowest, tightest] = [Placing::Lowest, Placing::Tightest].map(|placing| lines_by(placing, &steps));
+    let otherwise = lowest.lines().zip(tightest.lines()).filter(|(lowest, tightest)| lowest != tightest);
+    let tightest: Vec<&str> = otherwise.map(|(_, tightest)| tightest).collect();
+    assert_eq!(tightest, ["151 1 0 20", "152 1 0 169", "153 1 0 24", "154 1 0 25", "155 1 0 12", "156 1 0 173"]);
 }
 
 #[test]

@@ -1,15 +1,16 @@
 //! Random cases for the format of the vectors, with what this implementation does on them.
 
 use crate::finish::finish;
-use crate::generate::{damage, list, list_with_dues, list_with_wiping, miscount, misfit, spoil, wrong_rooms, Pace};
+use crate::generate::{damage, list, list_with_dues, list_with_gaps, list_with_wiping};
+use crate::generate::{miscount, misfit, spoil, wrong_rooms, Pace};
 use crate::image::Image;
 use crate::judge::cover;
 use crate::layout::{PLAYERS, TRACERS};
-use crate::made::{bare, fresh_image, holes, idle, loose, running, starved, uncovered_image, STARVED_CARDS};
+use crate::made::{bare, fresh_image, gaps, holes, idle, loose, running, starved, uncovered_image, STARVED_CARDS};
 use crate::map::{map_bytes, service_map};
 use crate::random::Random;
 use crate::record::{Record, RECORD_BYTES, SCAN};
-use crate::steps::batch;
+use crate::steps::{batch, batch_by, Placing};
 use crate::vectors::{BatchCase, Case, FinishCase, MapCase, UNTOUCHED, UNTOUCHED_BYTE};
 
 /// A case of `batch`, or once in four a finish alone.
@@ -38,10 +39,23 @@ fn finish_case(random: &mut Random, number: u64) -> Case {
 
 fn batch_case(random: &mut Random, number: u64) -> Case {
     let (what, image, steps, answers) = call(random);
-    let mut left = image.clone();
-    let mut given = vec![UNTOUCHED; answers];
-    let result = batch(&mut left, &steps, &mut given);
-    Case::Batch(BatchCase { name: format!("{number} {what}"), image, steps, answers, result, left, given })
+    let name = format!("{number} {what}");
+    let case = BatchCase { name, image, steps, answers, result: 0, left: Vec::new(), given: Vec::new() };
+    Case::Batch(by(Placing::Tightest, &case))
+}
+
+/// The case with what this implementation does on it under that rule of placing.
+pub fn by(placing: Placing, case: &BatchCase) -> BatchCase {
+    let mut left = case.image.clone();
+    let mut given = vec![UNTOUCHED; case.answers];
+    let result = batch_by(placing, &mut left, &case.steps, &mut given);
+    BatchCase { result, left, given, ..case.clone() }
+}
+
+/// The case by the lowest run, if it comes to other answers or another image so.
+pub fn otherwise_by_lowest(case: &BatchCase) -> Option<BatchCase> {
+    let [lowest, tightest] = [Placing::Lowest, Placing::Tightest].map(|placing| by(placing, case));
+    (lowest != tightest).then_some(lowest)
 }
 
 /// What it is, the image, the step bytes and the number of answer words.
@@ -53,6 +67,7 @@ fn call(random: &mut Random) -> (&'static str, Vec<u16>, Vec<u8>, usize) {
         (6, "idle"),
         (12, "dues"),
         (14, "wiping"),
+        (14, "tight"),
         (1, "starved"),
         (8, "spoiled"),
         (6, "miscounted"),
@@ -82,6 +97,7 @@ fn image(random: &mut Random, what: &str) -> Vec<u16> {
         "idle" => idle(random, k),
         "dues" => holes(random, k),
         "wiping" => bare(random, k),
+        "tight" => gaps(random, k),
         "starved" => starved(random, STARVED_CARDS),
         "loose" => uncovered_image(random, k),
         _ => running(random, k),
@@ -98,6 +114,7 @@ fn steps(random: &mut Random, what: &str, image: &mut [u16]) -> Vec<u8> {
     match what {
         "dues" => list_with_dues(random, image, count, pace),
         "wiping" => list_with_wiping(random, image, 2 * count, pace),
+        "tight" => list_with_gaps(Placing::Tightest, random, image, 2 * count, pace),
         "starved" => [scans(random, image), list(random, image, count, pace)].concat(),
         _ => list(random, image, count, pace),
     }
@@ -116,7 +133,7 @@ fn scans(random: &mut Random, image: &mut [u16]) -> Vec<u8> {
 }
 
 /// A fresh store after some steps.
-fn evolved(random: &mut Random, k: usize) -> Vec<u16> {
+pub fn evolved(random: &mut Random, k: usize) -> Vec<u16> {
     let mut image = fresh_image(k);
     let count = random.from_to(10, 400);
     let pace = Pace::draw(random);

@@ -2,21 +2,17 @@
 //! history, and what must hold of it. Records are read here by their bytes and by the plain store, never by `crate::record`,
 //! which the real steps use.
 
-use std::collections::{BTreeMap, BTreeSet};
+use std::collections::BTreeSet;
 
 use crate::image::{Image, Object};
 use crate::judge::first_damage;
 use crate::layout::{card_of, GRANULE_WORDS, PLAYERS};
-use crate::plain::record::is_of_a_player;
-use crate::plain::{Name, Plain, Reference, Value};
+use crate::plain::reading::Reading;
+use crate::plain::record::{is_of_a_player, NEW, RECORD_BYTES};
+use crate::plain::Plain;
 use crate::vectors::UNTOUCHED;
 
-/// "records of 8 bytes with no header"
-const RECORD_BYTES: usize = 8;
-
-/// The kinds that the check tells apart, as the documents number them.
-const NEW: u8 = 1;
-const LOAD: u8 = 2;
+/// The other kinds that the check tells apart, as the documents number them.
 const BEGIN: u8 = 9;
 const SCAN: u8 = 10;
 const CLEAN: u8 = 12;
@@ -162,8 +158,7 @@ impl Moment<'_> {
 
 struct List {
     plain: Plain,
-    /// By value, the place of the last accepted new that had it.
-    last_new: BTreeMap<u16, usize>,
+    reading: Reading,
     /// What no chain reached at the last accepted begin, until the next accepted finish.
     garbage: Option<Vec<usize>>,
     counts: Counts,
@@ -186,8 +181,8 @@ fn ensure_undamaged(image: &[u16], what: &str) -> Result<(), String> {
 
 impl List {
     fn new(first_image: &[u16], is_strict: bool) -> List {
-        let plain = Plain::of(first_image);
-        List { plain, last_new: BTreeMap::new(), garbage: None, counts: Counts::default(), is_strict }
+        let (plain, reading) = (Plain::of(first_image), Reading::of(first_image));
+        List { plain, reading, garbage: None, counts: Counts::default(), is_strict }
     }
 
     /// Runs a batch whole, and beside it one record at a time to get the images between.
@@ -293,7 +288,7 @@ impl List {
         Ok(())
     }
 
-    /// A new with no earlier refusal gets the lowest stretch that suffices, or 9 if there is none.
+    /// A new with no earlier refusal gets the shortest stretch that suffices, the lowest of equals, or 9 if there is none.
     fn check_room(&self, moment: &Moment) -> Result<(), String> {
         if moment.kind() != NEW {
             return ensure(moment.number != 9, || "no room for what is not a new".to_string());
@@ -301,7 +296,8 @@ impl List {
         let Some(size) = self.plain.room_wanted(moment.bytes) else {
             return ensure(moment.number != 9, || "no room before an earlier refusal".to_string());
         };
-        let stretch = unused_stretches(moment.got).into_iter().find(|&(_, length)| length >= size);
+        let sufficing = unused_stretches(moment.got).into_iter().filter(|&(_, length)| length >= size);
+        let stretch = sufficing.min_by_key(|&(g, length)| (length, g));
         let right = match stretch {
             Some((g, _)) => moment.number == 0 && usize::from(moment.value) == g,
             None => moment.number == 9,
@@ -314,29 +310,11 @@ impl List {
         if !is_of_a_player(moment.bytes) || moment.is_new_without_room() {
             return Ok(());
         }
-        if moment.is_accepted(NEW) {
-            self.last_new.insert(moment.value, moment.place);
-        }
+        let real = self.reading.value(moment.bytes, moment.place, moment.number, moment.value)?;
         let (number, value) = self.plain.step(moment.bytes, moment.place);
-        let real = match moment.kind() {
-            NEW | LOAD if moment.number == 0 => Value::Object(self.named(moment.value)?),
-            _ => Value::Number(moment.value),
-        };
         ensure((moment.number, real) == (number, value), || {
             format!("{} {real:?}, but {number} {value:?} on the plain store", moment.number)
         })
-    }
-
-    /// "the object of the last accepted new with value g, this one included, or, with none, the one
-    /// starting at g in the first image; 0 as nil"
-    fn named(&self, g: u16) -> Result<Reference, String> {
-        if g == 0 {
-            return Ok(None);
-        }
-        let in_image = Name::Granule(usize::from(g));
-        let name = self.last_new.get(&g).map_or(in_image, |&place| Name::Place(place));
-        ensure(self.plain.has(name) || name != in_image, || format!("no object was ever at {g}"))?;
-        Ok(Some(name))
     }
 
     fn count(&mut self, moment: &Moment) {

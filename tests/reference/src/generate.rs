@@ -6,7 +6,7 @@ use crate::layout::*;
 use crate::map::map_bytes;
 use crate::random::Random;
 use crate::record::*;
-use crate::steps::{step, usable_granules};
+use crate::steps::{step, step_by, usable_granules, Placing};
 use crate::tracing::{can_clean, can_trace};
 
 /// Lists differ in how often they do what.
@@ -60,12 +60,29 @@ pub fn list_with_dues(random: &mut Random, image: &mut [u16], count: usize, pace
 
 /// A list in which players fill the store in a cycle, and undirty steps run after them; one record in ten is drawn as in `list`.
 pub fn list_with_wiping(random: &mut Random, image: &mut [u16], count: usize, pace: Pace) -> Vec<u8> {
+    list_mostly(filling, Placing::Tightest, random, image, count, pace)
+}
+
+/// A list in which players fill gaps of many lengths, and short cycles make others; one record in ten is drawn as in `list`. Each is drawn with
+/// the image in sight that it gets under that rule.
+pub fn list_with_gaps(placing: Placing, random: &mut Random, image: &mut [u16], count: usize, pace: Pace) -> Vec<u8> {
+    list_mostly(filling_gaps, placing, random, image, count, pace)
+}
+
+fn list_mostly(
+    mostly: fn(&mut Random, Image) -> Record,
+    placing: Placing,
+    random: &mut Random,
+    image: &mut [u16],
+    count: usize,
+    pace: Pace,
+) -> Vec<u8> {
     let mut store = Store::of(image).expect("a fitting length");
     let mut steps = Vec::with_capacity(RECORD_BYTES * count);
     for _ in 0..count {
         let any = random.chance(10);
-        let record = if any { record(random, store.image(), pace) } else { filling(random, store.image()) };
-        step(&mut store, record);
+        let record = if any { record(random, store.image(), pace) } else { mostly(random, store.image()) };
+        step_by(placing, &mut store, record);
         steps.extend(record.to_bytes());
     }
     steps
@@ -88,6 +105,60 @@ fn filling(random: &mut Random, image: Image) -> Record {
         UNDIRTY => undirty(random, image),
         _ => of_a_player(random, image, kind),
     }
+}
+
+/// A new that fills a gap or part of it, or what a player does between news, or a step of a short cycle.
+fn filling_gaps(random: &mut Random, image: Image) -> Record {
+    let owing = player(random, image, true);
+    let paying = if owing.is_some() { 15 } else { 0 };
+    let (idle, running) = if image.is_running() { (0, 1) } else { (1, 0) };
+    let kind = random.weighted(&[
+        (50, NEW),
+        (20, DROP),
+        (10, LOAD),
+        (12, STORE),
+        (paying, BARRIER),
+        (3, READ),
+        (3, WRITE),
+        (4, DUE),
+        (idle * 15, BEGIN),
+        (running * 5, SCAN),
+        (running * 10, TRACE),
+        (running * 12, FINISH),
+    ]);
+    match kind {
+        NEW => new_for_a_gap(random, image),
+        BARRIER => Record::new(BARRIER, owing.unwrap_or(0), 0, 0, 0),
+        BEGIN | FINISH => Record::new(kind, 0, 0, 0, 0),
+        SCAN => scan(random, image),
+        TRACE => tracer_step(random, image, TRACE),
+        DUE => due(random, image),
+        _ => of_a_player(random, image, kind),
+    }
+}
+
+/// A new that is as long as a gap, a little shorter or a little longer, or longer than all of them.
+fn new_for_a_gap(random: &mut Random, image: Image) -> Record {
+    let lengths: Vec<usize> = image.runs().map(|(_, length)| length).collect();
+    let longest = lengths.iter().copied().max().unwrap_or(0);
+    let exact = random.pick(&lengths).unwrap_or(1);
+    let few = random.from_to(1, 9);
+    let size =
+        random.weighted(&[(6, exact), (3, exact.max(2) - 1), (2, exact + 1), (4, few.min(exact)), (1, longest + 1)]);
+    new_of_size(random, image, size.min(LARGEST_OBJECT))
+}
+
+/// A new by a player who owes nothing, if there is one.
+pub(crate) fn new_of_size(random: &mut Random, image: Image, size: usize) -> Record {
+    let player = player(random, image, false).unwrap_or(0);
+    let links = random.from_to(0, (GRANULE_WORDS * size - 2).min(6));
+    Record::new(NEW, player, random.below(REGISTERS) as u16, size as u16, links as u16)
+}
+
+/// A player who owes a barrier, or one who owes none.
+pub(crate) fn player(random: &mut Random, image: Image, owes: bool) -> Option<u8> {
+    let players: Vec<usize> = (0..PLAYERS).filter(|&p| image.owed_card(p).is_some() == owes).collect();
+    random.pick(&players).map(|p| p as u8)
 }
 
 /// Cuts a list into batches, as step bytes and number of answer words, with misfits between.

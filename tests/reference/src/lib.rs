@@ -1,6 +1,7 @@
 //! A second implementation of the show store and its collector, written from documents 01 and 02
 //! alone, and the checks of whole lists of steps that any implementation of `batch` can be put to.
 
+pub mod both_rules;
 pub mod cases;
 pub mod demand;
 pub mod finish;
@@ -11,6 +12,7 @@ pub mod layout;
 pub mod made;
 pub mod map;
 pub mod pinned;
+pub mod placed;
 pub mod plain;
 pub mod program;
 pub mod random;
@@ -26,4 +28,4 @@ pub use layout::{cards_of_length, length};
 pub use map::{map_bytes, service_map};
 pub use plain::{Plain, Value};
 pub use record::Record;
-pub use steps::{batch, fresh};
+pub use steps::{batch, batch_by, fresh, Placing};

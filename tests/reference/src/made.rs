@@ -31,6 +31,14 @@ pub fn holes(random: &mut Random, k: usize) -> Vec<u16> {
     words
 }
 
+/// An undamaged image with no cycle, whose runs have many lengths, some of them equal.
+pub fn gaps(random: &mut Random, k: usize) -> Vec<u16> {
+    let mut words = vec![0; length(k)];
+    let mut store = Store::of(&mut words).expect("a fitting length");
+    fill_with(random, &mut store, Sizes::Gaps);
+    words
+}
+
 /// An undamaged image in a cycle.
 pub fn running(random: &mut Random, k: usize) -> Vec<u16> {
     let mut words = loose(random, k);
@@ -108,6 +116,7 @@ enum Sizes {
     Varied,
     Large,
     AboutEight,
+    Gaps,
 }
 
 fn size(random: &mut Random, sizes: Sizes) -> usize {
@@ -117,6 +126,7 @@ fn size(random: &mut Random, sizes: Sizes) -> usize {
         Sizes::Varied => random.from_to(1, 8),
         Sizes::Large => random.from_to(1, LARGEST_OBJECT),
         Sizes::AboutEight => random.from_to(6, 9),
+        Sizes::Gaps => random.from_to(1, 7),
     }
 }
 
@@ -125,7 +135,7 @@ fn lay_heap(random: &mut Random, store: &mut Store, sizes: Sizes) {
     let granules = store.layout.granules();
     let run_percent = match sizes {
         Sizes::Single => 4,
-        Sizes::AboutEight => 60,
+        Sizes::AboutEight | Sizes::Gaps => 60,
         _ => random.from_to(0, 40),
     };
     let mut runs = Vec::new();

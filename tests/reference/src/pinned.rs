@@ -1,14 +1,14 @@
 //! Lists for one long batch in which two dues behind every step pin the count that a due answers from, and what such lists show.
 
-use std::collections::BTreeMap;
+use std::collections::{BTreeMap, BTreeSet};
 
-use crate::generate::{of_a_player, record, Pace};
+use crate::generate::{new_of_size, of_a_player, player, record, Pace};
 use crate::image::{Image, Store};
-use crate::layout::{GRANULE_WORDS, LARGEST_OBJECT, PLAYERS, REGISTERS};
+use crate::layout::LARGEST_OBJECT;
 use crate::made::{bare, fresh_image, holes, idle, running};
 use crate::random::Random;
 use crate::record::*;
-use crate::steps::{step, usable_granules};
+use crate::steps::{step, usable_granules, Placing};
 
 /// A list and the image that it is drawn for.
 pub struct List {
@@ -67,7 +67,7 @@ fn pins(image: Image) -> [[u8; RECORD_BYTES]; 2] {
 fn of_the_count(random: &mut Random, image: Image, pace: Pace) -> Record {
     match random.below(20) {
         0 | 1 => new_leaving(random, image),
-        2 => new_of_a_size(random, image),
+        2 => new_of_any_size(random, image),
         3 => refused_new(random, image),
         4 => refused(random, image),
         5..=11 if 4 * usable_granules(image) < image.granules() => making_room(random, image),
@@ -75,43 +75,32 @@ fn of_the_count(random: &mut Random, image: Image, pace: Pace) -> Record {
     }
 }
 
-/// A new by a player who owes nothing, if there is one.
-fn new(random: &mut Random, image: Image, size: usize) -> Record {
-    let player = player(random, image, false).unwrap_or(0);
-    let links = random.from_to(0, (GRANULE_WORDS * size - 2).min(6));
-    Record::new(NEW, player, random.below(REGISTERS) as u16, size as u16, links as u16)
-}
-
-fn player(random: &mut Random, image: Image, owes: bool) -> Option<u8> {
-    let players: Vec<usize> = (0..PLAYERS).filter(|&p| image.owed_card(p).is_some() == owes).collect();
-    random.pick(&players).map(|p| p as u8)
-}
-
 /// A new that leaves a rest about as long as a run must be to count, or none.
 fn new_leaving(random: &mut Random, image: Image) -> Record {
     let short = random.from_to(1, 6);
     let rest = random.weighted(&[(3, 0), (2, short), (2, 7), (2, 8), (1, 9)]);
     let size = random.pick(&sizes_leaving(image, rest)).unwrap_or(1);
-    new(random, image, size)
+    new_of_size(random, image, size)
 }
 
-/// Sizes of a new that leave so many granules of the run that it takes from, which is the lowest that suffices.
+/// Sizes of a new that leave so many granules of the run that it takes from, which is the shortest that suffices.
 fn sizes_leaving(image: Image, rest: usize) -> Vec<usize> {
-    let mut longest_below = 0;
-    let size_of = |(_, length): (usize, usize)| {
+    let lengths: BTreeSet<usize> = image.runs().map(|(_, length)| length).collect();
+    let mut shorter = 0;
+    let size_of = |length: usize| {
         let size = length.saturating_sub(rest);
-        let is_taken = size > longest_below && size <= LARGEST_OBJECT;
-        longest_below = longest_below.max(length);
+        let is_taken = size > shorter && size <= LARGEST_OBJECT;
+        shorter = length;
         is_taken.then_some(size)
     };
-    image.runs().filter_map(size_of).collect()
+    lengths.into_iter().filter_map(size_of).collect()
 }
 
-fn new_of_a_size(random: &mut Random, image: Image) -> Record {
+fn new_of_any_size(random: &mut Random, image: Image) -> Record {
     let any = random.from_to(1, LARGEST_OBJECT);
     let few = random.from_to(1, 64);
     let size = random.weighted(&[(1, 1), (1, 7), (2, 8), (1, 9), (2, few), (1, any), (4, LARGEST_OBJECT)]);
-    new(random, image, size)
+    new_of_size(random, image, size)
 }
 
 /// A new for which there is room but for one field that is wrong, or one longer than the longest run.
@@ -151,8 +140,8 @@ fn making_room(random: &mut Random, image: Image) -> Record {
 }
 
 /// The length of the run that a new of that size takes from.
-pub fn run_taken(image: Image, size: usize) -> Option<usize> {
-    image.runs().map(|(_, length)| length).find(|&length| length >= size)
+pub fn run_taken(placing: Placing, image: Image, size: usize) -> Option<usize> {
+    placing.run(image.runs(), size).map(|(_, length)| length)
 }
 
 /// How often lists have shown what the count may turn on.
@@ -192,7 +181,7 @@ impl Shown {
 
     fn count_step(&mut self, store: &mut Store, record: Record) {
         let count = usable_granules(store.image());
-        let taken = run_taken(store.image(), record.b());
+        let taken = run_taken(Placing::Tightest, store.image(), record.b());
         let (number, value) = step(store, record);
         let mut ways = match (record.kind, number, taken) {
             (NEW, 0, Some(length)) => vec![way_of_a_run(length, record.b()), way_of_a_size(record.b())],

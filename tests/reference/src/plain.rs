@@ -4,6 +4,7 @@
 use std::collections::BTreeMap;
 
 pub mod first;
+pub mod reading;
 pub mod record;
 
 use first::{First, FirstObject};
@@ -56,10 +57,6 @@ impl Plain {
             registers: std::array::from_fn(|p| std::array::from_fn(|r| named(first.register(p, r)))),
             owing: std::array::from_fn(|p| first.owes(p)),
         }
-    }
-
-    pub fn has(&self, name: Name) -> bool {
-        self.objects.contains_key(&name)
     }
 
     /// A player's step at its place in the list: number and value.

@@ -16,8 +16,33 @@ pub fn fresh(image: &mut [u16]) -> u16 {
     0
 }
 
+/// Where a new lays its object.
+#[derive(Clone, Copy, Debug, PartialEq, Eq)]
+pub enum Placing {
+    /// Document 01: "at the start of the lowest run that suffices".
+    Lowest,
+    /// Document 02, (v): "the start of the shortest run that suffices, the lowest of equals".
+    Tightest,
+}
+
+impl Placing {
+    /// The run that a new of that size takes from, of runs given as first granule and length, in rising order.
+    pub fn run(self, runs: impl Iterator<Item = (usize, usize)>, size: usize) -> Option<(usize, usize)> {
+        let mut sufficing = runs.filter(|&(_, length)| length >= size);
+        match self {
+            Placing::Lowest => sufficing.next(),
+            Placing::Tightest => sufficing.min_by_key(|&(granule, length)| (length, granule)),
+        }
+    }
+}
+
 /// Runs a batch. 1 and 2 refuse it whole and leave image and answers alone.
 pub fn batch(image: &mut [u16], steps: &[u8], answers: &mut [u16]) -> u16 {
+    batch_by(Placing::Tightest, image, steps, answers)
+}
+
+/// The same under either rule of placing.
+pub fn batch_by(placing: Placing, image: &mut [u16], steps: &[u8], answers: &mut [u16]) -> u16 {
     let fits = steps.len().is_multiple_of(RECORD_BYTES) && answers.len() == steps.len() / RECORD_BYTES * 2;
     let judgement = judge(image);
     if judgement == 1 || !fits {
@@ -28,7 +53,7 @@ pub fn batch(image: &mut [u16], steps: &[u8], answers: &mut [u16]) -> u16 {
     }
     let mut store = Store::of(image).expect("an undamaged image fits");
     for (record, answer) in records(steps).zip(answers.chunks_exact_mut(2)) {
-        let (number, value) = step(&mut store, record);
+        let (number, value) = step_by(placing, &mut store, record);
         answer.copy_from_slice(&[number, value]);
     }
     0
@@ -36,8 +61,12 @@ pub fn batch(image: &mut [u16], steps: &[u8], answers: &mut [u16]) -> u16 {
 
 /// One step on an undamaged image: its number and value.
 pub fn step(store: &mut Store, record: Record) -> (u16, u16) {
+    step_by(Placing::Tightest, store, record)
+}
+
+pub fn step_by(placing: Placing, store: &mut Store, record: Record) -> (u16, u16) {
     match refusal(store.image(), record) {
-        0 => (0, act(store, record)),
+        0 => (0, act(placing, store, record)),
         number => (number, 0),
     }
 }
@@ -101,9 +130,9 @@ fn has_nothing_to_do(image: Image, record: Record) -> bool {
 }
 
 /// What an accepted step does, and its value.
-fn act(store: &mut Store, record: Record) -> u16 {
+fn act(placing: Placing, store: &mut Store, record: Record) -> u16 {
     match record.kind {
-        NEW => return new(store, record),
+        NEW => return new(placing, store, record),
         LOAD => return load(store, record),
         STORE => store_link(store, record),
         BARRIER => barrier(store, record.who()),
@@ -129,13 +158,13 @@ fn act(store: &mut Store, record: Record) -> u16 {
     0
 }
 
-/// "register a gets an object of b granules and c links, all else zero, at the start of the lowest
-/// run that suffices; value its granule". A rest of the run stays in its place of the chain.
-fn new(store: &mut Store, record: Record) -> u16 {
+/// "register a gets an object of b granules and c links, all else zero, at the start of" a run; "value its granule". A rest of the
+/// run stays in its place of the chain.
+fn new(placing: Placing, store: &mut Store, record: Record) -> u16 {
     let size = record.b();
     let runs: Vec<(usize, usize)> = store.image().runs().collect();
-    let place = runs.iter().position(|&(_, length)| length >= size).expect("there is room");
-    let (g, length) = runs[place];
+    let (g, length) = placing.run(runs.iter().copied(), size).expect("there is room");
+    let place = runs.iter().position(|&(run, _)| run == g).expect("a run of the chain");
     let next = runs.get(place + 1).map_or(0, |&(next, _)| next);
     store.set_run(g, 0, 0);
     let rest = if length > size {

@@ -2,25 +2,28 @@
 
 use std::collections::BTreeMap;
 
-use reference::record::{records, DUE, RECORD_BYTES};
+use reference::both_rules::{both_rules, events};
+use reference::cases::otherwise_by_lowest;
+use reference::record::{records, DUE, NEW, RECORD_BYTES};
 use reference::vectors::{
     parse, parse_batches, parse_maps, parse_older, parse_older_batches, print, BatchCase, Case, UNTOUCHED,
     UNTOUCHED_BYTE,
 };
-use reference::{batch, cover, finish, service_map, undamaged_but_cover};
+use reference::{batch_by, cover, finish, service_map, undamaged_but_cover, Placing};
 
 const BATCHES: &str = include_str!("../../vectors/batches.txt");
 const DUES: &str = include_str!("../../vectors/document_02/01-i.txt");
 const WIPING: &str = include_str!("../../vectors/document_02/02-ii.txt");
 const MAPS: &str = include_str!("../../vectors/document_02/03-iii.txt");
 const DUES_IN_BATCHES: &str = include_str!("../../vectors/document_02/04-iv.txt");
+const TIGHT: &str = include_str!("../../vectors/document_02/05-v.txt");
 const FINISHES: &str = include_str!("../../vectors/finishes.txt");
 
 /// The reference's answers and image for a case, whose result must be right.
-fn run(case: &BatchCase) -> (Vec<u16>, Vec<u16>) {
+fn run(placing: Placing, case: &BatchCase) -> (Vec<u16>, Vec<u16>) {
     let mut image = case.image.clone();
     let mut answers = vec![UNTOUCHED; case.answers];
-    assert_eq!(batch(&mut image, &case.steps, &mut answers), case.result, "result of {}", case.name);
+    assert_eq!(batch_by(placing, &mut image, &case.steps, &mut answers), case.result, "result of {}", case.name);
     if case.name.ends_with("loose") {
         assert!(undamaged_but_cover(&case.image), "{}", case.name);
         assert_eq!(cover(&case.image), case.result == 0, "cover of {}", case.name);
@@ -28,14 +31,14 @@ fn run(case: &BatchCase) -> (Vec<u16>, Vec<u16>) {
     (answers, image)
 }
 
-/// The vectors of document 01: of all that they give, only dues have moved since.
+/// The vectors of document 01: of all that they give, only dues have moved since, but for where a new goes.
 #[test]
 fn batches() {
     let (cases, left_out) = parse_older_batches(BATCHES).unwrap();
     assert_eq!((cases.len(), left_out), (115, 5));
     let mut moved = 0;
     for case in cases {
-        let (answers, image) = run(&case);
+        let (answers, image) = run(Placing::Lowest, &case);
         assert!(case.gives_but_for_due(&answers), "answers of {}: {answers:x?}, not {:x?}", case.name, case.given);
         assert!(image == case.left, "image of {}", case.name);
         moved += usize::from(answers != case.given);
@@ -44,8 +47,8 @@ fn batches() {
 }
 
 /// Image and answers are those of the case, to the last word.
-fn assert_as_given(case: &BatchCase) {
-    let (answers, image) = run(case);
+fn assert_as_given(placing: Placing, case: &BatchCase) {
+    let (answers, image) = run(placing, case);
     assert!(answers == case.given, "answers of {}: {answers:x?}, not {:x?}", case.name, case.given);
     assert!(image == case.left, "image of {}", case.name);
 }
@@ -54,28 +57,68 @@ fn assert_as_given(case: &BatchCase) {
 fn dues() {
     let (cases, left_out) = parse_older_batches(DUES).unwrap();
     assert_eq!((cases.len(), left_out), (66, 4));
-    cases.iter().for_each(assert_as_given);
+    cases.iter().for_each(|case| assert_as_given(Placing::Lowest, case));
 }
 
 #[test]
 fn wiping() {
     let cases = parse_batches(WIPING).unwrap();
     assert_eq!(cases.len(), 70);
-    cases.iter().for_each(assert_as_given);
+    cases.iter().for_each(|case| assert_as_given(Placing::Lowest, case));
 }
 
 /// Cases by their result, the longest batch, and the dues that say 0 and 1.
 #[test]
 fn dues_in_batches() {
     let cases = parse_batches(DUES_IN_BATCHES).unwrap();
-    cases.iter().for_each(assert_as_given);
-    let results = [0, 1, 2].map(|result| cases.iter().filter(|case| case.result == result).count());
+    cases.iter().for_each(|case| assert_as_given(Placing::Lowest, case));
+    let results = results(&cases);
     let longest = cases.iter().map(|case| case.steps.len() / RECORD_BYTES).max();
-    let answered = cases.iter().filter(|case| case.result == 0);
-    let answers = answered.flat_map(|case| records(&case.steps).zip(case.given.chunks(2)));
-    let dues: Vec<&[u16]> = answers.filter(|(record, _)| record.kind == DUE).map(|(_, answer)| answer).collect();
+    let dues = answers_of(DUE, &cases);
     let said = [0, 1].map(|value| dues.iter().filter(|&&answer| answer == [0, value]).count());
     assert_eq!((results, longest, said), ([69, 0, 1], Some(40), [408, 810]));
+}
+
+/// Cases by their result.
+fn results(cases: &[BatchCase]) -> [usize; 3] {
+    [0, 1, 2].map(|result| cases.iter().filter(|case| case.result == result).count())
+}
+
+/// What is given for the records of that kind.
+fn answers_of(kind: u8, cases: &[BatchCase]) -> Vec<&[u16]> {
+    let answered = cases.iter().filter(|case| case.result == 0);
+    let answers = answered.flat_map(|case| records(&case.steps).zip(case.given.chunks(2)));
+    answers.filter(|(record, _)| record.kind == kind).map(|(_, answer)| answer).collect()
+}
+
+/// Cases by their result, the news that are accepted and those refused for room, and the cases in which the lowest run would do otherwise.
+#[test]
+fn tight() {
+    let cases = parse_batches(TIGHT).unwrap();
+    cases.iter().for_each(|case| assert_as_given(Placing::Tightest, case));
+    let news = answers_of(NEW, &cases);
+    let numbers = [0, 9].map(|number| news.iter().filter(|answer| answer[0] == number).count());
+    let otherwise = cases.iter().filter_map(otherwise_by_lowest).count();
+    assert_eq!((cases.len(), results(&cases), numbers, otherwise), (70, [67, 3, 0], [628, 25], 32));
+}
+
+/// The files that were made before request (v), and the cases of each that have moved with it. For all of them both rules give the
+/// players the same answers.
+#[test]
+fn older_vectors_by_the_tightest_run() {
+    let older = [BATCHES, DUES].map(|text| parse_older_batches(text).unwrap().0);
+    let later = [WIPING, DUES_IN_BATCHES].map(|text| parse_batches(text).unwrap());
+    let moved = [&older[0], &older[1], &later[0], &later[1]].map(|cases| {
+        for case in cases.iter().filter(|case| case.result == 0) {
+            let batches = [(case.steps.clone(), case.answers)];
+            let by = |placing| {
+                events(&case.image, &batches, |image, steps, answers| batch_by(placing, image, steps, answers))
+            };
+            both_rules(&case.image, &by(Placing::Lowest), &by(Placing::Tightest)).unwrap();
+        }
+        cases.iter().filter_map(otherwise_by_lowest).count()
+    });
+    assert_eq!(moved, [11, 30, 19, 31]);
 }
 
 /// Results, cards by their state and granules by their sign.
@@ -126,7 +169,7 @@ fn a_finish_that_follows_all_is_caught() {
 
 #[test]
 fn printing_and_parsing_agree() {
-    for text in [BATCHES, DUES, WIPING, MAPS, DUES_IN_BATCHES, FINISHES] {
+    for text in [BATCHES, DUES, WIPING, MAPS, DUES_IN_BATCHES, TIGHT, FINISHES] {
         let cases = parse(text).unwrap();
         let printed: String = cases.iter().map(print).collect();
         assert_eq!(parse(&printed).unwrap(), cases);

@@ -8,8 +8,8 @@ use reference::generate::{batches, list, Pace};
 use reference::image::{Image, Store};
 use reference::made::{bare, fresh_image, idle, running};
 use reference::random::Random;
-use reference::steps::step as run_step;
-use reference::{batch, players_and_sweeps, whole_list};
+use reference::steps::{step as run_step, step_by};
+use reference::{batch, players_and_sweeps, whole_list, Placing};
 
 /// Some of the random lists must be found wrong, all for one of the reasons.
 fn assert_caught(reasons: &[&str], alter: impl Fn(&mut Done)) {
@@ -286,6 +286,18 @@ fn no_room_said_too_soon() {
     assert_caught(&["no room before an earlier refusal"], |done| {
         if done.record.kind == NEW && done.answer[0] == 8 {
             done.answer[0] = 9;
+        }
+    });
+}
+
+/// The rule of before document 02, (v).
+#[test]
+fn a_new_in_the_lowest_run() {
+    assert_caught(&["with the stretch"], |done| {
+        if done.is_accepted(NEW) {
+            let record = done.record;
+            done.image.copy_from_slice(done.got);
+            done.answer[1] = step_by(Placing::Lowest, &mut done.store(), record).1;
         }
     });
 }

@@ -57,6 +57,7 @@ use denote.Exit.{yes}
 use Rattle.model.specs.Image.{imageOf}
 use Rattle.model.proofs.Laws.{bool-cases}
 use Rattle.model.specs.Records.{recordBytes, records, stepOf}
+use Rattle.model.specs.Mutate.{tightest}
 use Rattle.model.specs.Steps.{step, run as ranOf, after, answersOf}
 use Rattle.theory.specs.Lines.{Undamaged}
 use Rattle.image_laws.specs.Sized.{Sized}
@@ -276,10 +277,10 @@ module _ {M : Type 1} (𝓤 : URA M) (H : Heap 𝓤) (A : Atoms 𝓤) (W : Given
 
   -- what `one` says
   abbrev Moved : ℕ → List ℕ → Request → List ℕ → Type 0
-  Moved i xs′ r zs = imageOf width k zs ≡ (step (imageOf width k xs′) (requested r)) .image
+  Moved i xs′ r zs = imageOf width k zs ≡ (step tightest (imageOf width k xs′) (requested r)) .image
 
   abbrev Answered : ℕ → List ℕ → List ℕ → Request → List ℕ → Type 0
-  Answered i xs′ ys′ r zs = zs ≡ writtenAt ys′ i (step (imageOf width k xs′) (requested r))
+  Answered i xs′ ys′ r zs = zs ≡ writtenAt ys′ i (step tightest (imageOf width k xs′) (requested r))
 
   abbrev Counted : List ℕ → Free → Type 0
   Counted zs c = c ≡ freeOf (imageOf width k zs)
@@ -308,8 +309,8 @@ module _ {M : Type 1} (𝓤 : URA M) (H : Heap 𝓤) (A : Atoms 𝓤) (W : Given
       nothing ! $ owned ! Fr (Is Fr) (LL.makes F.the-type F′.the-plain 𝓤 H A) free _ is-free $ fjoin ! $ move ! (3 ∷ 0 ∷ []) $ fjoin ! $ move ! (4 ∷ 0 ∷ []) $ fjoin ! $ owned ! usize (Is usize) (uint-makes 𝓤 H A W w64) k _ (refl, k-fits) $ fjoin ! $ move ! (1 ∷ 0 ∷ []) $ fjoin ! $
       feqI ! (List Val) (vunit ∷ []) (vunit ∷ []) refl $ move ! (1 ∷ 0 ∷ []) $ join ! $
       nothing ! $ move ! (3 ∷ 0 ∷ []) $ join ! $ move ! (3 ∷ 0 ∷ []) $ join ! $ move ! (2 ∷ 0 ∷ []) $ join ! $ join ! $
-      use0 W (raw (fact 𝓤 (ys′ ≡ answersOf (ranOf (imageOf width k xs) (records width (now s)))))) (factI 𝓤 _ (emp 𝓤) (e .1)) $
-      use0 W (raw (fact 𝓤 (imageOf width k xs′ ≡ after (imageOf width k xs) (ranOf (imageOf width k xs) (records width (now s)))))) (factI 𝓤 _ (emp 𝓤) (e .0)) $ move ! (2 ∷ []) $ done !
+      use0 W (raw (fact 𝓤 (ys′ ≡ answersOf (ranOf tightest (imageOf width k xs) (records width (now s)))))) (factI 𝓤 _ (emp 𝓤) (e .1)) $
+      use0 W (raw (fact 𝓤 (imageOf width k xs′ ≡ after (imageOf width k xs) (ranOf tightest (imageOf width k xs) (records width (now s)))))) (factI 𝓤 _ (emp 𝓤) (e .0)) $ move ! (2 ∷ []) $ done !
 
   module _ (𝓣 : Tables 𝓤 H) (fm : FmC 𝓤 H (W .laws) (𝓣 .C)) (known-next : Triple 𝓤 (𝓣 .C next.Symbol.name) (Next 𝓤 H A at-mem run)) (known-one : Triple 𝓤 (𝓣 .C one.Symbol.name) (One 𝓤 H A at-mem run)) (n-fits : n < 2 ^ 64) (l₀ l₁ l₂ l₃ l₄ l₅ l₆ l₇ l₈ l₉ l₁₀ l₁₁ l₁₂ l₁₃ l₁₄ l₁₅ l₁₆ : ℕ) where
     abbrev C : Calls 𝓤 H
@@ -400,7 +401,7 @@ module _ {M : Type 1} (𝓤 : URA M) (H : Heap 𝓤) (A : Atoms 𝓤) (W : Given
         move ! (2 ∷ 3 ∷ 0 ∷ 1 ∷ 6 ∷ 7 ∷ 8 ∷ []) $ move ! (7 ∷ []) $ drop ! $ move ! (7 ∷ []) $ drop ! $
         assigns-last ! (bin ! (load ! (from ! (stop !)) (look ! 15 refl)) (lit ! tt) (record { fits = omega arith })) (from ! (stop !)) (store ! 15 refl (tt, record { fits = omega arith })) $
         forget ! 16 refl $ forget ! 18 refl $ forget ! 19 refl $ forget ! 20 refl $ forget ! 21 refl $ forget ! 22 refl $ forget ! 23 refl $
-        by ! (go (ws .0) (ws .1 .1 .1 .0) t (subst (Is Fr t) (LL.tells F.the-type F′.the-laws t (u₁ ∷ []) is′) is′) (ran-more width k xs (now s) ys n xs′ ys′ c i (ws .0) (ws .1 .1 .1 .0) t ran small all-long (subst (λ p. imageOf width k (ws .0) ≡ (step (imageOf width k xs′) p) .image) (record-is i r (e .0 .0)) e₁) (subst (λ p. ws .1 .1 .1 .0 ≡ writtenAt ys′ i (step (imageOf width k xs′) p)) (record-is i r (e .0 .0)) e₃) e₅ len₁ len₃))))))))))))))))))))))
+        by ! (go (ws .0) (ws .1 .1 .1 .0) t (subst (Is Fr t) (LL.tells F.the-type F′.the-laws t (u₁ ∷ []) is′) is′) (ran-more width k xs (now s) ys n xs′ ys′ c i (ws .0) (ws .1 .1 .1 .0) t ran small all-long (subst (λ p. imageOf width k (ws .0) ≡ (step tightest (imageOf width k xs′) p) .image) (record-is i r (e .0 .0)) e₁) (subst (λ p. ws .1 .1 .1 .0 ≡ writtenAt ys′ i (step tightest (imageOf width k xs′) p)) (record-is i r (e .0 .0)) e₃) e₅ len₁ len₃))))))))))))))))))))))
 
     -- ---- the loop
     abbrev Inv : State k xs (now s) ys n → SProp 𝓤

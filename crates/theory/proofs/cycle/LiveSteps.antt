@@ -9,6 +9,7 @@ use lib.ListN.{take, drop, length-take}
 use borrow.Author.Tests.{eqb-false, leb-false}
 use Rattle.model.specs.Image.{Image, isStart, size, links, levels, reg, hand, nextLink, setWord, setOwed, withPlayers, dirtyCard, setState, withCards}
 use Rattle.model.specs.Records.{Step, Kind, new, load, store, barrier, handOver, dropReg, read, write, begin, scan, trace, clean, finish, isDue, undirty, unknown}
+use Rattle.model.specs.Mutate.{Placing}
 use Rattle.model.specs.Steps.{offDesk, object, noObject, pastEnd, refusal, accept, act, step}
 use Rattle.model.proofs.Laws.{some-false}
 use Rattle.model.proofs.Entries.{nth-take, nth-drop}
@@ -37,7 +38,7 @@ scan-source m p hp g k nz =
 
 -- ---- the kinds
 
-module _ (m : Image) (s : Step) (f : Facts m) where
+module _ (rule : Placing) (m : Image) (s : Step) (f : Facts m) where
   -- what a register on the desk holds
   held : (r : ℕ) → ltb 15 (s .who) ≡ false → ltb 15 r ≡ false → (object m s r ≡ 0 → ⊥) → Source m (object m s r)
   unfolding object
@@ -48,7 +49,7 @@ module _ (m : Image) (s : Step) (f : Facts m) where
   unfolding object
   held-start r hp hr nz = f .proper .reg-start (s .who) r (not-above 15 (s .who) hp) (not-above 15 r hr) nz
 
-  act-carries : NewLeaves m s → (n : Kind) → refusal m s n ≡ 0 → (n ≡ finish → ⊥) → Carries m ((act m s n) .image)
+  act-carries : NewLeaves rule m s → (n : Kind) → refusal m s n ≡ 0 → (n ≡ finish → ⊥) → Carries m ((act rule m s n) .image)
   unfolding act accept offDesk noObject pastEnd levels setOwed withPlayers dirtyCard setState withCards
   act-carries np new e nf = new-carries m _ (f .laid) (np e) (good-size s (line m s new e 5) .2)
   act-carries np load e nf =
@@ -87,5 +88,5 @@ module _ (m : Image) (s : Step) (f : Facts m) where
   -- ---- every step but an accepted finish
 
   -- what is live stays so
-  pub step-live : NewLeaves m s → NoFinish m s → (S : ℕ → Type 0) → Live S m → Live S ((step m s) .image)
-  step-live np nf S = live-carried S m _ (step-cases m s (Carries m) (carries-refl m) (λ n k e. act-carries np n e (λ q. nf (k ∙ q) (step-number m s k ∙ e))))
+  pub step-live : NewLeaves rule m s → NoFinish rule m s → (S : ℕ → Type 0) → Live S m → Live S ((step rule m s) .image)
+  step-live np nf S = live-carried S m _ (step-cases rule m s (Carries m) (carries-refl m) (λ n k e. act-carries np n e (λ q. nf (k ∙ q) (step-number rule m s k ∙ e))))

@@ -11,6 +11,7 @@ use Rattle.model.specs.Image.{Image, granules, word, isStart, size, sections, f
 use Rattle.model.specs.Undamaged.{sound}
 use Rattle.model.specs.Records.{Step, finish, kindOf}
 use Rattle.model.specs.Finish.{Finish, keptSet, Kept, finishWith, finishStep}
+use Rattle.model.specs.Mutate.{Placing}
 use Rattle.model.specs.Steps.{accept, finishDone, act, step}
 use Rattle.model.specs.Batch.{finishAt}
 use Rattle.model.proofs.Found.{kept-is}
@@ -27,9 +28,9 @@ use Rattle.theory.proofs.lines.Passing.{parts-sizes}
 use Rattle.theory.proofs.steps.Steps.{step-number, accepted}
 
 -- an accepted finish is the finish of the model
-pub finish-step : (m : Image) (s : Step) → kindOf (s .kind) ≡ finish → (step m s) .number ≡ 0 → ((step m s) .image ≡ (finishStep m) .image) × ((step m s) .value ≡ (finishStep m) .value)
+pub finish-step : (rule : Placing) (m : Image) (s : Step) → kindOf (s .kind) ≡ finish → (step rule m s) .number ≡ 0 → ((step rule m s) .image ≡ (finishStep m) .image) × ((step rule m s) .value ≡ (finishStep m) .value)
 unfolding act finishDone accept
-finish-step m s k e = let a = accepted m s k (sym (step-number m s k) ∙ e) in (ap (λ d. d .image) a, ap (λ d. d .value) a)
+finish-step rule m s k e = let a = accepted rule m s k (sym (step-number rule m s k) ∙ e) in (ap (λ d. d .image) a, ap (λ d. d .value) a)
 
 -- ---- the rule, on images that are undamaged but for Cover
 

@@ -11,6 +11,7 @@ use Rattle.model.specs.Image.{Image, isStart, reg, running}
 use Rattle.model.specs.Undamaged.{nilOrStart}
 use Rattle.model.specs.Records.{Step, begin, finish, kindOf}
 use Rattle.model.specs.Finish.{keptSet, Kept, finishStep}
+use Rattle.model.specs.Mutate.{Placing}
 use Rattle.model.specs.Steps.{wrongPhase, refusal, numbers-open, accept, act, step}
 use Rattle.model.specs.Claim.{anyField, Same, Finishes}
 use Rattle.model.proofs.Laws.{every-cons, every-nil, either-make}
@@ -34,21 +35,21 @@ two-lines true b = refl
 two-lines false true = refl
 two-lines false false = refl
 
-pub begin-number : (m : Image) (s : Step) → kindOf (s .kind) ≡ begin → (step m s) .number ≡ cond (anyField s) 3 (cond (eqb (running m) 1) 10 0)
+pub begin-number : (rule : Placing) (m : Image) (s : Step) → kindOf (s .kind) ≡ begin → (step rule m s) .number ≡ cond (anyField s) 3 (cond (eqb (running m) 1) 10 0)
 unfolding numbers-open anyField
-begin-number m s k = step-number m s k ∙ two-lines (anyField s) (eqb (running m) 1)
+begin-number rule m s k = step-number rule m s k ∙ two-lines (anyField s) (eqb (running m) 1)
 
-pub finish-number : (m : Image) (s : Step) → kindOf (s .kind) ≡ finish → (step m s) .number ≡ cond (anyField s) 3 (cond (eqb (running m) 0) 10 0)
+pub finish-number : (rule : Placing) (m : Image) (s : Step) → kindOf (s .kind) ≡ finish → (step rule m s) .number ≡ cond (anyField s) 3 (cond (eqb (running m) 0) 10 0)
 unfolding numbers-open anyField
-finish-number m s k = step-number m s k ∙ two-lines (anyField s) (eqb (running m) 0)
+finish-number rule m s k = step-number rule m s k ∙ two-lines (anyField s) (eqb (running m) 0)
 
 -- ---- begin
 
-pub begin-live : (m : Image) (s : Step) → Facts m → kindOf (s .kind) ≡ begin → (step m s) .number ≡ 0 → Live (Since m) ((step m s) .image)
+pub begin-live : (rule : Placing) (m : Image) (s : Step) → Facts m → kindOf (s .kind) ≡ begin → (step rule m s) .number ≡ 0 → Live (Since m) ((step rule m s) .image)
 unfolding act accept wrongPhase
-begin-live m s f k e =
-    let r : refusal m s begin ≡ 0 = sym (step-number m s k) ∙ e in
-    subst (Live (Since m)) (sym (accepted-image m s k e))
+begin-live rule m s f k e =
+    let r : refusal m s begin ≡ 0 = sym (step-number rule m s k) ∙ e in
+    subst (Live (Since m)) (sym (accepted-image rule m s k e))
     (live-carried (Since m) m _ (quiet-carries m _ (quiet-begin m)) (live-begin m (f .idle (eqb-false (running m) 1 (line m s begin r 7)))))
 
 -- ---- finish

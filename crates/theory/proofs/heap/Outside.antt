@@ -148,21 +148,34 @@ module _ (m : Image) where
         elim (r .joined) [ inl w ↦ omega (arith, w, u .in-range) | inr w ↦ u .in-no-object e w (omega arith) (omega (arith, object-at m o e w .sized)) ]))
 
     -- so a maximal stretch with a granule of the run is the run
-    stretch-is : (y x n : ℕ) (r : InRun m y) → x ≤ y → y < x + n → isStretch m x n ≡ true → n ≡ word m (r .run) 0
+    stretch-is : (y x n : ℕ) (r : InRun m y) → x ≤ y → y < x + n → isStretch m x n ≡ true → (r .run ≡ x) × (word m (r .run) 0 ≡ n)
     unfolding isStretch
     stretch-is y x n r l q s =
         let inner = within x n (r .run) (word m (r .run) 0) y (λ g. stretch-all x n g s) (below-run y r) (behind-it y r) l q (r .inside .0) (r .inside .1) in
         let outer = within (r .run) (word m (r .run) 0) x n y (λ g. in-run-unused y g r) (not-true _ (every-use _ s 1)) (not-true _ (every-use _ s 2)) (r .inside .0) (r .inside .1) l q in
-        omega (arith, inner, outer)
+        (omega (arith, inner, outer), omega (arith, inner, outer))
 
     run-stretch : (y : ℕ) (r : InRun m y) → isStretch m (r .run) (word m (r .run) 0) ≡ true
     unfolding isStretch every
     run-stretch y r = rw (all-make (word m (r .run) 0) (λ i. unused m (r .run + i)) (λ i h. in-run-unused y (r .run + i) r (omega arith) (omega arith)), below-run y r, behind-it y r)
 
+    -- runs are the maximal stretches of unused granules
+    pub apart-stretch : (r : ℕ) → RunApart m r → isStretch m r (word m r 0) ≡ true
+    apart-stretch r a =
+        let k = unused-in-run m o z r (run-unused m r r a (omega arith) (omega (arith, a .is-run .long))) in
+        let e : r ≡ k .run = elim (in-run-zero m r 0 k (omega arith)) [ inl w ↦ w .0 | inr w ↦ absurd (omega (arith, w, a .is-run .long)) ] in
+        rw (← e) at (run-stretch r k)
+
+    pub stretch-apart : (x n : ℕ) → 1 ≤ n → isStretch m x n ≡ true → RunApart m x × (word m x 0 ≡ n)
+    stretch-apart x n h s =
+        let k = unused-in-run m o z x (is-unused x (stretch-all x n x s (omega arith) (omega arith))) in
+        let e = stretch-is x x n k (omega arith) (omega arith) s in
+        (rw (e .0) at (k .run-apart), rw (e .0) at (e .1))
+
     stretch-in-run : (least y : ℕ) (r : InRun m y) → inStretch least m y ≡ leb least (word m (r .run) 0)
     unfolding inStretch every
     stretch-in-run least y r = same-test _ _
-        (λ e. let (x, n, long, l, q, s) = stretch-of least y e in rw (stretch-is y x n r l q s) at long)
+        (λ e. let (x, n, long, l, q, s) = stretch-of least y e in rw (← stretch-is y x n r l q s .1) at long)
         (λ e. any-make (suc y) _ (r .run) (omega (arith, r .inside))
         (any-make (granules m) _ (word m (r .run) 0) (omega (arith, r .run-apart .not-nil, r .run-apart .is-run .ends))
         (rw (e, lt-ltb y _ (r .inside .1), run-stretch y r))))

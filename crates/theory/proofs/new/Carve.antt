@@ -17,7 +17,7 @@ use Rattle.theory.proofs.heap.Pieces.{loosen}
 
 pub place-order : (m : Image) {b x next last r before : ℕ} {f : Bool} → PlaceIn m b x next f last r before → (x ≤ r) × ((before ≡ last) ⊎ ((x ≤ before) × (before < r)))
 place-order m (past-object o p) = let k = place-order m p in (omega (arith, k .0), elim (k .1) [ inl e ↦ inl e | inr l ↦ inr (omega arith) ])
-place-order m (past-run o s p) = let k = place-order m p in (omega (arith, k .0), inr (elim (k .1) [ inl e ↦ omega (arith, k .0) | inr l ↦ omega arith ]))
+place-order m (past-run o p) = let k = place-order m p in (omega (arith, k .0), inr (elim (k .1) [ inl e ↦ omega (arith, k .0) | inr l ↦ omega arith ]))
 place-order m (place-here o l p) = (omega arith, inl refl)
 
 pub place-below : (m : Image) {b x next last r before : ℕ} {f : Bool} → PlaceIn m b x next f last r before → last < x → before < r
@@ -139,7 +139,7 @@ module _ (m n : Image) (b c r before next : ℕ) (w : Carved m n b c r before ne
       at-object {next = following before next last nx}
       (object-same x (omega arith) e (word-before x 1 (omega arith) (λ q. off (omega arith))) (λ i u v. omega arith) o)
       (rw e (carve few fits p (omega arith)))
-  carve {x} {last = last} few fits (past-run o l p) h =
+  carve {x} {last = last} few fits (past-run o p) h =
       let past : x + word m x 0 ≤ r = place-order m p .0 in
       let d = place-order m p .1 in
       let up : x ≤ before = elim d [ inl y ↦ omega arith | inr y ↦ omega arith ] in

@@ -10,7 +10,7 @@ use Rattle.model.specs.Base.{nth, bit}
 use Rattle.model.specs.Image.{Image, granules, word, isStart, links, link, owed, firstRun, withRegs, setReg}
 use Rattle.model.specs.Undamaged.{filled}
 use Rattle.model.specs.Records.{Step, new}
-use Rattle.model.specs.Mutate.{roomFor, newObject}
+use Rattle.model.specs.Mutate.{Placing, roomFor, newObject}
 use Rattle.model.specs.Steps.{noRoom, refusal, offDesk, owes, owing, accept, act}
 use Rattle.model.proofs.Laws.{some-false}
 use Rattle.theory.specs.Heap.{HeapFilled}
@@ -19,6 +19,7 @@ use Rattle.theory.specs.New.{reheaped, NewMade}
 use Rattle.theory.proofs.heap.Facts.{some-card, laid-of, link-value, start-at, heap-filled-of, heap-sized-of}
 use Rattle.theory.proofs.steps.Steps.{line, not-above, good-size}
 use Rattle.theory.proofs.steps.Mutating.{reg-keeps, is-start}
+use Rattle.theory.proofs.new.Room.{room-test}
 use Rattle.theory.proofs.new.NewMade.{new-made}
 use Rattle.theory.proofs.finish.Replaced.{reheaped-keeps}
 use Rattle.theory.proofs.heap.Walk.{filled-make, no-start-zero}
@@ -85,17 +86,17 @@ module _ {m n : Image} {p r b c g : ℕ} (u : Undamaged m) (k : NewMade m n p r 
 -- ---- the step
 
 -- what an accepted new leaves
-pub new-does : (m : Image) (s : Step) → Lines m → refusal m s new ≡ 0
-    → NewMade m (newObject m (s .who) (s .a) (s .b) (s .c)) (s .who) (s .a) (s .b) (s .c) ((roomFor m (s .b)) .run)
+pub new-does : (rule : Placing) (m : Image) (s : Step) → Lines m → refusal m s new ≡ 0
+    → NewMade m (newObject rule m (s .who) (s .a) (s .b) (s .c)) (s .who) (s .a) (s .b) (s .c) ((roomFor rule m (s .b)) .run)
 unfolding noRoom
-new-does m s o e =
-    let nz : (roomFor m (s .b)) .run ≡ 0 → ⊥ = eqb-false _ _ (line m s new e 6) in
-    let q : (roomFor m (s .b)) .run ≡ suc ((roomFor m (s .b)) .run - 1) = omega arith in
+new-does rule m s o e =
+    let nz : (roomFor rule m (s .b)) .run ≡ 0 → ⊥ = eqb-false _ _ (sym (room-test rule m (s .b)) ∙ line m s new e 6) in
+    let q : (roomFor rule m (s .b)) .run ≡ suc ((roomFor rule m (s .b)) .run - 1) = omega arith in
     let k = good-size s (line m s new e 5) in
-    rw q (new-made m (s .b) (s .c) _ (heap-filled-of o) (heap-sized-of o) (k .0) (k .1) (omega (arith, k .2)) q (s .who) (s .a))
+    rw q (new-made rule m (s .b) (s .c) _ (heap-filled-of o) (heap-sized-of o) (k .0) (k .1) (omega (arith, k .2)) q (s .who) (s .a))
 
-pub new-step : (m : Image) (s : Step) → Undamaged m → refusal m s new ≡ 0 → Undamaged ((act m s new) .image)
+pub new-step : (rule : Placing) (m : Image) (s : Step) → Undamaged m → refusal m s new ≡ 0 → Undamaged ((act rule m s new) .image)
 unfolding act accept offDesk owing owes
-new-step m s u e =
+new-step rule m s u e =
     let d = some-false _ (line m s new e 1) in
-    new-keeps u (new-does m s (u .sound .lines) e) (omega (arith, good-size s (line m s new e 5) .2)) (not-above 15 (s .who) (d 0)) (not-above 15 (s .a) (d 1)) (eqb-true _ _ (not-false _ (some-false _ (line m s new e 2) 0)))
+    new-keeps u (new-does rule m s (u .sound .lines) e) (omega (arith, good-size s (line m s new e 5) .2)) (not-above 15 (s .who) (d 0)) (not-above 15 (s .a) (d 1)) (eqb-true _ _ (not-false _ (some-false _ (line m s new e 2) 0)))

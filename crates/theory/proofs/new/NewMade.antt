@@ -1,4 +1,4 @@
--- What a new leaves: its object in the lowest stretch that is long enough, and every other object as it was.
+-- What a new leaves: its object in a stretch that is long enough, and every other object as it was.
 use mathlib.Core.Path.{_≡_, refl, sym, ap, subst, _∙_}
 use mathlib.Core.Logic.{inl, inr}
 use mathlib.Core.Bool.{true, false}
@@ -7,7 +7,7 @@ use native.Mathlib.Decide.{ℕ-discrete}
 use native.Mathlib.Omega.{arith}
 use Rattle.model.specs.Base.{nth, put}
 use Rattle.model.specs.Image.{Image, granules, word, isStart, size, links, reg, firstRun, withRegs, setReg, owed}
-use Rattle.model.specs.Mutate.{roomFor, newObject, ifLong, granulesInRuns}
+use Rattle.model.specs.Mutate.{Placing, roomFor, newObject, ifLong, granulesInRuns}
 use Rattle.model.proofs.Laws.{not-make}
 use Rattle.theory.specs.Heap.{HeapFilled, HeapSized, Laid}
 use Rattle.theory.specs.Pieces.{Pieces, PiecesIn, PlaceIn, RunApart}
@@ -21,16 +21,16 @@ use Rattle.theory.proofs.new.Shrink.{shrink}
 use Rattle.theory.proofs.new.NewHeap.{placed-sections, placed-granules, placed-length, placed-first, placed-general, placed-starts-length, placed-sized, placed-carved}
 use borrow.Author.Tests.{not-true}
 
-module _ (m : Image) (b c g : ℕ) (o : HeapFilled m) (z : HeapSized m) (hb : 1 ≤ b) (few : b ≤ 1024) (fits : c ≤ 4 * b - 2) (e : (roomFor m b) .run ≡ suc g) where
+module _ (rule : Placing) (m : Image) (b c g : ℕ) (o : HeapFilled m) (z : HeapSized m) (hb : 1 ≤ b) (few : b ≤ 1024) (fits : c ≤ 4 * b - 2) (e : (roomFor rule m b) .run ≡ suc g) where
   abbrev before : ℕ
-  before = (roomFor m b) .before
+  before = (roomFor rule m b) .before
 
   -- before the register is written
   abbrev made : Image
   made = placed m (suc g) before b c
 
   place : PlaceIn m b 1 (firstRun m) false 0 (suc g) before
-  place = room-place m b o z g e
+  place = room-place m b o z rule g e
 
   apart-here : RunApart m (suc g) × (b ≤ word m (suc g) 0)
   apart-here = place-apart m b (omega arith) place (clear-one m o)
@@ -79,7 +79,7 @@ module _ (m : Image) (b c g : ℕ) (o : HeapFilled m) (z : HeapSized m) (hb : 1 
   with-reg p r = record {
     filled = record { heap-words = made-filled .heap-words; heap-filled = made-filled .heap-filled; start-range = made-filled .start-range };
     sized = let s = placed-sized m (suc g) before b c z in record { some-granules = s .some-granules; start-words = s .start-words; general-words = s .general-words };
-    was-unused = room-stretch m b o z g e;
+    was-unused = room-stretch m b o z rule g e;
     start-new = is-carved .start-new;
     start-old = is-carved .start-old;
     size-new = is-carved .size-new;
@@ -95,16 +95,16 @@ module _ (m : Image) (b c g : ℕ) (o : HeapFilled m) (z : HeapSized m) (hb : 1 
     sections = ap (λ x. setReg x p r (suc g)) made-sections;
   }
 
-  pub new-made : (p r : ℕ) → NewMade m (newObject m p r b c) p r b c (suc g)
+  pub new-made : (p r : ℕ) → NewMade m (newObject rule m p r b c) p r b c (suc g)
   new-made p r =
-      let is : newObject m p r b c ≡ setReg made p r (suc g) = unfold newObject placed in rw e in
+      let is : newObject rule m p r b c ≡ setReg made p r (suc g) = unfold newObject placed in rw e in
       subst (λ n. NewMade m n p r b c (suc g)) (sym is) (with-reg p r)
 
   -- what the other runs of so many granules have, and what this one counts before and after
-  pub new-runs : (p r least : ℕ) → (rest : ℕ) × (granulesInRuns least m ≡ rest + ifLong least (word m (suc g) 0)) × (granulesInRuns least (newObject m p r b c) ≡ rest + ifLong least (word m (suc g) 0 - b))
+  pub new-runs : (p r least : ℕ) → (rest : ℕ) × (granulesInRuns least m ≡ rest + ifLong least (word m (suc g) 0)) × (granulesInRuns least (newObject rule m p r b c) ≡ rest + ifLong least (word m (suc g) 0 - b))
   unfolding granulesInRuns
   new-runs p r least =
-      let is : newObject m p r b c ≡ setReg made p r (suc g) = unfold newObject placed in rw e in
+      let is : newObject rule m p r b c ≡ setReg made p r (suc g) = unfold newObject placed in rw e in
       let d = shrink m made b c (suc g) before next is-carved hb below (ifLong least) (granules m) (long-zero least) place (omega arith) (omega arith) in
       let same : granulesInRuns least (setReg made p r (suc g)) ≡ granulesInRuns least made = unfold setReg withRegs firstRun granules in sum-alike (ifLong least) made (setReg made p r (suc g)) (λ h i. unfold word in refl) (granules made) (firstRun made) in
       (d .0, d .1, ap (granulesInRuns least) is ∙ same ∙ (rw (placed-granules m (suc g) before b c, placed-first m (suc g) before b c (z .general-words)) (d .2)))

@@ -40,8 +40,8 @@ module _ (m n : Image) (b c r before next : ℕ) (w : Carved m n b c r before ne
   pub shrink : {x nx last : ℕ} {f : Bool} (i : ℕ) → v 0 ≡ 0 → PlaceIn m b x nx f last r before → last < x → granules m ≤ x + i
       → (rest : ℕ) × (sumRuns v m i nx ≡ rest + v (word m r 0)) × (sumRuns v n i (following before next last nx) ≡ rest + v (word m r 0 - b))
   shrink i z (past-object o p) h l = shrink i z p (omega arith) (omega (arith, o .long))
-  shrink zero z (past-run o s p) h l = absurd (omega (arith, o .long, o .ends))
-  shrink {x} {last = last} (suc i) z (past-run o s p) h l =
+  shrink zero z (past-run o p) h l = absurd (omega (arith, o .long, o .ends))
+  shrink {x} {last = last} (suc i) z (past-run o p) h l =
       let d = shrink i z p (omega (arith, o .long)) (omega (arith, o .long)) in
       let e : word n x 0 ≡ word m x 0 = word-before m n b c r before next w hb below x 0 (omega (arith, o .long, place-order m p .0)) (omega arith) in
       let not-last : last ≡ before → ⊥ = λ q. elim (place-order m p .1) [ inl y ↦ omega arith | inr y ↦ omega (arith, o .long) ] in (

@@ -9,6 +9,7 @@ use borrow.Author.Tests.{eqb-false, ne-eqb, leb-false}
 use Rattle.model.specs.Image.{Image, word, links, link, reg, owed, withHeap, withCards, setWord, setState, dirtyCard}
 use Rattle.model.specs.Records.{Step, Kind, new, load, store, barrier, handOver, dropReg, read, write, begin, scan, trace, clean, finish, isDue, undirty, unknown, kindOf}
 use Rattle.model.specs.Rows.{is}
+use Rattle.model.specs.Mutate.{Placing}
 use Rattle.model.specs.Steps.{offDesk, object, noObject, pastEnd, refusal, accept, act, outcome}
 use Rattle.model.specs.Plain.{Object, made, PlainStore, Value, as-is, PlainDone, holding, plainRefusal, plainAccept, plainAct, plainOutcome, feeds, objectAt, upd, named, reading}
 use Rattle.model.specs.Claim.{Chain, chain-link}
@@ -40,7 +41,7 @@ unfolding objectAt
 object-at name i zero ns = sym (ns .name-nil)
 object-at name i (suc g) ns = refl
 
-module _ (m : Image) (f : Facts m) (s : Step) (q : PlainStore) (name : ℕ → Object) (i : ℕ) (ns : Names name i) (S : SameStore name m q) where
+module _ (rule : Placing) (m : Image) (f : Facts m) (s : Step) (q : PlainStore) (name : ℕ → Object) (i : ℕ) (ns : Names name i) (S : SameStore name m q) where
   reach-of : (r : ℕ) → s .who < 16 → r < 16 → (object m s r ≡ 0 → ⊥) → Chain m (object m s r)
   reach-of = held-chain m s q name i ns S
 
@@ -57,12 +58,12 @@ module _ (m : Image) (f : Facts m) (s : Step) (q : PlainStore) (name : ℕ → O
       let no = ne-eqb (suc r) 0 (λ e. omega arith) in
       as-number name i ns m m s (suc r) 0 q 0 refl (rw (no, and-false)) (rw (no, and-false)) S
 
-  accepted-alike : NewLeaves m s → (n : Kind) → feeds n 0 ≡ true → refusal m s n ≡ 0 → kindOf (s .kind) ≡ n → Related name i (event m s (act m s n)) (plainAct q s i n)
+  accepted-alike : NewLeaves rule m s → (n : Kind) → feeds n 0 ≡ true → refusal m s n ≡ 0 → kindOf (s .kind) ≡ n → Related name i (event m s (act rule m s n)) (plainAct q s i n)
   unfolding feeds act accept plainAct plainAccept named reading offDesk noObject pastEnd setWord withHeap dirtyCard setState withCards reg owed word
   accepted-alike o new e z k =
       let a = admitted m s new z in
       let d = some-false _ (a .on-desk) in
-      let g : ℕ = (act m s new) .value in
+      let g : ℕ = (act rule m s new) .value in
       let ns′ = names-new ns g (new-not-nil (o z)) in
       record {
         names-after = rw k ns′;
@@ -139,7 +140,7 @@ module _ (m : Image) (f : Facts m) (s : Step) (q : PlainStore) (name : ℕ → O
   accepted-alike o unknown e z k = false≢ e
 
   -- a player's step, but for a new answered 9
-  pub fed-alike : NewLeaves m s → (n : Kind) → feeds n 0 ≡ true → (refusal m s n ≡ 9 → ⊥) → kindOf (s .kind) ≡ n → Related name i (event m s (outcome m s n (refusal m s n))) (plainOutcome q s i n (plainRefusal q s n))
+  pub fed-alike : NewLeaves rule m s → (n : Kind) → feeds n 0 ≡ true → (refusal m s n ≡ 9 → ⊥) → kindOf (s .kind) ≡ n → Related name i (event m s (outcome rule m s n (refusal m s n))) (plainOutcome q s i n (plainRefusal q s n))
   unfolding outcome plainOutcome
   fed-alike o n e ne k =
       rw (← same-number m s q name i ns S n e ne)

@@ -9,7 +9,7 @@ use borrow.Author.Tests.{eqb-false, leb-false}
 use Rattle.model.specs.Base.{some, first}
 use Rattle.model.specs.Image.{Image, links, levels}
 use Rattle.model.specs.Records.{Step, Kind, new, load, store, barrier, handOver, dropReg, read, write, begin, scan, trace, clean, finish, isDue, undirty, unknown}
-use Rattle.model.specs.Mutate.{roomFor}
+use Rattle.model.specs.Mutate.{hasRoom}
 use Rattle.model.specs.Rows.{Role, unused, player, tracer, register, card, number, rowOf, is, isPlayer, limit, reaches, fields}
 use Rattle.model.specs.Steps.{unnamed, offDesk, badSize, object, owes, owing, noObject, pastEnd, noRoom, wrongPhase, nothingToDo, refusal}
 use Rattle.model.specs.Plain.{Object, isNil, PlainStore, holding, plainOwing, plainNoObject, plainLevels, plainPastEnd, plainNothing, plainRefusal, feeds}
@@ -42,7 +42,7 @@ admitted m s n e = record { on-desk = line m s n e 1; has-object = line m s n e 
 -- only a new is answered 9
 pub not-nine : (m : Image) (s : Step) (n : Kind) → is n new ≡ false → refusal m s n ≡ 9 → ⊥
 unfolding refusal noRoom
-not-nine m s n e x = false≢ (sym (ap (λ z. z && eqb ((roomFor m (s .b)) .run) 0) e) ∙ first-passes 2 _ 6 x)
+not-nine m s n e x = false≢ (sym (ap (λ z. z && not (hasRoom m (s .b))) e) ∙ first-passes 2 _ 6 x)
 
 -- ---- the lines of an image and of a plain store
 

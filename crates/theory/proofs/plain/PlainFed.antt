@@ -10,6 +10,7 @@ use Rattle.model.specs.Image.{Image, reg, owed}
 use Rattle.model.specs.Records.{Step, Kind, new, load, store, barrier, handOver, dropReg, read, write, begin, scan, trace, clean, finish, isDue, undirty, unknown, kindOf}
 use Rattle.model.specs.Finish.{finishWith, finishStep}
 use Rattle.model.specs.Rows.{is}
+use Rattle.model.specs.Mutate.{Placing}
 use Rattle.model.specs.Steps.{Event, refusal, accept, finishDone, act, step}
 use Rattle.model.specs.Plain.{Object, feeds, feedsEvent, named}
 use Rattle.model.proofs.Laws.{false≢, bool-cases}
@@ -52,8 +53,8 @@ unfed-named name i e u =
 quiet-kept : (m n : Image) → Quiet (λ g. Unit {0}) m n → KeptWords m n
 quiet-kept m n q = record { kept-reg = q .same-reg; kept-owed = q .same-owed; kept-word = λ g i c l. q .same-word g i }
 
-module _ (m : Image) (s : Step) (stays : refusal m s finish ≡ 0 → WordsStay m ((act m s finish) .image)) where
-  unfed-act : (n : Kind) → feeds n 0 ≡ false → refusal m s n ≡ 0 → KeptWords m ((act m s n) .image)
+module _ (rule : Placing) (m : Image) (s : Step) (stays : refusal m s finish ≡ 0 → WordsStay m ((act rule m s finish) .image)) where
+  unfed-act : (n : Kind) → feeds n 0 ≡ false → refusal m s n ≡ 0 → KeptWords m ((act rule m s n) .image)
   unfolding feeds act accept finishDone finishStep finishWith reg owed
   unfed-act new e z = false≢ (sym e)
   unfed-act load e z = false≢ (sym e)
@@ -72,5 +73,5 @@ module _ (m : Image) (s : Step) (stays : refusal m s finish ≡ 0 → WordsStay 
   unfed-act undirty e z = quiet-kept m _ (quiet-undirty m (s .a))
   unfed-act unknown e z = quiet-kept m _ (quiet-refl m)
 
-  pub unfed-kept : feeds (kindOf (s .kind)) (refusal m s (kindOf (s .kind))) ≡ false → KeptWords m ((step m s) .image)
-  unfed-kept u = step-cases m s (KeptWords m) (quiet-kept m m (quiet-refl m)) (λ n k z. unfed-act n (ap (feeds n) (sym z) ∙ (ap (λ x. feeds x (refusal m s x)) (sym k) ∙ u)) z)
+  pub unfed-kept : feeds (kindOf (s .kind)) (refusal m s (kindOf (s .kind))) ≡ false → KeptWords m ((step rule m s) .image)
+  unfed-kept u = step-cases rule m s (KeptWords m) (quiet-kept m m (quiet-refl m)) (λ n k z. unfed-act n (ap (feeds n) (sym z) ∙ (ap (λ x. feeds x (refusal m s x)) (sym k) ∙ u)) z)

@@ -10,7 +10,7 @@ use native.Mathlib.Omega.{arith}
 use lib.Dec.{eqb}
 use lib.ListN.{getD}
 use borrow.Author.Tests.{eqb-true, eqb-false, not-true, not-false}
-use Rattle.model.specs.Base.{nth, put, lowest, first}
+use Rattle.model.specs.Base.{nth, put, lowestOf, first}
 use Rattle.model.specs.Image.{Image, marked, hand, handCard, nextGranule, withCards, withTracers, setState, setTracer}
 use Rattle.model.specs.Collect.{traceHand, putCard, nextMarked, cleanTo, cleanCard, lowestDirty, takeCard, cleanLine, cleanStep}
 use Rattle.model.proofs.Laws.{false≢, bool-cases, nth-put-same, nth-put-other, best-ok}
@@ -103,7 +103,7 @@ takeCard-does m o cov t c ht e hc =
     }
 
 pub clean-does : (m : Image) → Lines m → Cover m → (t : ℕ) → t < 8 → StepStays m (cleanStep m t)
-unfolding cleanStep cleanLine first lowestDirty lowest
+unfolding cleanStep cleanLine first lowestDirty lowestOf
 clean-does m o cov t ht = go (not (eqb (hand m t) 0)) refl (not (eqb (handCard m t) 0)) refl (not (eqb (lowestDirty m) 0)) refl
   where
     go : (a : Bool) → not (eqb (hand m t) 0) ≡ a → (b : Bool) → not (eqb (handCard m t) 0) ≡ b → (c : Bool) → not (eqb (lowestDirty m) 0) ≡ c

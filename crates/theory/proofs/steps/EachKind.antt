@@ -11,6 +11,7 @@ use Rattle.model.specs.Image.{Image, levels, owed, running, fields-open}
 use Rattle.model.specs.Records.{Step, Kind, new, load, store, barrier, handOver, dropReg, read, write, begin, scan, trace, clean, finish, isDue, undirty, unknown}
 use Rattle.model.specs.Collect.{beginCycle}
 use Rattle.model.specs.Finish.{finishWith, finishStep}
+use Rattle.model.specs.Mutate.{Placing}
 use Rattle.model.specs.Steps.{offDesk, object, owes, owing, noObject, pastEnd, wrongPhase, nothingToDo, refusal, accept, finishDone, act}
 use Rattle.model.proofs.Laws.{some-false}
 use Rattle.theory.specs.Lines.{Start, Undamaged}
@@ -48,18 +49,20 @@ module _ (m : Image) (s : Step) (u : Undamaged m) where
   unfolding object
   register-start r n = elim (reg-value (u .sound .lines) (s .who) r) [ inl z ↦ absurd (eqb-false _ _ n z) | inr h ↦ h ]
 
-  pub kind-keeps : (n : Kind) → refusal m s n ≡ 0 → Keeps m ((act m s n) .image)
+-- every kind
+module _ (rule : Placing) (m : Image) (s : Step) (u : Undamaged m) where
+  pub kind-keeps : (n : Kind) → refusal m s n ≡ 0 → Keeps m ((act rule m s n) .image)
   unfolding act accept object offDesk owing noObject pastEnd nothingToDo wrongPhase finishDone finishStep finishWith beginCycle fields-open
-  kind-keeps new r = let e = new-does m s (u .sound .lines) r .sections in (new-step m s u r, ap (λ x. x .width) e, ap (λ x. x .k) e)
+  kind-keeps new r = let e = new-does rule m s (u .sound .lines) r .sections in (new-step rule m s u r, ap (λ x. x .width) e, ap (λ x. x .k) e)
   kind-keeps load r =
       let d = some-false _ (line m s load r 1) in
-      let v = link-value (u .sound .lines) (object m s (s .b)) (s .c) (register-start (s .b) (line m s load r 3)) (leb-false _ _ (line m s load r 4)) in
+      let v = link-value (u .sound .lines) (object m s (s .b)) (s .c) (register-start m s u (s .b) (line m s load r 3)) (leb-false _ _ (line m s load r 4)) in
       let w = owes-none m s (s .who) (some-false _ (line m s load r 2) 0) in
       (reg-keeps m u (s .who) (s .a) _ (not-above 15 (s .who) (d 0)) (not-above 15 (s .a) (d 1)) w v, refl, refl)
   kind-keeps store r =
       let d = some-false _ (line m s store r 1) in
       let w = owes-none m s (s .who) (some-false _ (line m s store r 2) 0) in (
-        store-keeps m u (s .who) (object m s (s .a)) (s .b) (s .c) (not-above 15 (s .who) (d 0)) (not-above 15 (s .c) (d 3)) w (register-start (s .a) (line m s store r 3))
+        store-keeps m u (s .who) (object m s (s .a)) (s .b) (s .c) (not-above 15 (s .who) (d 0)) (not-above 15 (s .c) (d 3)) w (register-start m s u (s .a) (line m s store r 3))
             (leb-false _ _ (line m s store r 4)),
         refl,
         refl,
@@ -82,15 +85,15 @@ module _ (m : Image) (s : Step) (u : Undamaged m) where
   kind-keeps write r =
       let g : ℕ = object m s (s .a) in
       let l : s .b < levels m g = leb-false _ _ (line m s write r 4) in
-      (write-keeps m u g (s .b) (s .c) (register-start (s .a) (line m s write r 3)) (omega arith), refl, refl)
+      (write-keeps m u g (s .b) (s .c) (register-start m s u (s .a) (line m s write r 3)) (omega arith), refl, refl)
   kind-keeps begin r =
       let z : nth (m .general) 0 ≡ 0 = omega (arith, u .sound .lines .general-ok .runs, eqb-false (nth (m .general) 0) 1 (line m s begin r 7)) in
       (begin-does m (u .sound .lines) (u .sound .idle z), refl, refl)
   kind-keeps scan r =
       let d = some-false _ (line m s scan r 1) in
-      stays-keeps (line m s scan r 7) (scan-does m (u .sound .lines) (u .cover) (s .who) (s .a) (not-above 7 (s .who) (d 0)) (not-above 15 (s .a) (d 1)))
-  kind-keeps trace r = stays-keeps (line m s trace r 7) (trace-does m (u .sound .lines) (u .cover) (s .who) (not-above 7 (s .who) (some-false _ (line m s trace r 1) 0)))
-  kind-keeps clean r = stays-keeps (line m s clean r 7) (clean-does m (u .sound .lines) (u .cover) (s .who) (not-above 7 (s .who) (some-false _ (line m s clean r 1) 0)))
+      stays-keeps m s u (line m s scan r 7) (scan-does m (u .sound .lines) (u .cover) (s .who) (s .a) (not-above 7 (s .who) (d 0)) (not-above 15 (s .a) (d 1)))
+  kind-keeps trace r = stays-keeps m s u (line m s trace r 7) (trace-does m (u .sound .lines) (u .cover) (s .who) (not-above 7 (s .who) (some-false _ (line m s trace r 1) 0)))
+  kind-keeps clean r = stays-keeps m s u (line m s clean r 7) (clean-does m (u .sound .lines) (u .cover) (s .who) (not-above 7 (s .who) (some-false _ (line m s clean r 1) 0)))
   kind-keeps finish r = (finish-keeps m u, refl, refl)
   kind-keeps isDue r = (u, refl, refl)
   kind-keeps undirty r =

@@ -3,23 +3,25 @@ use mathlib.Core.Path.{_≡_, refl, sym, ap, _∙_}
 use mathlib.Core.Logic.{inl, inr}
 use mathlib.Core.Bool.{Bool, true, false, not, and-true, and-false}
 use mathlib.Core.List.{List, [], _∷_}
-use Prim.Native.Nat.{ℕ, suc, _+_, _*_, _-_, _/_, _≤_, _<_}
+use Prim.Native.Nat.{ℕ, suc, _+_, _*_, _-_, _/_, _<_}
 use native.Mathlib.Decide.{ℕ-discrete}
 use native.Mathlib.Omega.{arith}
 use lib.Dec.{eqb}
 use borrow.Author.Tests.{eqb-true, eqb-false, eq-eqb, ne-eqb, ltb-true, ltb-false, le-ltb, lt-leb, not-true, not-false}
-use Rattle.model.specs.Base.{every, first, lowest}
+use Rattle.model.specs.Base.{every, first, lowestOf}
 use Rattle.model.specs.Image.{Image, marked, dirty, cardCount, count, owed, scanned}
 use Rattle.model.specs.Records.{Step, new, barrier, scan, trace, clean, undirty, kindOf}
-use Rattle.model.specs.Mutate.{roomFor}
+use Rattle.model.specs.Mutate.{Placing, tightest, roomFor, hasRoom}
 use Rattle.model.specs.Collect.{held, fullest, hasEntries, traceLine, lowestDirty, cleanLine}
 use Rattle.model.specs.Steps.{noRoom, nothingToDo, refusal, accept, act, step, numbers-open}
 use Rattle.model.proofs.Laws.{false≢, some-use, some-nil, some-make, every-use, any-use, any-make, best-ok, best-none, first-none, not-make}
 use Rattle.theory.specs.Lines.{Undamaged}
 use Rattle.theory.specs.Pieces.{Stretch}
+use Rattle.theory.specs.Placing.{PlacedBy, TightestRun}
 use Rattle.theory.specs.Numbers.{RefusedWhere, GoodNew, GoodBarrier, GoodScan, GoodTracer, NoEntries, InPool, NoTraceLine, NoCleanLine, GoodUndirty, NothingToWipe}
 use Rattle.theory.proofs.heap.Facts.{heap-filled-of, heap-sized-of}
-use Rattle.theory.proofs.new.Room.{room-stretch, room-lowest, no-room}
+use Rattle.theory.proofs.new.Room.{room-test, no-room}
+use Rattle.theory.proofs.new.Placing.{room-placed, tightest-is}
 use Rattle.model.proofs.Counts.{some-howMany}
 use Rattle.theory.proofs.steps.Undirty.{none-marked}
 use Rattle.theory.proofs.steps.Steps.{zero-or-suc, step-number, line, accepted, good-size}
@@ -27,21 +29,21 @@ use Rattle.theory.proofs.steps.Steps.{zero-or-suc, step-number, line, a
 -- ---- from the test of one line to the number
 
 -- n is given where b passes, and else 0; b passes exactly where P holds
-refused-where : (m : Image) (s : Step) (n : ℕ) {P : Type 0} (b : Bool) → (step m s) .number ≡ elim b [ true ↦ suc n | false ↦ 0 ]
-    → (b ≡ true → P) → (P → b ≡ true) → RefusedWhere m s (suc n) P
-refused-where m s n true e f g = record { refused-if = λ p. e; only-if = λ q. f refl; else-accepted = λ np. absurd (np (f refl)) }
-refused-where m s n false e f g = record { refused-if = λ p. false≢ (g p); only-if = λ q. absurd (omega arith); else-accepted = λ np. e }
+refused-where : (rule : Placing) (m : Image) (s : Step) (n : ℕ) {P : Type 0} (b : Bool) → (step rule m s) .number ≡ elim b [ true ↦ suc n | false ↦ 0 ]
+    → (b ≡ true → P) → (P → b ≡ true) → RefusedWhere rule m s (suc n) P
+refused-where rule m s n true e f g = record { refused-if = λ p. e; only-if = λ q. f refl; else-accepted = λ np. absurd (np (f refl)) }
+refused-where rule m s n false e f g = record { refused-if = λ p. false≢ (g p); only-if = λ q. absurd (omega arith); else-accepted = λ np. e }
 
 -- ---- 9: "no b neighbouring granules free"
 
-module _ (m : Image) (s : Step) (u : Undamaged m) (k : kindOf (s .kind) ≡ new) where
+module _ (rule : Placing) (m : Image) (s : Step) (u : Undamaged m) (k : kindOf (s .kind) ≡ new) where
   -- number 9 exactly where no stretch of b unused granules starts anywhere
-  pub no-room-number : GoodNew m s → RefusedWhere m s 9 ((v : ℕ) → Stretch m (s .b) v → ⊥)
+  pub no-room-number : GoodNew m s → RefusedWhere rule m s 9 ((v : ℕ) → Stretch m (s .b) v → ⊥)
   unfolding numbers-open first
   no-room-number f =
       let r = no-room m (s .b) (heap-filled-of (u .sound .lines)) (heap-sized-of (u .sound .lines)) (f .some-granules) in
-      refused-where m s 8 (eqb ((roomFor m (s .b)) .run) 0)
-      (step-number m s k
+      refused-where rule m s 8 (not (hasRoom m (s .b)))
+      (step-number rule m s k
       ∙ (rw (
         le-ltb 15 (s .who) (omega arith),
         le-ltb 15 (s .a) (omega arith),
@@ -50,36 +52,40 @@ module _ (m : Image) (s : Step) (u : Undamaged m) (k : kindOf (s .kind) ≡ new)
         le-ltb 1024 (s .b) (omega arith),
         le-ltb (4 * s .b - 2) (s .c) (omega arith),
       )))
-      (λ e. r .0 (eqb-true _ _ e)) (λ p. eq-eqb _ _ (r .1 p))
+      (λ e. r .0 (not-true _ e)) (λ p. ap not (r .1 p))
 
-  -- the value of an accepted new is the lowest stretch
-  pub room-value : (step m s) .number ≡ 0 → Stretch m (s .b) ((step m s) .value) × ((v : ℕ) → Stretch m (s .b) v → (step m s) .value ≤ v)
+  -- the value of an accepted new is the start of the run that the rule takes
+  pub room-value : (step rule m s) .number ≡ 0 → PlacedBy rule m (s .b) ((step rule m s) .value)
   unfolding noRoom act accept
   room-value e =
-      let r : refusal m s new ≡ 0 = sym (step-number m s k) ∙ e in
+      let r : refusal m s new ≡ 0 = sym (step-number rule m s k) ∙ e in
       let o = heap-filled-of (u .sound .lines) in
       let z = heap-sized-of (u .sound .lines) in
-      let value-is : (step m s) .value ≡ (roomFor m (s .b)) .run = ap (λ d. d .value) (accepted m s k r) in
-      elim (zero-or-suc ((roomFor m (s .b)) .run)) [
-        | inl q ↦ absurd (eqb-false _ _ (line m s new r 6) q)
-        | inr (g, q) ↦ rw (value-is, q) (room-stretch m (s .b) o z g q, room-lowest m (s .b) o z (good-size s (line m s new r 5) .0) g q)
+      let value-is : (step rule m s) .value ≡ (roomFor rule m (s .b)) .run = ap (λ d. d .value) (accepted rule m s k r) in
+      elim (zero-or-suc ((roomFor rule m (s .b)) .run)) [
+        | inl q ↦ absurd (eqb-false _ _ (sym (room-test rule m (s .b)) ∙ line m s new r 6) q)
+        | inr (g, q) ↦ rw (value-is, q) (room-placed rule m (s .b) o z (good-size s (line m s new r 5) .0) g q)
       ]
+
+-- document 02, (v): "the start of the shortest run that suffices, the lowest of equals"
+pub tightest-value : (m : Image) (s : Step) → Undamaged m → kindOf (s .kind) ≡ new → (step tightest m s) .number ≡ 0 → TightestRun m (s .b) ((step tightest m s) .value)
+tightest-value m s u k e = tightest-is m (s .b) _ (room-value tightest m s u k e)
 
 -- ---- 11: "barrier with none owed; player scanned already"
 
-module _ (m : Image) (s : Step) where
-  pub barrier-nothing : kindOf (s .kind) ≡ barrier → GoodBarrier s → RefusedWhere m s 11 (owed m (s .who) ≡ 0)
+module _ (rule : Placing) (m : Image) (s : Step) where
+  pub barrier-nothing : kindOf (s .kind) ≡ barrier → GoodBarrier s → RefusedWhere rule m s 11 (owed m (s .who) ≡ 0)
   unfolding numbers-open first
   barrier-nothing k f =
-      refused-where m s 10 (eqb (owed m (s .who)) 0)
-      (step-number m s k ∙ (rw (f .no-fields .0, f .no-fields .1, f .no-fields .2, le-ltb 15 (s .who) (omega arith))))
+      refused-where rule m s 10 (eqb (owed m (s .who)) 0)
+      (step-number rule m s k ∙ (rw (f .no-fields .0, f .no-fields .1, f .no-fields .2, le-ltb 15 (s .who) (omega arith))))
       (λ e. eqb-true _ _ e) (λ p. eq-eqb _ _ p)
 
-  pub scan-nothing : kindOf (s .kind) ≡ scan → GoodScan m s → RefusedWhere m s 11 (scanned m (s .a) ≡ 1)
+  pub scan-nothing : kindOf (s .kind) ≡ scan → GoodScan m s → RefusedWhere rule m s 11 (scanned m (s .a) ≡ 1)
   unfolding numbers-open first
   scan-nothing k f =
-      refused-where m s 10 (eqb (scanned m (s .a)) 1)
-      (step-number m s k ∙ (rw (f .no-fields .0, f .no-fields .1, le-ltb 7 (s .who) (omega arith), le-ltb 15 (s .a) (omega arith), f .in-cycle)))
+      refused-where rule m s 10 (eqb (scanned m (s .a)) 1)
+      (step-number rule m s k ∙ (rw (f .no-fields .0, f .no-fields .1, le-ltb 7 (s .who) (omega arith), le-ltb 15 (s .a) (omega arith), f .in-cycle)))
       (λ e. eqb-true _ _ e) (λ p. eq-eqb _ _ p)
 
 -- ---- 11: "trace or clean where no line applies"
@@ -134,7 +140,7 @@ module _ (m : Image) where
   none-trace t n = rw (n .hand-empty, none-entries _ (n .no-input), none-pool (n .no-pool), none-entries _ (n .no-output)) refl
 
   clean-none : (t : ℕ) → cleanLine m t ≡ 0 → NoCleanLine m t
-  unfolding cleanLine lowestDirty lowest
+  unfolding cleanLine lowestDirty lowestOf
   clean-none t e = record {
     hand-empty = none-held-word _ (first-none 0 _ e 0);
     no-card = none-held-word _ (first-none 0 _ e 1);
@@ -142,31 +148,31 @@ module _ (m : Image) where
   }
 
   none-clean : (t : ℕ) → NoCleanLine m t → cleanLine m t ≡ 0
-  unfolding cleanLine first lowestDirty lowest
+  unfolding cleanLine first lowestDirty lowestOf
   none-clean t n =
       elim (zero-or-suc (lowestDirty m)) [
         | inl e ↦ rw (n .hand-empty, n .no-card, e)
         | inr (c, e) ↦ let r = best-ok _ _ (m .k) c e in absurd (n .none-dirty c (r .0) (eqb-true _ _ (r .1)))
       ]
 
-module _ (m : Image) (s : Step) (f : GoodTracer m s) where
-  pub trace-nothing : kindOf (s .kind) ≡ trace → RefusedWhere m s 11 (NoTraceLine m (s .who))
+module _ (rule : Placing) (m : Image) (s : Step) (f : GoodTracer m s) where
+  pub trace-nothing : kindOf (s .kind) ≡ trace → RefusedWhere rule m s 11 (NoTraceLine m (s .who))
   unfolding numbers-open first
   trace-nothing k =
-      refused-where m s 10 (eqb (traceLine m (s .who)) 0)
-      (step-number m s k ∙ (rw (f .no-fields .0, f .no-fields .1, f .no-fields .2, le-ltb 7 (s .who) (omega arith), f .in-cycle)))
+      refused-where rule m s 10 (eqb (traceLine m (s .who)) 0)
+      (step-number rule m s k ∙ (rw (f .no-fields .0, f .no-fields .1, f .no-fields .2, le-ltb 7 (s .who) (omega arith), f .in-cycle)))
       (λ e. trace-none m (s .who) (eqb-true _ _ e)) (λ p. eq-eqb _ _ (none-trace m (s .who) p))
 
-  pub clean-nothing : kindOf (s .kind) ≡ clean → RefusedWhere m s 11 (NoCleanLine m (s .who))
+  pub clean-nothing : kindOf (s .kind) ≡ clean → RefusedWhere rule m s 11 (NoCleanLine m (s .who))
   unfolding numbers-open first
   clean-nothing k =
-      refused-where m s 10 (eqb (cleanLine m (s .who)) 0)
-      (step-number m s k ∙ (rw (f .no-fields .0, f .no-fields .1, f .no-fields .2, le-ltb 7 (s .who) (omega arith), f .in-cycle)))
+      refused-where rule m s 10 (eqb (cleanLine m (s .who)) 0)
+      (step-number rule m s k ∙ (rw (f .no-fields .0, f .no-fields .1, f .no-fields .2, le-ltb 7 (s .who) (omega arith), f .in-cycle)))
       (λ e. clean-none m (s .who) (eqb-true _ _ e)) (λ p. eq-eqb _ _ (none-clean m (s .who) p))
 
 -- ---- 11: "if the card isn't dirty or its count isn't 0"
 
-module _ (m : Image) (s : Step) (u : Undamaged m) (f : GoodUndirty m s) where
+module _ (rule : Placing) (m : Image) (s : Step) (u : Undamaged m) (f : GoodUndirty m s) where
   -- a count that is not 0 has an object
   some-marked : (cardCount m (s .a) ≡ 0 → ⊥) → (g : ℕ) × (g / 64 ≡ s .a) × (marked m g ≡ true)
   unfolding cardCount marked
@@ -174,12 +180,12 @@ module _ (m : Image) (s : Step) (u : Undamaged m) (f : GoodUndirty m s) where
       let r = some-howMany (λ j. marked m (64 * s .a + j)) 64 (λ z. n (u .sound .lines .marks-ok .counted (s .a) (f .card) ∙ z)) in
       (64 * s .a + r .0, omega (arith, r .1), r .2)
 
-  pub undirty-nothing : kindOf (s .kind) ≡ undirty → RefusedWhere m s 11 (NothingToWipe m (s .a))
+  pub undirty-nothing : kindOf (s .kind) ≡ undirty → RefusedWhere rule m s 11 (NothingToWipe m (s .a))
   unfolding numbers-open first
   undirty-nothing k =
       let counted : List Bool = not (eqb (cardCount m (s .a)) 0) ∷ [] in
-      refused-where m s 10 (nothingToDo m s undirty)
-      (step-number m s k ∙ (rw (f .no-fields .0, f .no-fields .1, f .no-fields .2, lt-leb (m .k) (s .a) (f .card), f .in-cycle)))
+      refused-where rule m s 10 (nothingToDo m s undirty)
+      (step-number rule m s k ∙ (rw (f .no-fields .0, f .no-fields .1, f .no-fields .2, lt-leb (m .k) (s .a) (f .card), f .in-cycle)))
       (λ e. elim (some-use (not (dirty m (s .a))) counted e) [
         | inl q ↦ inl (not-true _ q)
         | inr q ↦ elim (some-use (not (eqb (cardCount m (s .a)) 0)) [] q) [ inl z ↦ inr (some-marked (eqb-false _ _ (not-true _ z))) | inr z ↦ some-nil z ]

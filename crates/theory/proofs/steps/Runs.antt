@@ -10,7 +10,7 @@ use Rattle.model.specs.Base.{all, any, every, howMany}
 use Rattle.model.specs.Image.{Image, granules, isStart, size, word, levels, links, withHeap, setWord, fields-open}
 use Rattle.model.specs.Map.{inObject}
 use Rattle.model.specs.Records.{Step, Kind, new, load, store, barrier, handOver, dropReg, read, write, begin, scan, trace, clean, finish, isDue, undirty, unknown, kindOf}
-use Rattle.model.specs.Mutate.{granulesInRuns}
+use Rattle.model.specs.Mutate.{Placing, granulesInRuns}
 use Rattle.model.specs.Steps.{object, noObject, pastEnd, refusal, accept, act, step}
 use Rattle.model.proofs.Laws.{same-test}
 use Rattle.theory.specs.Lines.{Undamaged, Start}
@@ -66,12 +66,12 @@ quiet-objects : {m n : Image} → Quiet Anything m n → SameObjects m n
 unfolding size
 quiet-objects q = record { same-start = q .same-start; same-size = λ g s. q .same-word g 0 }
 
-module _ (m : Image) (s : Step) (u : Undamaged m) where
+module _ (rule : Placing) (m : Image) (s : Step) (u : Undamaged m) where
   -- a word of an object past its first two
   word-objects : (g x v : ℕ) → Start m g → 2 + x < 4 * size m g → SameObjects m (setWord m g (2 + x) v)
   word-objects g x v st l = record { same-start = λ h. unfold setWord withHeap isStart in refl; same-size = size-written (u .sound .lines) g (2 + x) v (is-start m g st) (omega arith) l }
 
-  same-objects : (n : Kind) → (n ≡ new → ⊥) → (n ≡ finish → ⊥) → refusal m s n ≡ 0 → SameObjects m ((act m s n) .image)
+  same-objects : (n : Kind) → (n ≡ new → ⊥) → (n ≡ finish → ⊥) → refusal m s n ≡ 0 → SameObjects m ((act rule m s n) .image)
   unfolding act accept object noObject pastEnd fields-open
   same-objects new a b r = absurd (a refl)
   same-objects load a b r = heap-stays _ refl refl refl
@@ -100,8 +100,8 @@ module _ (m : Image) (s : Step) (u : Undamaged m) where
   same-objects unknown a b r = heap-stays _ refl refl refl
 
   -- all other steps leave the granules in runs as many as they were, whatever length counts
-  pub runs-stay : (kindOf (s .kind) ≡ new → ⊥) → (kindOf (s .kind) ≡ finish → ⊥) → (least : ℕ) → granulesInRuns least ((step m s) .image) ≡ granulesInRuns least m
+  pub runs-stay : (kindOf (s .kind) ≡ new → ⊥) → (kindOf (s .kind) ≡ finish → ⊥) → (least : ℕ) → granulesInRuns least ((step rule m s) .image) ≡ granulesInRuns least m
   unfolding granules
   runs-stay a b least =
-      step-cases m s (λ n. granulesInRuns least n ≡ granulesInRuns least m) refl
-      (λ n e r. let k = kind-keeps m s u n r in same-runs m ((act m s n) .image) (same-objects n (λ q. a (e ∙ q)) (λ q. b (e ∙ q)) r) (ap (λ x. 64 * x) (k .2)) u (k .0) least)
+      step-cases rule m s (λ n. granulesInRuns least n ≡ granulesInRuns least m) refl
+      (λ n e r. let k = kind-keeps rule m s u n r in same-runs m ((act rule m s n) .image) (same-objects n (λ q. a (e ∙ q)) (λ q. b (e ∙ q)) r) (ap (λ x. 64 * x) (k .2)) u (k .0) least)

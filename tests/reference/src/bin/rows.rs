@@ -1,9 +1,11 @@
 //! Reads cases in the vectors' format from standard input and prints each as theorems of antt: the model's definitions,
-//! computed by the checker, give what the case says.
+//! computed by the checker, give what the case says. A batch that the lowest run would answer or leave otherwise is printed under that
+//! rule too, with what the second implementation does.
 
 use std::fmt::Display;
 use std::io::Read;
 
+use reference::cases::otherwise_by_lowest;
 use reference::vectors::{parse, BatchCase, Case, FinishCase, MapCase, UNTOUCHED, UNTOUCHED_BYTE};
 
 const HEAD: &str = "\
@@ -11,7 +13,8 @@ use mathlib.Core.Path.{_≡_, refl}
 use mathlib.Core.List.{List, [], _∷_, _++_}
 use Prim.Native.Nat.{ℕ}
 use lib.ListN.{replicate}
-use Rattle.model.specs.Batch.{Batch, Finished, judgeOf, batchOf, finishOf}
+use Rattle.model.specs.Mutate.{lowest}
+use Rattle.model.specs.Batch.{Batch, Finished, judgeOf, batchAt, batchOf, finishOf}
 use Rattle.model.specs.Map.{Mapped, mapOf}
 use Rattle.model.specs.Open.{model-open}
 
@@ -36,11 +39,18 @@ fn main() {
 }
 
 fn print_batch(number: usize, case: &BatchCase) {
+    print_batch_by("batchOf", number, "batch", case);
+    if let Some(case) = otherwise_by_lowest(case) {
+        print_batch_by("batchAt lowest 16", number, "lowest", &case);
+    }
+}
+
+fn print_batch_by(definition: &str, number: usize, what: &str, case: &BatchCase) {
     let call =
-        format!("batchOf {} ({}) (replicate {} {UNTOUCHED})", runs(&case.image), list(&case.steps), case.answers);
+        format!("{definition} {} ({}) (replicate {} {UNTOUCHED})", runs(&case.image), list(&case.steps), case.answers);
     let gives =
         format!("record {{ result = {}; image = {}; answers = {} }}", case.result, runs(&case.left), list(&case.given));
-    print_theorem(number, "batch", &case.name, "Batch", &call, &gives);
+    print_theorem(number, what, &case.name, "Batch", &call, &gives);
 }
 
 fn print_finish(number: usize, case: &FinishCase) {

@@ -1,6 +1,12 @@
 //! A player's record as the plain store reads it. Read from the 8 bytes anew, and not by `crate::record`, which the real steps
 //! use: a mistake made there would else be made here too, and no list would show it.
 
+/// "records of 8 bytes with no header"
+pub const RECORD_BYTES: usize = 8;
+
+pub const NEW: u8 = 1;
+pub const LOAD: u8 = 2;
+
 /// What a record asks of its player, the fields under the names that document 01's list of steps gives them by their use.
 #[derive(Clone, Copy, Debug, PartialEq, Eq)]
 pub enum Act {
