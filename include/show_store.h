@@ -2,11 +2,11 @@
  *
  * A program lends a slice of words (the image), makes a fresh store in it once, and then hands over batches of steps. Players make
  * objects, link them and read and write their level words; tracers follow the links between the players' steps; a finish frees what
- * nothing holds any more. The service map shows where objects lie.
+ * nothing holds any more. The service map shows where objects lie. The report of a sweep, an older desk's or ours, can be judged.
  *
  * Every function takes every slice: any length, any content, also length 0. A pointer and the length behind it name one slice;
- * the length counts words (bytes for step bytes and the map). Slices of one call must not overlap. Nothing outside the lent memory is
- * touched, and every call ends. */
+ * the length counts words (bytes for step bytes, the map and a report). Slices of one call must not overlap, but for those that it only
+ * reads. Nothing outside the lent memory is touched, and every call ends. */
 #ifndef SHOW_STORE_H
 #define SHOW_STORE_H
 
@@ -31,16 +31,24 @@ extern "C" {
 #define SHOW_STORE_MAP_LINE_BYTES 73
 #define SHOW_STORE_MAP_BYTES(k) (SHOW_STORE_MAP_LINE_BYTES * (size_t)(k))
 
+/* A sweep report is a record of so many bytes for each stretch that was freed. So many words of scratch are lent to have one judged, for
+ * stores of k cards. */
+#define SHOW_STORE_STRETCH_BYTES 4
+#define SHOW_STORE_SCRATCH_WORDS(k) (64u * (size_t)(k))
+
 /* The desk: players and tracers are counted from 0, and so are a player's registers. */
 #define SHOW_STORE_PLAYERS 16
 #define SHOW_STORE_REGISTERS 16
 #define SHOW_STORE_TRACERS 8
 
-/* Results of a call. */
+/* Results of a call. The last three are judge_report's. */
 enum show_store_result {
-    SHOW_STORE_OK = 0,      /* the call did what it should */
-    SHOW_STORE_MISFIT = 1,  /* a length does not fit; nothing was written */
-    SHOW_STORE_DAMAGED = 2  /* the image is damaged; nothing was written */
+    SHOW_STORE_OK = 0,            /* the call did what it should */
+    SHOW_STORE_MISFIT = 1,        /* a length does not fit; nothing was written */
+    SHOW_STORE_DAMAGED = 2,       /* an image is damaged; nothing was written */
+    SHOW_STORE_BAD_STRETCH = 12,  /* a stretch is not made up of whole objects, or starts before the last one's end */
+    SHOW_STORE_HELD_FREED = 13,   /* an object that is still held lies in a stretch */
+    SHOW_STORE_LOST_MISSED = 14   /* an object that was lost already at the begin lies in no stretch */
 };
 
 /* Kinds of step, with the fields that each one names; the others must be 0. The value is 0 unless one is given. */
@@ -91,6 +99,15 @@ static inline void show_store_record(uint8_t *record, enum show_step kind, uint8
     record[7] = (uint8_t)(c >> 8);
 }
 
+/* Writes one stretch of a sweep report into the 4 bytes at `stretch`: its first granule and its length in granules, low byte first. */
+static inline void show_store_stretch(uint8_t *stretch, uint16_t start, uint16_t length)
+{
+    stretch[0] = (uint8_t)(start & 0xff);
+    stretch[1] = (uint8_t)(start >> 8);
+    stretch[2] = (uint8_t)(length & 0xff);
+    stretch[3] = (uint8_t)(length >> 8);
+}
+
 /* Makes a fresh store in a slice of fitting length and returns SHOW_STORE_OK; else returns SHOW_STORE_MISFIT and writes nothing. */
 uint16_t fresh(uint16_t *image, size_t words);
 
@@ -111,6 +128,23 @@ uint16_t batch(uint16_t *image, size_t words, const uint8_t *steps, size_t bytes
  * SHOW_STORE_OK; or SHOW_STORE_MISFIT if the image's length fits no store or the output has not exactly 73 bytes a card, or
  * SHOW_STORE_DAMAGED if the image is damaged: then nothing is written. The image is not altered. */
 uint16_t service_map(const uint16_t *image, size_t words, uint8_t *output, size_t output_bytes);
+
+/* Judges a sweep report: what a desk says that it freed, as stretches of granules in rising order, without a header. `first` is the image
+ * that the begin of the cycle got, `second` the one that its finish got. Any two undamaged images of equal length are judged. Returns the
+ * lowest that applies of
+ *   SHOW_STORE_MISFIT       a length does not fit: that of an image, images of unequal length, report bytes not a multiple of 4, a scratch
+ *                           of not exactly SHOW_STORE_SCRATCH_WORDS(k) words;
+ *   SHOW_STORE_DAMAGED      an image is damaged;
+ *   SHOW_STORE_BAD_STRETCH  a stretch has no granule, starts before the last one's end, or is not made up of whole objects of the second
+ *                           image: it starts or ends inside one, has a free granule or granule 0, or goes past the store's end. Stretches may
+ *                           touch, and one may have several objects;
+ *   SHOW_STORE_HELD_FREED   an object lies in a stretch that registers of the second image reach, directly or by links;
+ *   SHOW_STORE_LOST_MISSED  an object that no register of the first image reaches started at a granule that lies in no stretch;
+ * and SHOW_STORE_OK if none does: the report is acceptable. What our own finish freed always is, an object a stretch or neighbours made one.
+ * The scratch may hold anything; afterwards it is zero, but on SHOW_STORE_MISFIT and SHOW_STORE_DAMAGED it stays as it was. The images and
+ * the report are not altered. */
+uint16_t judge_report(const uint16_t *first, size_t first_words, const uint16_t *second, size_t second_words, const uint8_t *report,
+                      size_t report_bytes, uint16_t *scratch, size_t scratch_words);
 
 #ifdef __cplusplus
 }

@@ -8,14 +8,13 @@ use lib.ListN.{length, replicate, getD, take, drop, length-drop}
 use lib.Seq.{set-comm}
 use borrow.Author.Tests.{not-true}
 use Rattle.model.specs.Base.{nth, put, zeros, addBits}
-use Rattle.model.specs.Image.{Image, granules, isStart, marked, word, firstRun, imageOf, withHeap, withStarts, withMarks, withCounts, withPackets, withTracers, withPlayers, withGeneral, setFirstRun, words}
+use Rattle.model.specs.Image.{Image, granules, isStart, marked, word, firstRun, imageOf, withHeap, withStarts, withMarks, withCounts, withPackets, withTracers, withPlayers, withGeneral, setFirstRun}
 use Rattle.model.specs.Mutate.{sumRuns, freeFrom, freeGranules, ifLong, usableRun, granulesInRuns, usableGranules}
 use Rattle.model.specs.Finish.{Kept, kept-marked, kept-found, keptSet, Swept, sweptWords, firstOf, sweep, Finish, finishWith, finishStep}
-use Rattle.model.proofs.Words.{Fits, parts-words, words-fit}
 use Rattle.theory.specs.Lines.{Lines, Sound}
-use Rattle.theory.proofs.lines.Judged.{sound-make}
 use Rattle.theory.proofs.lines.Sizes.{fits-sizes}
-use Rattle.model.proofs.Sited.{Sited, sited}
+use Rattle.model.proofs.Sited.{Sited}
+use Rattle.theory.proofs.lines.Passing.{sited-of}
 use Rattle.model.proofs.Found.{found-start, set-kept, kept-set}
 use Rattle.theory.specs.Heap.{Filled, HeapFilled}
 use Rattle.theory.proofs.heap.Facts.{heap-filled-of, heap-sized-of}
@@ -39,9 +38,6 @@ use Rattle.finish_marking_laws.specs.Seeds.{KeptMarked}
 use Rattle.finish_marking_laws.proofs.seeds.Bared.{same-section}
 
 -- ---- what is marked is the computed set
-
-pub sited-of : (m : Image) → Fits m → Sound m → Sited m
-sited-of m f s = rw (parts-words m f) at (sited (m .width) (words m) (words-fit m f) (rw (parts-words m f) (sound-make m s)))
 
 kept-start : (m : Image) → Sited m → Lines m → (g : ℕ) → Kept m g → isStart m g ≡ true
 unfolding isStart marked

@@ -1,8 +1,9 @@
 -- A marking on its way: what holds of every image that it comes through, what is left to do, and how far a step takes it.
-use Prim.Native.Nat.{ℕ, zero, suc, _+_, _*_, _-_, _/_, _≤_, _<_, min}
+use Prim.Native.Nat.{ℕ, _+_, _*_, _-_, _/_, _≤_, _<_, min}
 use mathlib.Core.Path.{_≡_}
 use mathlib.Core.Logic.{_⊎_}
 use lib.ListN.{length}
+use Rattle.model.specs.Base.{sumBelow}
 use Rattle.model.specs.Image.{Image, links, link}
 use Rattle.image_laws.specs.Digits.{markBit, startBit}
 use Rattle.finish_marking_laws.specs.Follow.{cardWord, Headed, Reach, objectBit, World, Listed, untouched}
@@ -36,10 +37,6 @@ pub record Marking (k : ℕ) (m₀ m : Image) (N : ℕ → Type 0) (h l : ℕ) :
 
 -- ---- what is left to be marked, listed and settled
 
-unfoldable pub sum : ℕ → (ℕ → ℕ) → ℕ
-sum zero f = 0
-sum (suc n) f = sum n f + f n
-
 -- an unmarked object is still to be marked, listed and settled; a pending one to be settled
 unfoldable pub weight : Image → ℕ → ℕ
 weight m g = 3 * (1 - markBit m g) + (markBit m g - startBit m g)
@@ -48,7 +45,7 @@ unfoldable pub onList : Image → ℕ → ℕ
 onList m c = min 1 (cardWord m c)
 
 unfoldable pub workLeft : ℕ → Image → ℕ
-workLeft k m = sum (64 * k) (weight m) + sum k (onList m)
+workLeft k m = sumBelow (weight m) (64 * k) + sumBelow (onList m) k
 
 -- ---- a turn, which settles the pending objects of a card in the order of their granules
 

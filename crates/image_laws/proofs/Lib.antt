@@ -15,3 +15,4 @@ pub mod Words
 pub mod Lengths
 pub mod Loops
 pub mod Compare
+pub mod Pairs

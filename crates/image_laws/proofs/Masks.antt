@@ -13,7 +13,7 @@ use lib.Pow.{shl-exact, pow-add, pow-lt, pow-pos}
 use lib.ListN.{length}
 use borrow.Author.Tests.{eqb-true, ne-eqb}
 use Rattle.model.specs.Base.{nth, testBit, withBit, bit}
-use Rattle.model.proofs.Laws.{bool-cases, nth-put-same}
+use Rattle.model.proofs.Laws.{bool-cases, nth-put-same, length-put}
 use Rattle.model.proofs.Bits.{withBit-other, unset, bit-put-other}
 use Rattle.image_laws.specs.Bits.{withoutBit, clearBit}
 
@@ -98,3 +98,7 @@ clear-same w ws g h = rw (nth-put-same ws (g / w)) (withoutBit-same (nth ws (g /
 pub clear-other : (w : ℕ) (ws : List ℕ) (g h : ℕ) → (h ≡ g → ⊥) → bit w (clearBit w ws g) h ≡ bit w ws h
 unfolding clearBit
 clear-other w ws g h ne = bit-put-other w ws g h _ ne (λ i n. withoutBit-other (nth ws (g / w)) i (g % w) n)
+
+pub length-clearBit : (w : ℕ) (ws : List ℕ) (g : ℕ) → length (clearBit w ws g) ≡ length ws
+unfolding clearBit
+length-clearBit w ws g = length-put ws _ _

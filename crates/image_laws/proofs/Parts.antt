@@ -2,7 +2,7 @@
 use Rattle.image_laws.specs.Parts.{isZero, bothZero}
 use Rattle.image_laws.proofs.Compare.{part-words}
 use Rattle.image_laws.proofs.Split.{split-is}
-use Rattle.model.specs.Base.{nth, all, zeroes}
+use Rattle.model.specs.Base.{nth, all, any, zeroes}
 use Rattle.model.specs.Image.{place, lengths, split}
 use Prim.Native.Nat.{ℕ, zero, suc, _+_, _-_, _≤_, _<_}
 use mathlib.Core.Path.{_≡_, refl, sym, ap, _∙_}
@@ -34,6 +34,11 @@ pub all-cong : (n : ℕ) (p q : ℕ → Bool) → ((i : ℕ) → i < n → p i �
 unfolding all
 all-cong zero p q f = refl
 all-cong (suc n) p q f = rw (all-cong n p q (λ i h. f i (omega arith)), f n (omega arith))
+
+pub any-cong : (n : ℕ) (p q : ℕ → Bool) → ((i : ℕ) → i < n → p i ≡ q i) → any n p ≡ any n q
+unfolding any
+any-cong zero p q f = refl
+any-cong (suc n) p q f = rw (any-cong n p q (λ i h. f i (omega arith)), f n (omega arith))
 
 -- ---- `bad` is 0 as long as all below i passed
 

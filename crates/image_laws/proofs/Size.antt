@@ -55,12 +55,16 @@ module _ (w u r most n : ℕ) (per : (k : ℕ) → imageLength w k ≡ u * k + r
 
 -- ---- what the answer says
 
-fits-sized : (w : ℕ) (ws : List ℕ) → fits w (length ws) ≡ true → Sized w (cardsOf w (length ws)) ws
+pub fits-sized : (w : ℕ) (ws : List ℕ) → fits w (length ws) ≡ true → Sized w (cardsOf w (length ws)) ws
 unfolding fits
 fits-sized w ws e = record { low = leb-true _ _ (every-use _ e 0); high = leb-true _ _ (every-use _ e 1); long = eqb-true _ _ (every-use _ e 2) }
 
 pub sized-cards : (w k : ℕ) (ws : List ℕ) → Sized w k ws → cardsOf w (length ws) ≡ k
 sized-cards w k ws z = rw (z .long) (cards-length w k (width-cases w k (z .low) (z .high)))
+
+pub sized-parts : (w k : ℕ) (ws : List ℕ) → Sized w k ws → parts w ws ≡ imageOf w k ws
+unfolding parts
+sized-parts w k ws z = ap (λ j. imageOf w j ws) (sized-cards w k ws z)
 
 module _ (w : ℕ) (ws : List ℕ) (s : Extent) (e : s ≡ extentOf w (length ws)) where
   pub misfit-fits : s ≡ Misfit → fits w (length ws) ≡ false
@@ -77,5 +81,4 @@ module _ (w : ℕ) (ws : List ℕ) (s : Extent) (e : s ≡ extentOf w (length ws
     cards-sized = let h = cards-fits in let c : cardsOf w (length ws) ≡ k = cc in rw c at (fits-sized w ws h)
 
     pub cards-parts : parts w ws ≡ imageOf w k ws
-    unfolding parts
-    cards-parts = ap (λ j. imageOf w j ws) (sized-cards w k ws cards-sized)
+    cards-parts = sized-parts w k ws cards-sized

@@ -69,6 +69,10 @@ setBit-other w ws g h ne = bit-put-other w ws g h _ ne (λ i n. withBit-other (n
 pub setBit-keeps : (w : ℕ) (ws : List ℕ) (g h : ℕ) → g / w < length ws → bit w ws h ≡ true → bit w (setBit w ws g) h ≡ true
 setBit-keeps w ws g h l e = elim (ℕ-discrete h g) [ yes q ↦ rw q (setBit-same w ws g l) | no ne ↦ setBit-other w ws g h ne ∙ e ]
 
+pub length-setBit : (w : ℕ) (ws : List ℕ) (g : ℕ) → length (setBit w ws g) ≡ length ws
+unfolding setBit
+length-setBit w ws g = length-put ws _ _
+
 -- what it keeps to set a bit below n, they keep
 pub addBits-keeps : (P : List ℕ → Type 0) (w : ℕ) (p : ℕ → Bool) (n : ℕ) → ((i : ℕ) (r : List ℕ) → i < n → P r → P (setBit w r i))
     → (l : List ℕ) → P l → P (addBits w p n l)
@@ -79,8 +83,7 @@ addBits-keeps P w p (suc n) c l q =
     elim (bool-cases (p n)) [ inl e ↦ rw e (c n (addBits w p n l) (omega arith) h) | inr e ↦ rw e h ]
 
 pub length-addBits : (w : ℕ) (p : ℕ → Bool) (n : ℕ) (l : List ℕ) → length (addBits w p n l) ≡ length l
-unfolding setBit
-length-addBits w p n l = addBits-keeps (λ r. length r ≡ length l) w p n (λ i r b e. length-put r _ _ ∙ e) l refl
+length-addBits w p n l = addBits-keeps (λ r. length r ≡ length l) w p n (λ i r b e. length-setBit w r i ∙ e) l refl
 
 pub addBits-past : (w : ℕ) (p : ℕ → Bool) (n : ℕ) (l : List ℕ) (g : ℕ) → n ≤ g → bit w (addBits w p n l) g ≡ bit w l g
 addBits-past w p n l g h = addBits-keeps (λ r. bit w r g ≡ bit w l g) w p n (λ i r b e. setBit-other w r i g (omega arith) ∙ e) l refl

@@ -14,6 +14,15 @@ unfolding sumBelow
 sum-same v u zero f = refl
 sum-same v u (suc n) f = rw (f n (omega arith), sum-same v u n (λ i h. f i (omega arith))) refl
 
+-- one summand changes
+pub sum-change : (v u : ℕ → ℕ) (n a : ℕ) → a < n → ((i : ℕ) → i < n → (i ≡ a → ⊥) → u i ≡ v i) → sumBelow u n + v a ≡ sumBelow v n + u a
+unfolding sumBelow
+sum-change v u zero a h f = absurd (omega arith)
+sum-change v u (suc n) a h f = elim (ℕ-discrete a n) [
+  | yes e ↦ rw (e, sum-same u v n (λ i l. f i (omega arith) (λ z. omega arith))) (omega arith)
+  | no e ↦ omega (arith, sum-change v u n a (omega arith) (λ i l. f i (omega arith)), f n (omega arith) (λ z. e (sym z)))
+]
+
 -- the same numbers pass
 pub howMany-same : (p q : ℕ → Bool) (n : ℕ) → ((i : ℕ) → i < n → p i ≡ q i) → howMany p n ≡ howMany q n
 unfolding howMany
@@ -22,16 +31,9 @@ howMany-same p q n f = sum-same _ _ n (λ i h. ap (λ b. cond b 1 0) (f i h))
 -- one number more passes
 pub howMany-more : (p q : ℕ → Bool) (n a : ℕ) → a < n → p a ≡ false → q a ≡ true → ((i : ℕ) → (i ≡ a → ⊥) → q i ≡ p i) → howMany q n ≡ suc (howMany p n)
 unfolding howMany
-howMany-more p q zero a h x y f = absurd (omega arith)
-howMany-more p q (suc n) a h x y f = go (λ l. howMany-more p q n a l x y f) (ℕ-discrete n a)
-  where
-    go : (a < n → howMany q n ≡ suc (howMany p n)) → Dec (n ≡ a) → howMany q n + cond (q n) 1 0 ≡ suc (howMany p n + cond (p n) 1 0)
-    go ih (yes e) =
-        let s : howMany q n ≡ howMany p n = howMany-same q p n (λ i l. f i (omega arith)) in
-        let u : q n ≡ true = ap q e ∙ y in
-        let v : p n ≡ false = ap p e ∙ x in
-        rw (u, v) (omega arith)
-    go ih (no e) = let s : howMany q n ≡ suc (howMany p n) = ih (omega arith) in rw (f n e) (omega arith)
+howMany-more p q n a h x y f =
+    let one : howMany q n + cond (p a) 1 0 ≡ howMany p n + cond (q a) 1 0 = sum-change _ _ n a h (λ i _ e. ap (λ b. cond b 1 0) (f i e)) in
+    omega (arith, rw (x, y) at one)
 
 -- where none passes, and where some number does
 pub howMany-none : (p : ℕ → Bool) (n : ℕ) → ((i : ℕ) → i < n → p i ≡ false) → howMany p n ≡ 0

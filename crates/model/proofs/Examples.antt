@@ -10,11 +10,12 @@ use Rattle.model.specs.Mutate.{lowest, tightest}
 use Rattle.model.specs.Steps.{answersOf}
 use Rattle.model.specs.Batch.{judgeOf, finishOf}
 use Rattle.model.specs.Map.{mapOf}
+use Rattle.model.specs.Report.{stretchRecord, reportOf}
 use Rattle.model.specs.Plain.{old, plainOf, feed, plainRun, readings, SameAnswers}
 use Rattle.model.specs.BothRules.{shared}
 use Rattle.model.specs.Open.{model-open}
 use Rattle.model.specs.Cases.{bytes, oneCard, answered, ok, refused, cases-open}
-use Rattle.model.specs.Examples.{at, linkBehind, owedByOne, owedAndHeld, allFreed, scattered, longCue, duesNear, inGaps, nibbled, wiping, wipingSaid, miscounted, shown, shownSheet, crossing, crossingSheet, dueBefore, again, againSaid, examples-open}
+use Rattle.model.specs.Examples.{at, linkBehind, owedByOne, owedAndHeld, allFreed, scattered, longCue, duesNear, inGaps, nibbled, wiping, wipingSaid, miscounted, shown, shownSheet, crossing, crossingSheet, atBegin, atFinish, reportWords, reportResult, dueBefore, again, againSaid, examples-open}
 
 -- a link before the next one of an object in hand: Cover fails, and a finish, which goes by object, keeps what it links to
 pub behind-sound : sound (parts 16 linkBehind) ≡ true
@@ -106,6 +107,58 @@ damaged-unwritten = refl
 pub misfit-unwritten : mapOf (put shown (at heapAt 5) 11) (replicate 74 7) ≡ record { result = 1; output = replicate 74 7 }
 unfolding model-open cases-open examples-open
 misfit-unwritten = refl
+
+-- D and E in two stretches, and in one: what a finish would free
+pub own-stretches : reportWords (stretchRecord 5 1 ∷ stretchRecord 6 3 ∷ []) (replicate 64 7) ≡ record { result = 0; scratch = replicate 64 0 }
+unfolding model-open cases-open examples-open
+own-stretches = refl
+
+pub own-stretch : reportResult (stretchRecord 5 4 ∷ []) ≡ 0
+unfolding model-open cases-open examples-open
+own-stretch = refl
+
+-- overlap; no order; no length; an end and a start inside E; a free granule; granule 0; behind the store; past 65,535
+pub bad-stretches :
+    reportResult (stretchRecord 5 1 ∷ stretchRecord 5 4 ∷ [])
+    ∷ reportResult (stretchRecord 6 3 ∷ stretchRecord 5 1 ∷ [])
+    ∷ reportResult (stretchRecord 5 0 ∷ [])
+    ∷ reportResult (stretchRecord 5 2 ∷ [])
+    ∷ reportResult (stretchRecord 7 2 ∷ [])
+    ∷ reportResult (stretchRecord 5 5 ∷ [])
+    ∷ reportResult (stretchRecord 0 3 ∷ [])
+    ∷ reportResult (stretchRecord 64 1 ∷ [])
+    ∷ reportResult (stretchRecord 5 4 ∷ stretchRecord 9 65532 ∷ [])
+    ∷ []
+    ≡ replicate 9 12
+unfolding model-open cases-open examples-open
+bad-stretches = refl
+
+-- C, which only a chain of two links reaches, is freed; E is missed, so are both; the lowest number is given
+pub held-or-missed :
+    reportResult (stretchRecord 4 5 ∷ [])
+    ∷ reportResult (stretchRecord 5 1 ∷ [])
+    ∷ reportResult []
+    ∷ reportResult (stretchRecord 4 1 ∷ [])
+    ∷ reportResult (stretchRecord 4 1 ∷ stretchRecord 7 2 ∷ [])
+    ∷ []
+    ≡ 13 ∷ 14 ∷ 14 ∷ 13 ∷ 12 ∷ []
+unfolding model-open cases-open examples-open
+held-or-missed = refl
+
+-- a part of a record, and a scratch of 63 words, go before damage, and neither they nor damage touch the scratch
+pub report-refused :
+    reportOf (put atBegin (at heapAt 5) 7) atFinish (stretchRecord 5 4) (replicate 64 7)
+    ∷ reportOf atBegin (put atFinish (at heapAt 5) 7) (stretchRecord 5 4) (replicate 64 7)
+    ∷ reportOf (put atBegin (at heapAt 5) 7) atFinish (5 ∷ 0 ∷ 4 ∷ []) (replicate 64 7)
+    ∷ reportOf (put atBegin (at heapAt 5) 7) atFinish (stretchRecord 5 4) (replicate 63 7)
+    ∷ []
+    ≡ record { result = 2; scratch = replicate 64 7 }
+    ∷ record { result = 2; scratch = replicate 64 7 }
+    ∷ record { result = 1; scratch = replicate 64 7 }
+    ∷ record { result = 1; scratch = replicate 63 7 }
+    ∷ []
+unfolding model-open cases-open examples-open
+report-refused = refl
 
 -- a granule that is used again is another object: the real answers, read, and the plain store's
 pub again-read : readings old 0 again ≡ againSaid

@@ -24,14 +24,14 @@ Mem a l = List·Memᴰ a l
 
 -- ---- lists: what is not nil, tables, places
 
-nonNil-use : (a : ℕ) (l : List ℕ) → Mem a (nonNil l) → Mem a l × (a ≡ 0 → ⊥)
+pub nonNil-use : (a : ℕ) (l : List ℕ) → Mem a (nonNil l) → Mem a l × (a ≡ 0 → ⊥)
 unfolding nonNil
 nonNil-use a [] h = elim h [ ]
 nonNil-use a (zero ∷ l) h = let r = nonNil-use a l h in (List·Memᴰ·tail (r .0), r .1)
 nonNil-use a (suc g ∷ l) (List·Memᴰ·head e) = (List·Memᴰ·head e, λ z. omega arith)
 nonNil-use a (suc g ∷ l) (List·Memᴰ·tail k) = let r = nonNil-use a l k in (List·Memᴰ·tail (r .0), r .1)
 
-nonNil-make : (a : ℕ) (l : List ℕ) → Mem a l → (a ≡ 0 → ⊥) → Mem a (nonNil l)
+pub nonNil-make : (a : ℕ) (l : List ℕ) → Mem a l → (a ≡ 0 → ⊥) → Mem a (nonNil l)
 unfolding nonNil
 nonNil-make a (zero ∷ l) (List·Memᴰ·head e) nz = absurd (nz e)
 nonNil-make a (zero ∷ l) (List·Memᴰ·tail h) nz = nonNil-make a l h nz
@@ -69,7 +69,7 @@ unfolding nth
 place-of a (x ∷ l) (List·Memᴰ·head e) = (0, omega arith, sym e)
 place-of a (x ∷ l) (List·Memᴰ·tail h) = let r = place-of a l h in (suc (r .0), suc-le-suc (r .1), r .2)
 
-placed : (a : ℕ) (l : List ℕ) (i : ℕ) → i < length l → nth l i ≡ a → Mem a l
+pub placed : (a : ℕ) (l : List ℕ) (i : ℕ) → i < length l → nth l i ≡ a → Mem a l
 unfolding nth
 placed a [] i h e = absurd (omega arith)
 placed a (x ∷ l) zero h e = List·Memᴰ·head (sym e)
@@ -112,11 +112,11 @@ due-make m s g (due-card-in-hand t h q) = some-make _ 3 (any-make 8 _ t h (eq-eq
 
 -- ---- links followed
 
-linksOf-use : (m : Image) (g a : ℕ) → Mem a (linksOf m g) → ((i : ℕ) × (i < links m g) × (link m g i ≡ a)) × (a ≡ 0 → ⊥)
+pub linksOf-use : (m : Image) (g a : ℕ) → Mem a (linksOf m g) → ((i : ℕ) × (i < links m g) × (link m g i ≡ a)) × (a ≡ 0 → ⊥)
 unfolding linksOf
 linksOf-use m g a h = let r = nonNil-use a _ h in (table-use a (links m g) (link m g) (r .0), r .1)
 
-linksOf-make : (m : Image) (g a i : ℕ) → i < links m g → link m g i ≡ a → (a ≡ 0 → ⊥) → Mem a (linksOf m g)
+pub linksOf-make : (m : Image) (g a i : ℕ) → i < links m g → link m g i ≡ a → (a ≡ 0 → ⊥) → Mem a (linksOf m g)
 unfolding linksOf
 linksOf-make m g a i l e nz = nonNil-make a _ (table-make a (links m g) (link m g) i l e) nz
 

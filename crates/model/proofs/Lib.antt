@@ -7,5 +7,6 @@ pub mod Words
 pub mod Entries
 pub mod Sited
 pub mod Found
+pub mod Chains
 pub mod Cases
 pub mod Examples

@@ -1,5 +1,5 @@
 -- Worked images and lists that the starred cases do not reach: a finish on an image without Cover, Cover and its two players, runs joined, runs
--- too short to be usable, news by either rule, cards wiped, maps; and a history with the plain store beside it.
+-- too short to be usable, news by either rule, cards wiped, maps, reports; and a history with the plain store beside it.
 use mathlib.Core.Bool.{cond}
 use mathlib.Core.List.{List, [], _∷_, _++_}
 use Prim.Native.Nat.{ℕ, zero, suc, _+_, _*_}
@@ -9,6 +9,7 @@ use Rattle.model.specs.Base.{put, table}
 use Rattle.model.specs.Image.{Image, heapAt, countsAt, regsAt, playersAt, lengths, imageLength, place}
 use Rattle.model.specs.Mutate.{Placing, tightest, freeGranules}
 use Rattle.model.specs.Batch.{Batch, freshOf, batchAt, batchOf}
+use Rattle.model.specs.Report.{Reported, reportOf}
 use Rattle.model.specs.Steps.{Event}
 use Rattle.model.specs.Plain.{made, as-object, as-is, Reply}
 use Rattle.model.specs.Claim.{history}
@@ -124,6 +125,25 @@ crossingSheet =
     (48 ∷ 48 ∷ 48 ∷ 48 ∷ 32 ∷ 48 ∷ 32 ∷ 46 ∷ 111 ∷ []) ++ (replicate 61 45 ++ (111 ∷ 32 ∷ 10 ∷ []))
     ++ (48 ∷ 48 ∷ 48 ∷ 49 ∷ 32 ∷ 48 ∷ 32 ∷ []) ++ (replicate 4 45 ++ (replicate 60 46 ++ (32 ∷ 10 ∷ [])))
 
+-- A = 1 of two granules in player 0's r0 links to B = 3, and B to C = 4; no register holds D = 5, nor E = 6 of three granules; then a begin
+unfoldable pub twoLost : List (List ℕ)
+twoLost =
+    rec 1 0 0 2 1 ∷ rec 1 0 1 1 1 ∷ rec 1 0 2 1 0 ∷ rec 3 0 0 0 1 ∷ rec 4 0 0 0 0 ∷ rec 3 0 1 0 2 ∷ rec 4 0 0 0 0
+    ∷ rec 1 0 1 1 0 ∷ rec 1 0 2 3 0 ∷ rec 6 0 1 0 0 ∷ rec 6 0 2 0 0 ∷ []
+
+unfoldable pub atBegin : List ℕ
+atBegin = left twoLost
+
+unfoldable pub atFinish : List ℕ
+atFinish = left (twoLost ++ (rec 9 0 0 0 0 ∷ []))
+
+-- a report with these stretches, and the result that it gets
+unfoldable pub reportWords : List (List ℕ) → List ℕ → Reported
+reportWords stretches scratch = reportOf atBegin atFinish (bytes stretches) scratch
+
+unfoldable pub reportResult : List (List ℕ) → ℕ
+reportResult stretches = reportWords stretches (replicate 64 7) .result
+
 -- what document 01's rule says of an image and a: "value 1 if fewer than a granules are free, else 0"
 unfoldable pub dueBefore : Image → ℕ → ℕ
 dueBefore m a = cond (ltb (freeGranules m) a) 1 0
@@ -146,5 +166,5 @@ againSaid =
 
 -- opens all of these
 unfoldable pub examples-open : ℕ
-unfolding at left inHand linkBehind traced owedByOne owedAndHeld allFreed byTurns scattered longCue nearEight duesNear gaps inGaps fourAndTwo nibbled wiping wipingSaid miscounted shown shownSheet crossing crossingSheet dueBefore again againSaid
+unfolding at left inHand linkBehind traced owedByOne owedAndHeld allFreed byTurns scattered longCue nearEight duesNear gaps inGaps fourAndTwo nibbled wiping wipingSaid miscounted shown shownSheet crossing crossingSheet twoLost atBegin atFinish reportWords reportResult dueBefore again againSaid
 examples-open = 0

@@ -10,9 +10,11 @@ pub mod Finish
 pub mod Steps
 pub mod Batch
 pub mod Map
+pub mod Report
 pub mod Cases
 pub mod Examples
 pub mod Plain
 pub mod Claim
 pub mod BothRules
+pub mod OwnReport
 pub mod Open

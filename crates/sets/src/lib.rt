@@ -1,4 +1,4 @@
-// Sets of granules as bits, in local tables: the values that a link may name, and the granules seen.
+// Sets of granules as bits, in tables that are lent: the values that a link may name, and the granules seen.
 ghost use mathlib.Core.Path.{_≡_};
 ghost use mathlib.Core.Bool.{not};
 ghost use Prim.Native.Nat.{_/_, _<_, min};

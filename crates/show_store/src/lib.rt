@@ -1,9 +1,11 @@
-// The library: a fresh store made, an image judged, a batch of steps run, a store printed. None asks anything of its caller (demand 1a of docs/DEMANDS.md);
-// each contract says all that the call returns and leaves (1c, 1d, 2a).
+// The library: a fresh store made, an image judged, a batch of steps run, a store printed, a sweep report judged. None asks anything of its caller
+// (demand 1a of docs/DEMANDS.md); each contract says all that the call returns and leaves (1c, 1d, 2a).
 ghost use mathlib.Core.Path.{_≡_};
 ghost use Rattle.model.specs.Batch.{freshOf, judgeOf, batchOf};
 ghost use Rattle.model.specs.Map.{mapOf};
+ghost use Rattle.model.specs.Report.{reportOf};
 ghost use Rattle.image_laws.specs.Fresh.{madeOf};
+ghost use Rattle.report_laws.specs.Reported.{reportedOf};
 ghost use Rattle.service_map_laws.specs.Mapped.{mappedOf};
 ghost use Rattle.show_store_laws.specs.Run.{batched};
 
@@ -39,4 +41,17 @@ pub extern "C" fn service_map(image: &[u16], output: &mut [u8]) -> u16
     ensures { λ r. ⌜ mappedOf r (now (output .exit)) ≡ mapOf (now (image .entry)) (now (output .entry)) ⌝ }
 {
     service_map::service_map(image, output)
+}
+
+// "Given the image at the begin, the image just before the finish and such a report, say whether it is acceptable."
+#[no_mangle]
+pub extern "C" fn judge_report(
+    first: &[u16],
+    second: &[u16],
+    report: &[u8],
+    scratch: &mut [u16],
+) -> u16
+    ensures { λ r. ⌜ reportedOf r (now (scratch .exit)) ≡ reportOf (now (first .entry)) (now (second .entry)) (now (report .entry)) (now (scratch .entry)) ⌝ }
+{
+    report::judge_report(first, second, report, scratch)
 }

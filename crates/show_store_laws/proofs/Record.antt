@@ -1,21 +1,15 @@
 -- The decoder of records of eight bytes, whose words have 16 bits: what it makes of them is the model's record.
 use mathlib.Core.Path.{_≡_, refl, sym, _∙_}
 use mathlib.Core.List.{List, []}
-use Prim.Native.Nat.{ℕ, suc, _+_, _*_, _<_, _≤_}
+use Prim.Native.Nat.{ℕ, _+_, _<_, _≤_}
 use native.Mathlib.Omega.{arith}
 use native.Mathlib.Nat.{add-zero}
-use native.Mathlib.Numerals.{add-one}
-use lib.ListN.{length, getD, take, drop, length-take, drop-of-length-le}
-use lib.Seq.{drop-cons, drop-drop, getD-drop, getD-take}
+use lib.ListN.{getD, take, drop, length-take, drop-of-length-le}
+use lib.Seq.{drop-drop, getD-drop, getD-take}
 use Rattle.image_laws.proofs.Split.{part-take}
 use Rattle.model.specs.Base.{nth, zeroes}
 use Rattle.model.specs.Records.{little, stepOf}
 use Rattle.request_laws.specs.Request.{requested, InRange}
-
-pub field-is : (l : List ℕ) (at x y : ℕ) → at + 2 ≤ length l → x ≡ getD l at 0 → y ≡ getD l (at + 1) 0 → x < 256 → y < 256
-    → (x + 256 * y ≡ little (take 2 (drop at l))) × (x + 256 * y < 65536)
-unfolding little
-field-is l at x y h e f p q = (rw (drop-cons l at 0 (omega arith), drop-cons l (suc at) 0 (omega arith)) (omega (arith, rw add-one at f)), omega arith)
 
 -- the first eight bytes of a list, as a record
 fields : (l : List ℕ)

@@ -8,5 +8,6 @@ pub mod plain
 pub mod Claim
 pub mod InOrder
 pub mod Demand
+pub mod reports
 pub mod Histories
 pub mod BothRules

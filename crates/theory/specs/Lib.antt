@@ -13,3 +13,4 @@ pub mod Numbers
 pub mod Fields
 pub mod Due
 pub mod Map
+pub mod Report

@@ -10,6 +10,7 @@ mod judging;
 mod mapping;
 mod pauses;
 mod placing;
+mod reports;
 mod shows;
 mod stepping;
 mod timing;
@@ -20,11 +21,12 @@ use timing::Goals;
 
 type Part = fn(&mut Goals);
 
-const PARTS: [(&str, Part); 12] = [
+const PARTS: [(&str, Part); 13] = [
     ("judge", judging::judging),
     ("growth", judging::growing),
     ("fresh", judging::making),
     ("map", mapping::mapping),
+    ("report", reports::reporting),
     ("steps", stepping::stepping),
     ("finish", stepping::finishing),
     ("new", placing::placing),

@@ -16,6 +16,16 @@ mod exported {
             answer_words: usize,
         ) -> u16;
         pub fn service_map(image: *const u16, words: usize, output: *mut u8, output_bytes: usize) -> u16;
+        pub fn judge_report(
+            first: *const u16,
+            first_words: usize,
+            second: *const u16,
+            second_words: usize,
+            report: *const u8,
+            report_bytes: usize,
+            scratch: *mut u16,
+            scratch_words: usize,
+        ) -> u16;
     }
 }
 
@@ -46,4 +56,20 @@ pub fn batch(image: &mut [u16], steps: &[u8], answers: &mut [u16]) -> u16 {
 pub fn service_map(image: &[u16], output: &mut [u8]) -> u16 {
     // Safe: as above, and it writes nothing but the output.
     unsafe { exported::service_map(image.as_ptr(), image.len(), output.as_mut_ptr(), output.len()) }
+}
+
+pub fn judge_report(first: &[u16], second: &[u16], report: &[u8], scratch: &mut [u16]) -> u16 {
+    // Safe: as above, and it writes nothing but the scratch.
+    unsafe {
+        exported::judge_report(
+            first.as_ptr(),
+            first.len(),
+            second.as_ptr(),
+            second.len(),
+            report.as_ptr(),
+            report.len(),
+            scratch.as_mut_ptr(),
+            scratch.len(),
+        )
+    }
 }

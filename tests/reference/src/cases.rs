@@ -141,7 +141,7 @@ pub fn evolved(random: &mut Random, k: usize) -> Vec<u16> {
     image
 }
 
-fn change_length(random: &mut Random, image: &mut Vec<u16>) {
+pub(crate) fn change_length(random: &mut Random, image: &mut Vec<u16>) {
     let length = random.pick(&[0, 1, 264, 1383, 1384, 1648, image.len() - 1, image.len() + 1, 1649, 1651]);
     image.resize(length.unwrap_or(0), 0);
 }

@@ -39,6 +39,52 @@ pub fn gaps(random: &mut Random, k: usize) -> Vec<u16> {
     words
 }
 
+/// An undamaged image with no cycle, in which chains are long: the objects that have links stand in some order, and each links to the next.
+pub fn far(random: &mut Random, k: usize) -> Vec<u16> {
+    let mut words = vec![0; length(k)];
+    let mut store = Store::of(&mut words).expect("a fitting length");
+    let sizes = random.weighted(&[(3, Sizes::Single), (3, Sizes::Small), (2, Sizes::Varied), (1, Sizes::Large)]);
+    lay_heap(random, &mut store, sizes);
+    let mut chain: Vec<usize> = store.image().objects().filter(|o| !o.links.is_empty()).map(|o| o.start).collect();
+    match random.below(3) {
+        0 => {}
+        1 => chain.reverse(),
+        _ => random.shuffle(&mut chain),
+    }
+    link_in_order(random, &mut store, &chain);
+    for _ in 0..random.from_to(1, 3) {
+        let (player, register) = (random.below(PLAYERS), random.below(REGISTERS));
+        let object = if random.chance(30) { chain.first().copied() } else { random.pick(&chain) };
+        store.set_register(player, register, object.unwrap_or(0));
+    }
+    words
+}
+
+/// A full store of objects of so many granules and links, but for the last, which has what is left. Link i of object n, counted from 0, goes to
+/// object `target(n, i)`, or is nil if there is no such object. A register holds object `held`.
+pub fn linked(
+    k: usize,
+    size: usize,
+    links: usize,
+    held: Option<usize>,
+    mut target: impl FnMut(usize, usize) -> usize,
+) -> Vec<u16> {
+    let mut words = vec![0; length(k)];
+    let mut store = Store::of(&mut words).expect("a fitting length");
+    let granules = store.layout.granules();
+    let objects: Vec<usize> = (1..granules).step_by(size).collect();
+    for (n, &g) in objects.iter().enumerate() {
+        let size = size.min(granules - g);
+        let links = links.min(GRANULE_WORDS * size - 2);
+        store.set_object(g, size, links);
+        for i in 0..links {
+            store.set_link(g, i, objects.get(target(n, i)).copied().unwrap_or(0));
+        }
+    }
+    store.set_register(0, 0, held.map_or(0, |n| objects[n]));
+    words
+}
+
 /// An undamaged image in a cycle.
 pub fn running(random: &mut Random, k: usize) -> Vec<u16> {
     let mut words = loose(random, k);
@@ -180,6 +226,25 @@ fn set_links(random: &mut Random, store: &mut Store) {
         for i in 0..count {
             let target = random.pick(&starts).filter(|_| !random.chance(nil_percent));
             store.set_link(g, i, target.unwrap_or(0));
+        }
+    }
+}
+
+/// One link of each object goes to the next one, and that of the last to the first or to nil; the others are mostly nil, or go to the next one
+/// too, to the object itself, or back or on to any.
+fn link_in_order(random: &mut Random, store: &mut Store, chain: &[usize]) {
+    let starts: Vec<usize> = store.image().starts().collect();
+    let is_ring = random.chance(30);
+    let any_percent = random.weighted(&[(3, 0), (2, 2), (1, 20)]);
+    for (n, &object) in chain.iter().enumerate() {
+        let after_the_last = if is_ring { chain[0] } else { 0 };
+        let next = chain.get(n + 1).copied().unwrap_or(after_the_last);
+        let links = store.image().object(object).links.len();
+        let along = random.below(links);
+        for i in 0..links {
+            let any = random.pick(&starts).unwrap_or(0);
+            let other = random.weighted(&[(100 - any_percent, 0), (10, next), (10, object), (any_percent, any)]);
+            store.set_link(object, i, if i == along { next } else { other });
         }
     }
 }

@@ -58,11 +58,24 @@ pub struct MapCase {
     pub given: Vec<u8>,
 }
 
+/// A call of `judge_report` and what it must do.
+#[derive(Clone, Debug, PartialEq, Eq)]
+pub struct ReportCase {
+    pub name: String,
+    pub first: Vec<u16>,
+    pub second: Vec<u16>,
+    pub report: Vec<u8>,
+    pub scratch: Vec<u16>,
+    pub result: u16,
+    pub after: Vec<u16>,
+}
+
 #[derive(Clone, Debug, PartialEq, Eq)]
 pub enum Case {
     Batch(BatchCase),
     Finish(FinishCase),
     Map(MapCase),
+    Report(ReportCase),
 }
 
 pub fn parse(text: &str) -> Result<Vec<Case>, String> {
@@ -86,20 +99,31 @@ pub fn parse_batches(text: &str) -> Result<Vec<BatchCase>, String> {
 }
 
 fn batches_of(cases: Vec<Case>) -> Result<Vec<BatchCase>, String> {
-    let of_batch = |case| match case {
+    all_of("batch", cases, |case| match case {
         Case::Batch(case) => Ok(case),
-        other => Err(format!("{} is no case of batch", other.name())),
-    };
-    cases.into_iter().map(of_batch).collect()
+        other => Err(other),
+    })
 }
 
 /// The cases of a text that has none but of `service_map`.
 pub fn parse_maps(text: &str) -> Result<Vec<MapCase>, String> {
-    let of_map = |case| match case {
+    all_of("service_map", parse(text)?, |case| match case {
         Case::Map(case) => Ok(case),
-        other => Err(format!("{} is no case of service_map", other.name())),
-    };
-    parse(text)?.into_iter().map(of_map).collect()
+        other => Err(other),
+    })
+}
+
+/// The cases of a text that has none but of `judge_report`.
+pub fn parse_reports(text: &str) -> Result<Vec<ReportCase>, String> {
+    all_of("judge_report", parse(text)?, |case| match case {
+        Case::Report(case) => Ok(case),
+        other => Err(other),
+    })
+}
+
+fn all_of<T>(what: &str, cases: Vec<Case>, of: fn(Case) -> Result<T, Case>) -> Result<Vec<T>, String> {
+    let one = |case| of(case).map_err(|other| format!("{} is no case of {what}", other.name()));
+    cases.into_iter().map(one).collect()
 }
 
 /// The cases of a text that was made before document 02, (ii), when images had no counts: they get them here. Kind 15 was unknown
@@ -121,6 +145,7 @@ impl Case {
             Case::Batch(case) => &case.name,
             Case::Finish(case) => &case.name,
             Case::Map(case) => &case.name,
+            Case::Report(case) => &case.name,
         }
     }
 
@@ -138,8 +163,8 @@ impl Case {
                 let (image, left) = (with_counts(&case.image), with_counts(&case.left));
                 Case::Finish(FinishCase { image, left, ..case })
             }
-            // Maps came after the counts.
-            Case::Map(_) => self,
+            // Maps and reports came after the counts.
+            Case::Map(_) | Case::Report(_) => self,
         }
     }
 }
@@ -160,16 +185,21 @@ fn case_of(block: &BTreeMap<&str, &str>) -> Result<Case, String> {
     let field = |key: &str| block.get(key).copied().ok_or(format!("no line {key}"));
     let number = |key: &str| field(key)?.parse::<u16>().map_err(|e| format!("{key}: {e}"));
     let name = field("case")?.to_string();
+    if block.contains_key("report") {
+        let first = words(field("begin")?)?;
+        let second = words_or_same(field("finish")?, &first)?;
+        let scratch = words(field("scratch")?)?;
+        let after = words_or_same(field("after")?, &scratch)?;
+        let report = bytes(field("report")?)?;
+        return Ok(Case::Report(ReportCase { name, first, second, report, scratch, result: number("result")?, after }));
+    }
     let image = words(field("image")?)?;
     if block.contains_key("room") {
         let room = usize::from(number("room")?);
         let given = byte_runs(field("given")?)?;
         return Ok(Case::Map(MapCase { name, image, room, result: number("result")?, given }));
     }
-    let left = match field("left")? {
-        "same" => image.clone(),
-        text => words(text)?,
-    };
+    let left = words_or_same(field("left")?, &image)?;
     if block.contains_key("finish") {
         let cover = number("cover")? == 1;
         return Ok(Case::Finish(FinishCase { name, image, value: number("finish")?, left, cover }));
@@ -195,6 +225,14 @@ fn words(text: &str) -> Result<Vec<u16>, String> {
     Ok(words)
 }
 
+fn words_or_same(text: &str, others: &[u16]) -> Result<Vec<u16>, String> {
+    if text == "same" {
+        Ok(others.to_vec())
+    } else {
+        words(text)
+    }
+}
+
 /// Bytes written as words are.
 fn byte_runs(text: &str) -> Result<Vec<u8>, String> {
     let byte = |word| u8::try_from(word).map_err(|e| format!("{word:x}: {e}"));
@@ -218,19 +256,18 @@ pub fn print(case: &Case) -> String {
         Case::Batch(case) => print_batch(case),
         Case::Finish(case) => print_finish(case),
         Case::Map(case) => print_map(case),
+        Case::Report(case) => print_report(case),
     }
 }
 
 fn print_batch(case: &BatchCase) -> String {
-    let left = if case.left == case.image { "same".to_string() } else { print_words(&case.left) };
-    let steps: String = case.steps.iter().map(|b| format!("{b:02x}")).collect();
     let lines = [
         ("case", case.name.clone()),
         ("image", print_words(&case.image)),
-        ("steps", if steps.is_empty() { "-".to_string() } else { steps }),
+        ("steps", print_bytes(&case.steps)),
         ("answers", case.answers.to_string()),
         ("result", case.result.to_string()),
-        ("left", left),
+        ("left", print_words_or_same(&case.left, &case.image)),
         ("given", print_words(&case.given)),
     ];
     print_lines(&lines)
@@ -258,8 +295,37 @@ fn print_map(case: &MapCase) -> String {
     print_lines(&lines)
 }
 
+fn print_report(case: &ReportCase) -> String {
+    let lines = [
+        ("case", case.name.clone()),
+        ("begin", print_words(&case.first)),
+        ("finish", print_words_or_same(&case.second, &case.first)),
+        ("report", print_bytes(&case.report)),
+        ("scratch", print_words(&case.scratch)),
+        ("result", case.result.to_string()),
+        ("after", print_words_or_same(&case.after, &case.scratch)),
+    ];
+    print_lines(&lines)
+}
+
 fn print_lines(lines: &[(&str, String)]) -> String {
     lines.iter().map(|(key, text)| format!("{key} {text}").trim_end().to_string() + "\n").collect()
+}
+
+/// Bytes in hex without spaces, `-` for none.
+fn print_bytes(bytes: &[u8]) -> String {
+    if bytes.is_empty() {
+        return "-".to_string();
+    }
+    bytes.iter().map(|byte| format!("{byte:02x}")).collect()
+}
+
+fn print_words_or_same(words: &[u16], others: &[u16]) -> String {
+    if words == others {
+        "same".to_string()
+    } else {
+        print_words(words)
+    }
 }
 
 /// Three or more equal words, or bytes, are printed as one; two are printed as they are.

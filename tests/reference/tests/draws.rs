@@ -2,7 +2,7 @@
 
 mod common;
 
-use std::collections::BTreeSet;
+use std::collections::{BTreeMap, BTreeSet};
 
 use common::*;
 use reference::cards_of_length;
@@ -10,8 +10,9 @@ use reference::cases::maps;
 use reference::image::Image;
 use reference::judge::{first_damage, Line};
 use reference::layout::card_of;
-use reference::undamaged_but_cover;
-use reference::vectors::{parse, print, Case, FinishCase};
+use reference::reports::reports;
+use reference::vectors::{parse, print, Case, FinishCase, ReportCase};
+use reference::{scratch_words, undamaged_but_cover};
 
 fn finish_cases(cases: &[Case]) -> Vec<&FinishCase> {
     let mut finishes = Vec::new();
@@ -50,6 +51,41 @@ fn maps_show_every_result() {
     }
     let lengths = maps(4, 400).filter(|case| cards_of_length(case.image.len()).is_none());
     assert!(lengths.count() >= 10);
+}
+
+#[test]
+fn a_seed_gives_the_same_reports() {
+    let cases = |seed| reports(seed, 64).map(Case::Report).collect::<Vec<_>>();
+    assert_eq!(cases(5), cases(5));
+    assert_ne!(cases(5), cases(6));
+    let printed: String = cases(5).iter().map(print).collect();
+    assert_eq!(parse(&printed).unwrap(), cases(5));
+}
+
+/// Every number often, in many cases and in the few of the gate; and misfits of each of the four slices.
+#[test]
+fn reports_show_every_result() {
+    let results = |cases: &[ReportCase]| {
+        let mut results = BTreeMap::new();
+        cases.iter().for_each(|case| *results.entry(case.result).or_insert(0) += 1);
+        results
+    };
+    let cases: Vec<ReportCase> = reports(4, 3_200).collect();
+    let seen = results(&cases);
+    assert_eq!(seen.keys().copied().collect::<Vec<_>>(), [0, 1, 2, 12, 13, 14]);
+    assert!(seen.values().all(|&cases| cases >= 200), "{seen:?}");
+    assert_eq!(results(&reports_of_the_gate()).len(), 6);
+    let fits = |words: &[u16]| cards_of_length(words.len()).is_some();
+    let misfits: [fn(&ReportCase) -> bool; 5] = [
+        |case| !case.report.len().is_multiple_of(4),
+        |case| case.scratch.len() != scratch_words(1),
+        |case| case.first.len() != case.second.len(),
+        |case| case.result == 1 && case.first.len() == case.second.len(),
+        |case| case.result == 1 && case.report.len().is_multiple_of(4) && case.scratch.len() == scratch_words(1),
+    ];
+    assert!(misfits.iter().all(|is_misfit| cases.iter().filter(|case| is_misfit(case)).count() >= 20));
+    let one_fits = |test: fn(bool, bool) -> bool| cases.iter().any(|case| test(fits(&case.first), fits(&case.second)));
+    assert!(one_fits(|first, second| first && !second) && one_fits(|first, second| second && !first));
 }
 
 #[test]

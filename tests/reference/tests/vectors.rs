@@ -6,10 +6,10 @@ use reference::both_rules::{both_rules, events};
 use reference::cases::otherwise_by_lowest;
 use reference::record::{records, DUE, NEW, RECORD_BYTES};
 use reference::vectors::{
-    parse, parse_batches, parse_maps, parse_older, parse_older_batches, print, BatchCase, Case, UNTOUCHED,
-    UNTOUCHED_BYTE,
+    parse, parse_batches, parse_maps, parse_older, parse_older_batches, parse_reports, print, BatchCase, Case,
+    UNTOUCHED, UNTOUCHED_BYTE,
 };
-use reference::{batch_by, cover, finish, service_map, undamaged_but_cover, Placing};
+use reference::{batch_by, cover, finish, judge_report, service_map, undamaged_but_cover, Placing};
 
 const BATCHES: &str = include_str!("../../vectors/batches.txt");
 const DUES: &str = include_str!("../../vectors/document_02/01-i.txt");
@@ -17,6 +17,7 @@ const WIPING: &str = include_str!("../../vectors/document_02/02-ii.txt");
 const MAPS: &str = include_str!("../../vectors/document_02/03-iii.txt");
 const DUES_IN_BATCHES: &str = include_str!("../../vectors/document_02/04-iv.txt");
 const TIGHT: &str = include_str!("../../vectors/document_02/05-v.txt");
+const REPORTS: &str = include_str!("../../vectors/document_02/06-vi.txt");
 const FINISHES: &str = include_str!("../../vectors/finishes.txt");
 
 /// The reference's answers and image for a case, whose result must be right.
@@ -141,6 +142,20 @@ fn maps() {
     assert_eq!(signs, [('.', 1770), ('o', 442), ('#', 201), ('-', 1043)].into());
 }
 
+/// Cases by their result: every number is among them.
+#[test]
+fn reports() {
+    let mut results = BTreeMap::new();
+    for case in parse_reports(REPORTS).unwrap() {
+        let mut scratch = case.scratch.clone();
+        let result = judge_report(&case.first, &case.second, &case.report, &mut scratch);
+        assert_eq!(result, case.result, "result of {}", case.name);
+        assert!(scratch == case.after, "scratch of {}", case.name);
+        *results.entry(result).or_insert(0) += 1;
+    }
+    assert_eq!(results, [(0, 26), (1, 12), (2, 8), (12, 14), (13, 7), (14, 3)].into());
+}
+
 #[test]
 fn finishes() {
     let (cases, left_out) = parse_older(FINISHES).unwrap();
@@ -169,7 +184,7 @@ fn a_finish_that_follows_all_is_caught() {
 
 #[test]
 fn printing_and_parsing_agree() {
-    for text in [BATCHES, DUES, WIPING, MAPS, DUES_IN_BATCHES, TIGHT, FINISHES] {
+    for text in [BATCHES, DUES, WIPING, MAPS, DUES_IN_BATCHES, TIGHT, REPORTS, FINISHES] {
         let cases = parse(text).unwrap();
         let printed: String = cases.iter().map(print).collect();
         assert_eq!(parse(&printed).unwrap(), cases);

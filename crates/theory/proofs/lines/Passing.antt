@@ -10,8 +10,9 @@ use Rattle.model.specs.Image.{Image, fits, image, imageOf, parts, words}
 use Rattle.model.specs.Undamaged.{undamaged, judgeAt}
 use Rattle.model.proofs.Laws.{first-none}
 use Rattle.model.proofs.Words.{Fits, parts-fit, parts-words, words-fit}
-use Rattle.theory.specs.Lines.{Sizes, Passes}
-use Rattle.theory.proofs.lines.Judged.{undamaged-use, undamaged-make}
+use Rattle.model.proofs.Sited.{Sited, sited}
+use Rattle.theory.specs.Lines.{Sizes, Sound, Passes}
+use Rattle.theory.proofs.lines.Judged.{sound-make, undamaged-use, undamaged-make}
 use Rattle.theory.proofs.lines.Sizes.{fits-sizes, lines-fits}
 
 pub parts-sizes : (w : ℕ) (ws : List ℕ) → fits w (length ws) ≡ true → Sizes (parts w ws)
@@ -36,3 +37,8 @@ unfolding judgeAt first
 judge-make w m p =
     let e : fits w (length (words m)) ≡ true = subst (λ x. fits x (length (words m)) ≡ true) (p .same-width) (words-fit m (passes-fit w m p)) in
     rw (e, ap undamaged (words-round w m p) ∙ undamaged-make m (p .is-undamaged))
+
+-- ---- a sound image is sited
+
+pub sited-of : (m : Image) → Fits m → Sound m → Sited m
+sited-of m f s = rw (parts-words m f) at (sited (m .width) (words m) (words-fit m f) (rw (parts-words m f) (sound-make m s)))

@@ -16,7 +16,7 @@ use Rattle.theory.proofs.lines.Passing.{judge-use, judge-make}
 
 -- ---- one step
 
-step-stays : (rule : Placing) (m : Image) (s : Step) → Undamaged m → Keeps m ((step rule m s) .image)
+pub step-stays : (rule : Placing) (m : Image) (s : Step) → Undamaged m → Keeps m ((step rule m s) .image)
 step-stays rule m s u = step-cases rule m s (Keeps m) (u, refl, refl) (λ n k. kind-keeps rule m s u n)
 
 pub step-keeps : (rule : Placing) (m : Image) (s : Step) → Undamaged m → Undamaged ((step rule m s) .image)

@@ -6,7 +6,7 @@ use std::fmt::Display;
 use std::io::Read;
 
 use reference::cases::otherwise_by_lowest;
-use reference::vectors::{parse, BatchCase, Case, FinishCase, MapCase, UNTOUCHED, UNTOUCHED_BYTE};
+use reference::vectors::{parse, BatchCase, Case, FinishCase, MapCase, ReportCase, UNTOUCHED, UNTOUCHED_BYTE};
 
 const HEAD: &str = "\
 use mathlib.Core.Path.{_≡_, refl}
@@ -16,6 +16,7 @@ use lib.ListN.{replicate}
 use Rattle.model.specs.Mutate.{lowest}
 use Rattle.model.specs.Batch.{Batch, Finished, judgeOf, batchAt, batchOf, finishOf}
 use Rattle.model.specs.Map.{Mapped, mapOf}
+use Rattle.model.specs.Report.{Reported, reportOf}
 use Rattle.model.specs.Open.{model-open}
 
 runs : List ℕ → List ℕ
@@ -34,6 +35,7 @@ fn main() {
             Case::Batch(case) => print_batch(number, case),
             Case::Finish(case) => print_finish(number, case),
             Case::Map(case) => print_map(number, case),
+            Case::Report(case) => print_report(number, case),
         }
     }
 }
@@ -65,6 +67,13 @@ fn print_map(number: usize, case: &MapCase) {
     let call = format!("mapOf {} (replicate {} {UNTOUCHED_BYTE})", runs(&case.image), case.room);
     let gives = format!("record {{ result = {}; output = {} }}", case.result, runs(&case.given));
     print_theorem(number, "map", &case.name, "Mapped", &call, &gives);
+}
+
+fn print_report(number: usize, case: &ReportCase) {
+    let [first, second, scratch] = [&case.first, &case.second, &case.scratch].map(|words| runs(words));
+    let call = format!("reportOf {first} {second} {} {scratch}", runs(&case.report));
+    let gives = format!("record {{ result = {}; scratch = {} }}", case.result, runs(&case.after));
+    print_theorem(number, "report", &case.name, "Reported", &call, &gives);
 }
 
 fn print_theorem(number: usize, what: &str, name: &str, kind: &str, call: &str, gives: &str) {

@@ -8,7 +8,8 @@ use reference::batch;
 use reference::cases::{case, maps};
 use reference::made::fresh_image;
 use reference::random::Random;
-use reference::vectors::{BatchCase, Case, MapCase};
+use reference::reports::reports;
+use reference::vectors::{BatchCase, Case, MapCase, ReportCase};
 
 pub use reference::record::*;
 pub use reference::Record;
@@ -112,7 +113,7 @@ fn seed_and_count() -> (u64, u64) {
     (seed.parse().unwrap(), count.parse().unwrap())
 }
 
-/// The cases that the gate has the checker compute, ten at a time as `tests/definitions` draws them.
+/// The cases that the gate has the checker compute, in files as `tests/definitions` draws them.
 pub fn cases_of_the_gate() -> Vec<Case> {
     let (seed, count) = seed_and_count();
     gate_cases(seed, count)
@@ -121,10 +122,21 @@ pub fn cases_of_the_gate() -> Vec<Case> {
 /// The maps that it computes, one for four of these cases.
 pub fn maps_of_the_gate() -> Vec<MapCase> {
     let (seed, count) = seed_and_count();
-    let count = count.div_ceil(4);
-    (0..count).step_by(10).flat_map(|from| maps(seed + from, count.min(from + 10) - from)).collect()
+    in_files(10, seed, count.div_ceil(4), maps)
+}
+
+/// The reports that it computes, two for each of these cases.
+pub fn reports_of_the_gate() -> Vec<ReportCase> {
+    let (seed, count) = seed_and_count();
+    in_files(32, seed, 2 * count, reports)
 }
 
 pub fn gate_cases(seed: u64, count: u64) -> Vec<Case> {
-    (0..count).step_by(10).flat_map(|from| draw(seed + from, count.min(from + 10) - from)).collect()
+    in_files(10, seed, count, draw)
+}
+
+/// So many at most in a file, and each file from a seed of its own.
+fn in_files<T, I: IntoIterator<Item = T>>(most: u64, seed: u64, count: u64, draw: impl Fn(u64, u64) -> I) -> Vec<T> {
+    let files = (0..count).step_by(most as usize);
+    files.flat_map(|from| draw(seed + from, most.min(count - from))).collect()
 }

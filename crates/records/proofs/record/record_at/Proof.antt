@@ -10,9 +10,9 @@ returns c =
     let A = c .before .before .before .before .before .before .before .before .args in
     let x = c .before .before .before .before .before .wide .ensures in
     let y = c .before .before .before .wide2 .ensures in
-    let a = c .before .before .field .ensures in
-    let b = c .before .field2 .ensures in
-    let d = c .field3 .ensures in
+    let a = c .before .before .pair .ensures in
+    let b = c .before .pair2 .ensures in
+    let d = c .pair3 .ensures in
     record-is (A .steps .now) (A .at) _ _ _ _ _ (x .0) (y .0) (a .0) (b .0) (d .0) (x .1) (y .1) (a .1) (b .1) (d .1)
 
 pub record-at-spec : {M : Type 1} → statement M

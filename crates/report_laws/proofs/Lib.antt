@@ -1,0 +1,4 @@
+pub mod Stretch
+pub mod Plane
+pub mod Verdict
+pub mod Calls

@@ -1,0 +1,3 @@
+pub mod Stretch
+pub mod Plane
+pub mod Reported

@@ -1,0 +1,194 @@
+// Links followed from pending objects on. An object is pending from the moment at which it is first seen until its links are followed.
+// The hints are a stack of objects that may be pending; they only spare a walk over the plane of those that are.
+ghost use mathlib.Core.Path.{_≡_};
+ghost use Prim.Native.Nat.{_+_, _*_, _/_, _≤_, _<_};
+ghost use lib.ListN.{length, replicate};
+ghost use Rattle.model.specs.Image.{imageOf};
+ghost use Rattle.theory.specs.Lines.{Sound};
+ghost use Rattle.image_laws.specs.Sized.{Sized};
+ghost use Rattle.image.specs.Layout.{width, most};
+ghost use Rattle.search_laws.specs.Search.{Planes, pending, Visited, NextPending, Search, toDo, Goes, Held, NonePending, ChainBits};
+use image::layout::BITS;
+use image::layout::Word;
+
+// The link a is followed: the object is seen; for the first time: it becomes pending, and a hint if there is room.
+fn visit(s: &mut [Word], k: usize, hints: &mut [Word], n: usize, a: usize) -> usize
+    requires { ⌜ Planes width k (now s) ⌝ }
+    requires { ⌜ a < 64 * k ⌝ }
+    requires { ⌜ n ≤ length (now hints) ⌝ }
+    ensures { λ r. ⌜ Visited width k (now (s .entry)) n a (now (s .exit)) r ⌝ }
+    ensures { λ r. ⌜ r ≤ length (now (hints .entry)) ⌝ }
+{
+    if sets::in_set(s, a) {
+        return n;
+    }
+    crate::planes::add(s, a);
+    crate::planes::add(s, 64 * k + a);
+    if n < hints.len() {
+        hints[n] = a as Word;
+        return n + 1;
+    }
+    n
+}
+
+// All links of g are followed, then g is pending no more.
+fn settle(im: &[Word], k: usize, s: &mut [Word], hints: &mut [Word], n: usize, g: usize) -> usize
+    requires { ⌜ Sized width k (now im) ⌝ }
+    requires { ⌜ Sound (imageOf width k (now im)) ⌝ }
+    requires { ⌜ Search width k (imageOf width k (now im)) (now s) ⌝ }
+    requires { ⌜ (g < 64 * k) × (pending width k (now s) g ≡ 1) ⌝ }
+    requires { ⌜ n ≤ length (now hints) ⌝ }
+    ensures { λ r. ⌜ Goes width k (imageOf width k (now (im .entry))) (now (s .entry)) (now (s .exit)) 1 ⌝ }
+    ensures { λ r. ⌜ toDo width k (now (s .exit)) + r < toDo width k (now (s .entry)) + n ⌝ }
+    ensures { λ r. ⌜ r ≤ length (now (hints .entry)) ⌝ }
+{
+    let c = image::sections::links(im, k, g);
+    let mut h = n;
+    for i in 0..c {
+        let a = image::sections::word(im, k, g, 2 + i) as usize;
+        h = visit(s, k, hints, h, a);
+    }
+    crate::planes::take_out(s, 64 * k + g);
+    h
+}
+
+// The last hint: its object is settled if it is pending.
+fn settle_hint(im: &[Word], k: usize, s: &mut [Word], hints: &mut [Word], n: usize) -> usize
+    requires { ⌜ Sized width k (now im) ⌝ }
+    requires { ⌜ Sound (imageOf width k (now im)) ⌝ }
+    requires { ⌜ Search width k (imageOf width k (now im)) (now s) ⌝ }
+    requires { ⌜ (1 ≤ n) × (n ≤ length (now hints)) ⌝ }
+    ensures { λ r. ⌜ Goes width k (imageOf width k (now (im .entry))) (now (s .entry)) (now (s .exit)) 0 ⌝ }
+    ensures { λ r. ⌜ toDo width k (now (s .exit)) + r < toDo width k (now (s .entry)) + n ⌝ }
+    ensures { λ r. ⌜ r ≤ length (now (hints .entry)) ⌝ }
+{
+    let h = n - 1;
+    let g = hints[h] as usize;
+    if 64 * k <= g {
+        return h;
+    }
+    if sets::in_set(s, 64 * k + g) {
+        return settle(im, k, s, hints, h, g);
+    }
+    h
+}
+
+// The objects that hints name, until there is no hint.
+fn drain(im: &[Word], k: usize, s: &mut [Word], hints: &mut [Word], n: usize)
+    requires { ⌜ Sized width k (now im) ⌝ }
+    requires { ⌜ Sound (imageOf width k (now im)) ⌝ }
+    requires { ⌜ Search width k (imageOf width k (now im)) (now s) ⌝ }
+    requires { ⌜ n ≤ length (now hints) ⌝ }
+    ensures { λ _. ⌜ Goes width k (imageOf width k (now (im .entry))) (now (s .entry)) (now (s .exit)) 0 ⌝ }
+{
+    let mut h = n;
+    while h != 0 {
+        h = settle_hint(im, k, s, hints, h);
+    }
+}
+
+// The lowest pending granule, or 64 * k.
+fn next_pending(s: &[Word], k: usize) -> usize
+    requires { ⌜ Planes width k (now s) ⌝ }
+    ensures { λ r. ⌜ NextPending width k (now (s .entry)) r ⌝ }
+{
+    let p = 64 * k / BITS;
+    for i in 0..p {
+        let x = s[p + i];
+        if x != 0 {
+            return BITS * i + crate::planes::lowest(x);
+        }
+    }
+    64 * k
+}
+
+// The granules of word i, the bits of word, become hints, while there is room.
+fn hint_word(hints: &mut [Word], n: usize, i: usize, word: Word) -> usize
+    requires { ⌜ n ≤ length (now hints) ⌝ }
+    requires { ⌜ i < 64 * most / width ⌝ }
+    ensures { λ r. ⌜ r ≤ length (now (hints .entry)) ⌝ }
+{
+    let mut x = word;
+    let mut h = n;
+    while x != 0 {
+        if h == hints.len() {
+            return h;
+        }
+        let j = crate::planes::lowest(x);
+        hints[h] = (BITS * i + j) as Word;
+        h += 1;
+        x &= x - 1;
+    }
+    h
+}
+
+// Pending granules become hints, the lowest first, while there is room.
+fn refill(s: &[Word], k: usize, hints: &mut [Word]) -> usize
+    requires { ⌜ Planes width k (now s) ⌝ }
+    ensures { λ r. ⌜ r ≤ length (now (hints .entry)) ⌝ }
+{
+    let p = 64 * k / BITS;
+    let mut n = 0;
+    for i in 0..p {
+        n = hint_word(hints, n, i, s[p + i]);
+    }
+    n
+}
+
+// What registers hold is seen.
+fn hold_all(im: &[Word], k: usize, s: &mut [Word], hints: &mut [Word]) -> usize
+    requires { ⌜ Sized width k (now im) ⌝ }
+    requires { ⌜ Sound (imageOf width k (now im)) ⌝ }
+    requires { ⌜ Search width k (imageOf width k (now im)) (now s) ⌝ }
+    ensures { λ r. ⌜ Held width k (imageOf width k (now (im .entry))) (now (s .exit)) ⌝ }
+    ensures { λ r. ⌜ r ≤ length (now (hints .entry)) ⌝ }
+{
+    let mut h = 0;
+    for i in 0..256 {
+        let a = image::sections::reg_word(im, k, i) as usize;
+        h = visit(s, k, hints, h, a);
+    }
+    h
+}
+
+// The pending object g is settled, then those that hints name.
+fn pass(im: &[Word], k: usize, s: &mut [Word], hints: &mut [Word], g: usize)
+    requires { ⌜ Sized width k (now im) ⌝ }
+    requires { ⌜ Sound (imageOf width k (now im)) ⌝ }
+    requires { ⌜ Search width k (imageOf width k (now im)) (now s) ⌝ }
+    requires { ⌜ (g < 64 * k) × (pending width k (now s) g ≡ 1) ⌝ }
+    ensures { λ _. ⌜ Goes width k (imageOf width k (now (im .entry))) (now (s .entry)) (now (s .exit)) 1 ⌝ }
+{
+    let n = settle(im, k, s, hints, 0, g);
+    drain(im, k, s, hints, n);
+    let h = refill(s, k, hints);
+    drain(im, k, s, hints, h);
+}
+
+// Until nothing is pending.
+fn follow_all(im: &[Word], k: usize, s: &mut [Word], hints: &mut [Word])
+    requires { ⌜ Sized width k (now im) ⌝ }
+    requires { ⌜ Sound (imageOf width k (now im)) ⌝ }
+    requires { ⌜ Search width k (imageOf width k (now im)) (now s) ⌝ }
+    ensures { λ _. ⌜ Goes width k (imageOf width k (now (im .entry))) (now (s .entry)) (now (s .exit)) 0 ⌝ }
+    ensures { λ _. ⌜ NonePending width k (now (s .exit)) ⌝ }
+{
+    let mut g = next_pending(s, k);
+    while g < 64 * k {
+        pass(im, k, s, hints, g);
+        g = next_pending(s, k);
+    }
+}
+
+// From a scratch of zeros.
+pub fn reach_with(im: &[Word], k: usize, s: &mut [Word], hints: &mut [Word])
+    requires { ⌜ Sized width k (now im) ⌝ }
+    requires { ⌜ Sound (imageOf width k (now im)) ⌝ }
+    requires { ⌜ now s ≡ replicate (2 * (64 * k / width)) 0 ⌝ }
+    ensures { λ _. ⌜ ChainBits width k (imageOf width k (now (im .entry))) (now (s .exit)) ⌝ }
+{
+    crate::planes::add(s, 0);
+    let n = hold_all(im, k, s, hints);
+    drain(im, k, s, hints, n);
+    follow_all(im, k, s, hints);
+}

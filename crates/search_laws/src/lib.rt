@@ -1,0 +1,1 @@
+// The laws of the search for what chains reach, for a width left open.
