@@ -51,7 +51,8 @@ enum show_store_result {
     SHOW_STORE_LOST_MISSED = 14   /* an object that was lost already at the begin lies in no stretch */
 };
 
-/* Kinds of step, with the fields that each one names; the others must be 0. The value is 0 unless one is given. */
+/* Kinds of step, with the fields that each one names; the others must be 0. The value is 0 unless one is given. After an accepted begin and
+ * up to the next accepted finish at most 768 * k trace and clean steps are accepted, of all tracers together, in a store of k cards. */
 enum show_step {
     SHOW_STEP_NEW = 1,      /* player, a, b, c: register a gets an object of b granules and c links, in the tightest run; value: its granule */
     SHOW_STEP_LOAD = 2,     /* player, a, b, c: register a gets link c of the object in register b; value: that link */

@@ -2,7 +2,7 @@
 use mathlib.Core.Path.{_≡_, refl, sym, ap, _∙_}
 use mathlib.Core.Logic.{inl, inr}
 use mathlib.Core.Bool.{Bool, true, false, cond}
-use Prim.Native.Nat.{ℕ, zero, suc, _+_, _≤_, _<_}
+use Prim.Native.Nat.{ℕ, zero, suc, _+_, _*_, _≤_, _<_}
 use native.Mathlib.Decide.{ℕ-discrete}
 use native.Mathlib.Omega.{arith}
 use Rattle.model.specs.Base.{sumBelow, howMany}
@@ -23,6 +23,42 @@ sum-change v u (suc n) a h f = elim (ℕ-discrete a n) [
   | no e ↦ omega (arith, sum-change v u n a (omega arith) (λ i l. f i (omega arith)), f n (omega arith) (λ z. e (sym z)))
 ]
 
+-- no summand is more
+pub sum-most : (v u : ℕ → ℕ) (n : ℕ) → ((i : ℕ) → i < n → v i ≤ u i) → sumBelow v n ≤ sumBelow u n
+unfolding sumBelow
+sum-most v u zero f = omega arith
+sum-most v u (suc n) f = omega (arith, f n (omega arith), sum-most v u n (λ i h. f i (omega arith)))
+
+-- and one is less by d
+pub sum-more : (v u : ℕ → ℕ) (n a d : ℕ) → a < n → ((i : ℕ) → i < n → v i ≤ u i) → v a + d ≤ u a → sumBelow v n + d ≤ sumBelow u n
+unfolding sumBelow
+sum-more v u zero a d h f l = absurd (omega arith)
+sum-more v u (suc n) a d h f l = elim (ℕ-discrete a n) [
+  | yes e ↦ omega (arith, sum-most v u n (λ i h. f i (omega arith)), rw e at l)
+  | no e ↦ omega (arith, sum-more v u n a d (omega arith) (λ i h. f i (omega arith)) l, f n (omega arith))
+]
+
+pub sum-zero : (v : ℕ → ℕ) (n : ℕ) → ((i : ℕ) → i < n → v i ≡ 0) → sumBelow v n ≡ 0
+unfolding sumBelow
+sum-zero v zero f = refl
+sum-zero v (suc n) f = rw (f n (omega arith), sum-zero v n (λ i h. f i (omega arith))) refl
+
+pub sum-add : (v u : ℕ → ℕ) (n : ℕ) → sumBelow (λ i. v i + u i) n ≡ sumBelow v n + sumBelow u n
+unfolding sumBelow
+sum-add v u zero = refl
+sum-add v u (suc n) = omega (arith, sum-add v u n)
+
+pub sum-times : (c : ℕ) (v : ℕ → ℕ) (n : ℕ) → sumBelow (λ i. c * v i) n ≡ c * sumBelow v n
+unfolding sumBelow
+sum-times c v zero = omega arith
+sum-times c v (suc n) = omega (arith, sum-times c v n)
+
+-- what counts for a test that passes no more often, and is no more, is no more
+pub cond-most : (a b : Bool) (x y : ℕ) → (a ≡ true → b ≡ true) → x ≤ y → cond a x 0 ≤ cond b y 0
+cond-most true true x y f l = l
+cond-most true false x y f l = false≢ (f refl)
+cond-most false b x y f l = omega arith
+
 -- the same numbers pass
 pub howMany-same : (p q : ℕ → Bool) (n : ℕ) → ((i : ℕ) → i < n → p i ≡ q i) → howMany p n ≡ howMany q n
 unfolding howMany
@@ -38,8 +74,7 @@ howMany-more p q n a h x y f =
 -- where none passes, and where some number does
 pub howMany-none : (p : ℕ → Bool) (n : ℕ) → ((i : ℕ) → i < n → p i ≡ false) → howMany p n ≡ 0
 unfolding howMany
-howMany-none p zero f = refl
-howMany-none p (suc n) f = rw (f n (omega arith), howMany-none p n (λ i h. f i (omega arith))) refl
+howMany-none p n f = sum-zero _ n (λ i h. ap (λ b. cond b 1 0) (f i h))
 
 pub none-howMany : (p : ℕ → Bool) (n : ℕ) → howMany p n ≡ 0 → (i : ℕ) → i < n → p i ≡ true → ⊥
 unfolding howMany

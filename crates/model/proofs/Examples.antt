@@ -12,10 +12,11 @@ use Rattle.model.specs.Batch.{judgeOf, finishOf}
 use Rattle.model.specs.Map.{mapOf}
 use Rattle.model.specs.Report.{stretchRecord, reportOf}
 use Rattle.model.specs.Plain.{old, plainOf, feed, plainRun, readings, SameAnswers}
+use Rattle.model.specs.Bound.{workIn}
 use Rattle.model.specs.BothRules.{shared}
 use Rattle.model.specs.Open.{model-open}
 use Rattle.model.specs.Cases.{bytes, oneCard, answered, ok, refused, cases-open}
-use Rattle.model.specs.Examples.{at, linkBehind, owedByOne, owedAndHeld, allFreed, scattered, longCue, duesNear, inGaps, nibbled, wiping, wipingSaid, miscounted, shown, shownSheet, crossing, crossingSheet, atBegin, atFinish, reportWords, reportResult, dueBefore, again, againSaid, examples-open}
+use Rattle.model.specs.Examples.{at, linkBehind, owedByOne, owedAndHeld, allFreed, scattered, longCue, duesNear, inGaps, nibbled, wiping, wipingSaid, miscounted, shown, shownSheet, crossing, crossingSheet, atBegin, atFinish, reportWords, reportResult, dueBefore, again, againSaid, dragging, examples-open}
 
 -- a link before the next one of an object in hand: Cover fails, and a finish, which goes by object, keeps what it links to
 pub behind-sound : sound (parts 16 linkBehind) ≡ true
@@ -172,3 +173,8 @@ again-plain = refl
 pub again-same : SameAnswers (parts 16 oneCard) again
 unfolding SameAnswers
 again-same = again-read ∙ sym again-plain
+
+-- two links: of five traces and six cleans the last are refused; four traces and five cleans count, 2 for the card, 3 for the object and 2 for each link
+pub dragged-two : workIn (dragging 1 2 5 6) ≡ 9
+unfolding model-open cases-open examples-open
+dragged-two = refl

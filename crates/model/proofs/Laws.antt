@@ -98,6 +98,12 @@ unfolding any
 any-make zero p i h e = absurd (omega arith)
 any-make (suc n) p i h e = elim (ℕ-discrete i n) [ yes q ↦ or-right (any n p) (p n) (rw q at e) | no q ↦ rw (any-make n p i (omega arith) e) ]
 
+-- the same tests
+pub any-same : (n : ℕ) (p q : ℕ → Bool) → ((i : ℕ) → i < n → p i ≡ q i) → any n p ≡ any n q
+unfolding any
+any-same zero p q f = refl
+any-same (suc n) p q f = rw (f n (omega arith), any-same n p q (λ i h. f i (omega arith)))
+
 pub every-use : (l : List Bool) → every l ≡ true → (i : ℕ) → getD l i true ≡ true
 unfolding every
 every-use [] e i = refl

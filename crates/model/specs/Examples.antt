@@ -1,5 +1,5 @@
 -- Worked images and lists that the starred cases do not reach: a finish on an image without Cover, Cover and its two players, runs joined, runs
--- too short to be usable, news by either rule, cards wiped, maps, reports; and a history with the plain store beside it.
+-- too short to be usable, news by either rule, cards wiped, maps, reports; a history with the plain store beside it, and long cycles.
 use mathlib.Core.Bool.{cond}
 use mathlib.Core.List.{List, [], _∷_, _++_}
 use Prim.Native.Nat.{ℕ, zero, suc, _+_, _*_}
@@ -164,7 +164,13 @@ againSaid =
     ∷ record { number = 6; value = as-is 0 }
     ∷ []
 
+-- An object of b granules and c links, the only one of the store: begin, scan, t traces; nil is stored in it, and the barrier paid; u cleans.
+unfoldable pub dragging : ℕ → ℕ → ℕ → ℕ → List Event
+dragging b c t u =
+    let rs : List (List ℕ) = (rec 1 0 0 b c ∷ rec 9 0 0 0 0 ∷ rec 10 0 0 0 0 ∷ []) ++ (table t (λ i. rec 11 0 0 0 0) ++ ((rec 3 0 0 0 1 ∷ rec 4 0 0 0 0 ∷ []) ++ table u (λ i. rec 12 0 0 0 0))) in
+    history tightest 16 oneCard (record { steps = bytes rs; answers = replicate (2 * length rs) 0 } ∷ [])
+
 -- opens all of these
 unfoldable pub examples-open : ℕ
-unfolding at left inHand linkBehind traced owedByOne owedAndHeld allFreed byTurns scattered longCue nearEight duesNear gaps inGaps fourAndTwo nibbled wiping wipingSaid miscounted shown shownSheet crossing crossingSheet twoLost atBegin atFinish reportWords reportResult dueBefore again againSaid
+unfolding at left inHand linkBehind traced owedByOne owedAndHeld allFreed byTurns scattered longCue nearEight duesNear gaps inGaps fourAndTwo nibbled wiping wipingSaid miscounted shown shownSheet crossing crossingSheet twoLost atBegin atFinish reportWords reportResult dueBefore again againSaid dragging
 examples-open = 0

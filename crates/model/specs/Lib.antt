@@ -15,6 +15,7 @@ pub mod Cases
 pub mod Examples
 pub mod Plain
 pub mod Claim
+pub mod Bound
 pub mod BothRules
 pub mod OwnReport
 pub mod Open

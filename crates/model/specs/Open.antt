@@ -11,9 +11,10 @@ use Rattle.model.specs.Map.{map-open}
 use Rattle.model.specs.Report.{report-open}
 use Rattle.model.specs.Plain.{plain-open}
 use Rattle.model.specs.Claim.{claim-open}
+use Rattle.model.specs.Bound.{bound-open}
 use Rattle.model.specs.BothRules.{both-rules-open}
 use Rattle.model.specs.OwnReport.{own-report-open}
 
 unfoldable pub model-open : ℕ
-unfolding undamaged-open records-open mutate-open collect-open finish-open steps-open batch-open map-open report-open plain-open claim-open both-rules-open own-report-open
+unfolding undamaged-open records-open mutate-open collect-open finish-open steps-open batch-open map-open report-open plain-open claim-open bound-open both-rules-open own-report-open
 model-open = 0

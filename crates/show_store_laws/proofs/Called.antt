@@ -1,4 +1,4 @@
--- What the contract of `batch` says over a row of calls: demand 3, and an undamaged image is handed back undamaged.
+-- What the contract of `batch` says over a row of calls: demand 3, how long a cycle can drag on, and an undamaged image is handed back undamaged.
 use mathlib.Core.Path.{_≡_, refl, ap, _∙_}
 use mathlib.Core.List.{List, _∷_, map, List·Memᴰ, List·Memᴰ·cases-cons}
 use mathlib.Core.Logic.{inl, inr}
@@ -10,6 +10,7 @@ use Rattle.model.specs.Claim.{Lent, eventsOf, history, results}
 use Rattle.model.specs.Undamaged.{judgeAt}
 use Rattle.theory.proofs.steps.Kept.{batch-judged}
 use Rattle.theory.proofs.Demand.{demand-three}
+use Rattle.theory.proofs.Bound.{cycle-bound}
 use Rattle.show_store_laws.specs.Called.{CallsHold, Called, none, more, writtenBy, written}
 use Rattle.show_store_laws.proofs.Run.{answers-append}
 
@@ -42,4 +43,4 @@ calls-undamaged {w} {ws} j (more b q bs rs e c) r k =
     elim (List·Memᴰ·cases-cons k) [ inl x ↦ rw x left | inr x ↦ calls-undamaged left c r x ]
 
 pub calls-hold : (w : ℕ) (ws : List ℕ) (bs : List Lent) (rs : List Batch) → judgeAt w ws ≡ 0 → Called w ws bs rs → CallsHold w ws bs rs
-calls-hold w ws bs rs j c = record { claim = demand-three tightest w ws bs j; same-results = calls-results c; same-answers = calls-answers c; undamaged = calls-undamaged j c }
+calls-hold w ws bs rs j c = record { claim = demand-three tightest w ws bs j; bound = cycle-bound tightest w ws bs j; same-results = calls-results c; same-answers = calls-answers c; undamaged = calls-undamaged j c }

@@ -7,6 +7,7 @@ use Rattle.model.specs.Undamaged.{judgeAt}
 use Rattle.model.specs.Mutate.{tightest}
 use Rattle.model.specs.Steps.{answersOf}
 use Rattle.model.specs.Claim.{Lent, history, results, Claim}
+use Rattle.model.specs.Bound.{CycleBound}
 
 -- batches lent from the image ws on, and what each gave and left; "each batch gets the image that the last left"
 pub data Called (w : ℕ) : List ℕ → List Lent → List Batch → Type 0 where
@@ -23,10 +24,11 @@ unfoldable pub written : List Batch → List ℕ
 written [] = []
 written (r ∷ rs) = writtenBy r (r .result) ++ written rs
 
--- what holds of a row of calls from an undamaged image: demand 3 of `docs/DEMANDS.md`, where the claim's results and answers are those that the
--- calls gave and wrote, and every image handed back is undamaged
+-- what holds of a row of calls from an undamaged image: demand 3 of `docs/DEMANDS.md` and document 02's bound of a cycle, where the results and
+-- answers of the history are those that the calls gave and wrote, and every image handed back is undamaged
 pub record CallsHold (w : ℕ) (ws : List ℕ) (bs : List Lent) (rs : List Batch) : Type 0 where
   pub claim : Claim tightest w ws bs
+  pub bound : CycleBound tightest w ws bs
   pub same-results : map (λ (r : Batch). r .result) rs ≡ results tightest w ws bs
   pub same-answers : answersOf (history tightest w ws bs) ≡ written rs
   pub undamaged : (r : Batch) → List·Memᴰ r rs → judgeAt w (r .image) ≡ 0

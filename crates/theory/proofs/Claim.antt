@@ -6,12 +6,12 @@ use Rattle.model.specs.Image.{Image, parts, words}
 use Rattle.model.specs.Undamaged.{judgeAt}
 use Rattle.model.specs.Records.{Step}
 use Rattle.model.specs.Mutate.{Placing}
-use Rattle.model.specs.Steps.{run, after}
-use Rattle.model.specs.Claim.{Lent, history, Claim}
+use Rattle.model.specs.Steps.{run}
+use Rattle.model.specs.Claim.{Lent, Claim}
 use Rattle.model.specs.Plain.{SameAnswers}
-use Rattle.theory.specs.Events.{Successive, Steady, recordsRun}
-use Rattle.theory.proofs.cycle.Linked.{run-linked, linked-fine, done-ok, begin-numbers, finish-numbers, all-finish, unreached-freed}
-use Rattle.theory.proofs.Histories.{history-run, results-run, none-refused}
+use Rattle.theory.specs.Events.{Steady, recordsRun}
+use Rattle.theory.proofs.cycle.Linked.{linked-fine, done-ok, begin-numbers, finish-numbers, all-finish, unreached-freed}
+use Rattle.theory.proofs.Histories.{history-run, results-run, none-refused, history-linked}
 
 -- where images in order are judged 0, and the plain store answers lists of steps as the real one
 pub claim : (rule : Placing) (w : ℕ) (Ok : Image → Type 0) → Steady rule Ok → ((m : Image) → Ok m → judgeAt w (words m) ≡ 0)
@@ -19,7 +19,7 @@ pub claim : (rule : Placing) (w : ℕ) (Ok : Image → Type 0) → Steady rule O
 claim rule w Ok st judged plain ws bs e o =
     let m : Image = parts w ws in
     let h = history-run rule w ws bs e in
-    let linked : Successive rule m (history rule w ws bs) (after m (run rule m (recordsRun w bs))) = rw h (run-linked rule m (recordsRun w bs)) in
+    let linked = history-linked rule w ws bs e in
     record {
       all-undamaged = λ e k. let f = linked-fine rule Ok st linked o e k in (judged (e .got) (f .got-ok), judged (e .done .image) (done-ok rule Ok st e f));
       none-damaged = λ r k. none-refused w bs r (rw (results-run rule w ws bs e) at k);

@@ -16,8 +16,9 @@ use Rattle.model.specs.Steps.{run, after}
 use Rattle.model.specs.Batch.{events, misfit, callNumber, batchWith, batchAt}
 use Rattle.model.specs.Claim.{Lent, eventsOf, history, results}
 use Rattle.model.proofs.Laws.{first-none, bool-cases}
-use Rattle.theory.specs.Events.{badLengths, recordsRun, callResults}
+use Rattle.theory.specs.Events.{badLengths, recordsRun, callResults, Successive}
 use Rattle.theory.specs.Lines.{Passes}
+use Rattle.theory.proofs.cycle.Linked.{run-linked}
 use Rattle.theory.proofs.steps.Kept.{step-passes}
 use Rattle.theory.proofs.steps.Steps.{run-append, run-ok}
 use Rattle.theory.proofs.lines.Passing.{judge-use, judge-make, words-round}
@@ -78,3 +79,7 @@ module _ (rule : Placing) (w : ℕ) where
     | inl t ↦ rw (call-number w ws b e, t) (ap (λ l. 1 ∷ l) (results-run ws bs e))
     | inr t ↦ rw (call-number w ws b e, t) (ap (λ l. 0 ∷ l) (results-run (words (left ws b)) bs (judge-make w _ (left-passes ws b e))))
   ]
+
+  -- its events are linked
+  pub history-linked : (ws : List ℕ) (bs : List Lent) → judgeAt w ws ≡ 0 → Successive rule (parts w ws) (history rule w ws bs) (after (parts w ws) (run rule (parts w ws) (recordsRun w bs)))
+  history-linked ws bs e = rw (history-run ws bs e) (run-linked rule (parts w ws) (recordsRun w bs))

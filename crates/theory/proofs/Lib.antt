@@ -5,9 +5,11 @@ pub mod steps
 pub mod finish
 pub mod cycle
 pub mod plain
+pub mod work
 pub mod Claim
 pub mod InOrder
 pub mod Demand
+pub mod Bound
 pub mod reports
 pub mod Histories
 pub mod BothRules

@@ -14,3 +14,4 @@ pub mod Fields
 pub mod Due
 pub mod Map
 pub mod Report
+pub mod Work

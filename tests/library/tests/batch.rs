@@ -7,7 +7,8 @@ use reference::image::Store;
 use reference::made::{bare, fresh_image, holes, idle, running, starved, STARVED_CARDS};
 use reference::random::Random;
 use reference::record::{Record, RECORD_BYTES, UNDIRTY};
-use reference::vectors::{parse_batches, parse_older, parse_older_batches, BatchCase, Case, UNTOUCHED};
+use reference::vectors::{parse_batches, parse_cycles, parse_older, parse_older_batches, BatchCase, Case, UNTOUCHED};
+use reference::work::work_in;
 use reference::{whole_list, Counts, Placing};
 
 /// A random list of about `count` steps from the image, in random batches, misfits between.
@@ -317,6 +318,18 @@ fn outside_tight() {
     let cases = parse_batches(include_str!("../../vectors/document_02/05-v.txt")).unwrap();
     assert_eq!(cases.len(), 70);
     assert_as_given(cases);
+}
+
+/// Whole cycles, and the trace and clean steps that each accepts.
+#[test]
+fn outside_cycles() {
+    let cases = parse_cycles(include_str!("../../vectors/document_02/07-vii.txt")).unwrap();
+    assert_eq!(cases.len(), 60);
+    let batches = cases.iter().map(|case| case.batch.clone()).collect();
+    for (case, (batch, answers)) in cases.iter().zip(run_vectors(batches)) {
+        assert_eq!(answers, batch.given, "case {}", batch.name);
+        assert_eq!(work_in(&batch.steps, &answers).accepted(), case.work, "case {}", batch.name);
+    }
 }
 
 /// A finish of the library on the outside vectors whose images have Cover too.

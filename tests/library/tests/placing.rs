@@ -2,7 +2,8 @@
 //! many lengths; and both rules, the library by the tightest run and the second implementation by the lowest.
 
 use library::compared::{same, Seen};
-use reference::both_rules::{both_rules, events, lists, Shown};
+use reference::both_rules::{both_rules, lists, Shown};
+use reference::events::events;
 use reference::generate::{batches, list_with_gaps, Pace};
 use reference::image::Store;
 use reference::layout::LARGEST_OBJECT;

@@ -2,60 +2,14 @@
 //! the first new refused for room under one rule only." The check of this for any two implementations of `batch`, and lists for it.
 
 use crate::cases::evolved;
+use crate::events::{Event, Events, List, NO_ROOM};
 use crate::generate::{batches, list_with_gaps, Pace};
 use crate::made::{fresh_image, gaps, running};
 use crate::plain::reading::Reading;
-use crate::plain::record::{is_of_a_player, NEW, RECORD_BYTES};
+use crate::plain::record::is_of_a_player;
 use crate::plain::Value;
 use crate::random::Random;
 use crate::steps::Placing;
-use crate::vectors::UNTOUCHED;
-
-const NO_ROOM: u16 = 9;
-
-/// What a list of batches has come to under one rule: the result of each batch, and of the accepted ones each record with its answer.
-pub struct Events {
-    results: Vec<u16>,
-    records: Vec<Event>,
-}
-
-struct Event {
-    bytes: Vec<u8>,
-    number: u16,
-    value: u16,
-}
-
-impl Event {
-    fn is_new(&self) -> bool {
-        self.bytes[0] == NEW
-    }
-
-    fn is_new_without_room(&self) -> bool {
-        self.is_new() && self.number == NO_ROOM
-    }
-}
-
-/// Runs the batches, given as step bytes and number of answer words, each on the image that the last left.
-pub fn events(
-    first_image: &[u16],
-    batches: &[(Vec<u8>, usize)],
-    mut run: impl FnMut(&mut [u16], &[u8], &mut [u16]) -> u16,
-) -> Events {
-    let mut image = first_image.to_vec();
-    let mut events = Events { results: Vec::new(), records: Vec::new() };
-    for (steps, answer_words) in batches {
-        let mut answers = vec![UNTOUCHED; *answer_words];
-        let result = run(&mut image, steps, &mut answers);
-        events.results.push(result);
-        if result == 0 {
-            let answered = steps.chunks_exact(RECORD_BYTES).zip(answers.chunks_exact(2));
-            let event =
-                |(bytes, answer): (&[u8], &[u16])| Event { bytes: bytes.to_vec(), number: answer[0], value: answer[1] };
-            events.records.extend(answered.map(event));
-        }
-    }
-    events
-}
 
 /// Where a comparison has ended.
 #[derive(Clone, Copy, Debug, PartialEq, Eq)]
@@ -133,12 +87,6 @@ fn compare(
     Ok(())
 }
 
-/// An image and batches for it.
-pub struct List {
-    pub image: Vec<u16>,
-    pub batches: Vec<(Vec<u8>, usize)>,
-}
-
 const LISTS: usize = 600;
 const STEPS: usize = 200;
 
@@ -163,7 +111,7 @@ fn list(round: usize) -> List {
         _ => evolved(random, k),
     };
     let pace = Pace::draw(random);
-    let placing = if round % 3 == 0 { Placing::Tightest } else { Placing::Lowest };
+    let placing = if round.is_multiple_of(3) { Placing::Tightest } else { Placing::Lowest };
     let steps = list_with_gaps(placing, random, &mut image.clone(), STEPS, pace);
     let batches = if round % 8 < 4 { vec![(steps, 2 * STEPS)] } else { batches(random, &steps) };
     List { image, batches }

@@ -1,5 +1,6 @@
 //! Random cases for the format of the vectors, with what this implementation does on them.
 
+use crate::dragging::short_cycle;
 use crate::finish::finish;
 use crate::generate::{damage, list, list_with_dues, list_with_gaps, list_with_wiping};
 use crate::generate::{miscount, misfit, spoil, wrong_rooms, Pace};
@@ -12,6 +13,9 @@ use crate::random::Random;
 use crate::record::{Record, RECORD_BYTES, SCAN};
 use crate::steps::{batch, batch_by, Placing};
 use crate::vectors::{BatchCase, Case, FinishCase, MapCase, UNTOUCHED, UNTOUCHED_BYTE};
+
+/// Sets the seed of the cycles apart from that of the other cases.
+const CYCLES: u64 = 0xc1c1e5;
 
 /// A case of `batch`, or once in four a finish alone.
 pub fn case(random: &mut Random, number: u64) -> Case {
@@ -144,6 +148,19 @@ pub fn evolved(random: &mut Random, k: usize) -> Vec<u16> {
 pub(crate) fn change_length(random: &mut Random, image: &mut Vec<u16>) {
     let length = random.pick(&[0, 1, 264, 1383, 1384, 1648, image.len() - 1, image.len() + 1, 1649, 1651]);
     image.resize(length.unwrap_or(0), 0);
+}
+
+/// Batches of a whole cycle each, on one card. They have a generator of their own: the other cases of a seed do not hang on them.
+pub fn cycles(seed: u64, count: u64) -> impl Iterator<Item = BatchCase> {
+    let mut random = Random::new(seed ^ CYCLES);
+    (0..count).map(move |number| {
+        let image = idle(&mut random, 1);
+        let steps = short_cycle(&mut random, &image);
+        let answers = steps.len() / RECORD_BYTES * 2;
+        let name = format!("{number} cycle");
+        let case = BatchCase { name, image, steps, answers, result: 0, left: Vec::new(), given: Vec::new() };
+        by(Placing::Tightest, &case)
+    })
 }
 
 /// Calls of `service_map`. They have a generator of their own: the other cases of a seed do not hang on them.

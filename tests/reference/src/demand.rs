@@ -11,6 +11,7 @@ use crate::plain::reading::Reading;
 use crate::plain::record::{is_of_a_player, NEW, RECORD_BYTES};
 use crate::plain::Plain;
 use crate::vectors::UNTOUCHED;
+use crate::work::{Cycles, Most};
 
 /// The other kinds that the check tells apart, as the documents number them.
 const BEGIN: u8 = 9;
@@ -41,6 +42,8 @@ pub struct Counts {
     /// Steps of kind 15 by number.
     pub undirty_numbers: [usize; 12],
     pub wiped: Wiped,
+    /// Of the cycle that accepts the most trace and clean steps.
+    pub work: Most,
 }
 
 /// The cards that accepted undirty steps found.
@@ -94,6 +97,7 @@ impl Counts {
         self.without_packet += other.without_packet;
         self.undirty_numbers.iter_mut().zip(other.undirty_numbers).for_each(|(a, b)| *a += b);
         self.wiped.add(&other.wiped);
+        self.work.add(other.work);
     }
 }
 
@@ -107,8 +111,8 @@ pub fn whole_list(
     check_list(true, first_image, batches, run)
 }
 
-/// Only "what players and sweeps may rely on": the images that steps leave are not judged, and an undirty is not held to its rule.
-/// What is told of a wrong step is then what comes of it, and not the step.
+/// Only "what players and sweeps may rely on", and how many trace and clean steps a cycle accepts: the images that steps leave are not
+/// judged, and an undirty is not held to its rule. What is told of a wrong step is then what comes of it, and not the step.
 pub fn players_and_sweeps(
     first_image: &[u16],
     batches: &[(Vec<u8>, usize)],
@@ -129,6 +133,8 @@ fn check_list(
     for (n, (steps, answer_words)) in batches.iter().enumerate() {
         list.run_batch(&mut image, steps, *answer_words, &mut run).map_err(|e| format!("batch {n}: {e}"))?;
     }
+    let k = Image::of(first_image).expect("an undamaged image fits").cards();
+    list.counts.work = list.cycles.check(k)?;
     Ok(list.counts)
 }
 
@@ -161,6 +167,7 @@ struct List {
     reading: Reading,
     /// What no chain reached at the last accepted begin, until the next accepted finish.
     garbage: Option<Vec<usize>>,
+    cycles: Cycles,
     counts: Counts,
     /// Each step is looked at, and not only what comes of it.
     is_strict: bool,
@@ -182,7 +189,7 @@ fn ensure_undamaged(image: &[u16], what: &str) -> Result<(), String> {
 impl List {
     fn new(first_image: &[u16], is_strict: bool) -> List {
         let (plain, reading) = (Plain::of(first_image), Reading::of(first_image));
-        List { plain, reading, garbage: None, counts: Counts::default(), is_strict }
+        List { plain, reading, garbage: None, cycles: Cycles::default(), counts: Counts::default(), is_strict }
     }
 
     /// Runs a batch whole, and beside it one record at a time to get the images between.
@@ -319,6 +326,7 @@ impl List {
 
     fn count(&mut self, moment: &Moment) {
         let kind = usize::from(moment.kind());
+        self.cycles.count(moment.bytes, moment.number);
         self.counts.steps += 1;
         self.counts.numbers[usize::from(moment.number)] += 1;
         if moment.kind() == UNDIRTY {

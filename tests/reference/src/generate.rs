@@ -69,6 +69,11 @@ pub fn list_with_gaps(placing: Placing, random: &mut Random, image: &mut [u16], 
     list_mostly(filling_gaps, placing, random, image, count, pace)
 }
 
+/// A list in which the tracers work as much as they can, and players dirty what they have done; one record in ten is drawn as in `list`.
+pub fn list_that_drags(random: &mut Random, image: &mut [u16], count: usize, pace: Pace) -> Vec<u8> {
+    list_mostly(dragging, Placing::Tightest, random, image, count, pace)
+}
+
 fn list_mostly(
     mostly: fn(&mut Random, Image) -> Record,
     placing: Placing,
@@ -102,6 +107,34 @@ fn filling(random: &mut Random, image: Image) -> Record {
     match kind {
         BARRIER => Record::new(BARRIER, random.pick(&owing).unwrap_or(0) as u8, 0, 0, 0),
         BEGIN | FINISH => Record::new(kind, 0, 0, 0, 0),
+        UNDIRTY => undirty(random, image),
+        _ => of_a_player(random, image, kind),
+    }
+}
+
+/// A step of a tracer, or one of a player or an undirty that may give the tracers more to do.
+fn dragging(random: &mut Random, image: Image) -> Record {
+    if !image.is_running() {
+        return Record::new(BEGIN, 0, 0, 0, 0);
+    }
+    let owing = player(random, image, true);
+    let paying = if owing.is_some() { 60 } else { 0 };
+    let kind = random.weighted(&[
+        (100, TRACE),
+        (80, CLEAN),
+        (4, SCAN),
+        (30, STORE),
+        (paying, BARRIER),
+        (15, UNDIRTY),
+        (8, NEW),
+        (8, LOAD),
+        (8, HAND),
+        (2, DROP),
+    ]);
+    match kind {
+        TRACE | CLEAN => tracer_step(random, image, kind),
+        SCAN => scan(random, image),
+        BARRIER => Record::new(BARRIER, owing.unwrap_or(0), 0, 0, 0),
         UNDIRTY => undirty(random, image),
         _ => of_a_player(random, image, kind),
     }

@@ -4,6 +4,8 @@
 pub mod both_rules;
 pub mod cases;
 pub mod demand;
+pub mod dragging;
+pub mod events;
 pub mod finish;
 pub mod generate;
 pub mod image;
@@ -23,6 +25,7 @@ pub mod spoils;
 pub mod steps;
 mod tracing;
 pub mod vectors;
+pub mod work;
 
 pub use demand::{players_and_sweeps, whole_list, Counts};
 pub use finish::finish;

@@ -38,6 +38,14 @@ impl BatchCase {
     }
 }
 
+/// A call of `batch` with a whole cycle; the trace and clean steps that it accepts, and the most that a cycle may accept.
+#[derive(Clone, Debug, PartialEq, Eq)]
+pub struct CycleCase {
+    pub batch: BatchCase,
+    pub work: usize,
+    pub at_most: usize,
+}
+
 /// A finish alone and what it must do.
 #[derive(Clone, Debug, PartialEq, Eq)]
 pub struct FinishCase {
@@ -73,6 +81,7 @@ pub struct ReportCase {
 #[derive(Clone, Debug, PartialEq, Eq)]
 pub enum Case {
     Batch(BatchCase),
+    Cycle(CycleCase),
     Finish(FinishCase),
     Map(MapCase),
     Report(ReportCase),
@@ -100,29 +109,40 @@ pub fn parse_batches(text: &str) -> Result<Vec<BatchCase>, String> {
 
 fn batches_of(cases: Vec<Case>) -> Result<Vec<BatchCase>, String> {
     all_of("batch", cases, |case| match case {
-        Case::Batch(case) => Ok(case),
-        other => Err(other),
+        Case::Batch(case) => Some(case),
+        _ => None,
+    })
+}
+
+/// The cases of a text that has none but of whole cycles.
+pub fn parse_cycles(text: &str) -> Result<Vec<CycleCase>, String> {
+    all_of("a cycle", parse(text)?, |case| match case {
+        Case::Cycle(case) => Some(case),
+        _ => None,
     })
 }
 
 /// The cases of a text that has none but of `service_map`.
 pub fn parse_maps(text: &str) -> Result<Vec<MapCase>, String> {
     all_of("service_map", parse(text)?, |case| match case {
-        Case::Map(case) => Ok(case),
-        other => Err(other),
+        Case::Map(case) => Some(case),
+        _ => None,
     })
 }
 
 /// The cases of a text that has none but of `judge_report`.
 pub fn parse_reports(text: &str) -> Result<Vec<ReportCase>, String> {
     all_of("judge_report", parse(text)?, |case| match case {
-        Case::Report(case) => Ok(case),
-        other => Err(other),
+        Case::Report(case) => Some(case),
+        _ => None,
     })
 }
 
-fn all_of<T>(what: &str, cases: Vec<Case>, of: fn(Case) -> Result<T, Case>) -> Result<Vec<T>, String> {
-    let one = |case| of(case).map_err(|other| format!("{} is no case of {what}", other.name()));
+fn all_of<T>(what: &str, cases: Vec<Case>, of: fn(Case) -> Option<T>) -> Result<Vec<T>, String> {
+    let one = |case: Case| {
+        let name = case.name().to_string();
+        of(case).ok_or_else(|| format!("{name} is no case of {what}"))
+    };
     cases.into_iter().map(one).collect()
 }
 
@@ -143,6 +163,7 @@ impl Case {
     fn name(&self) -> &str {
         match self {
             Case::Batch(case) => &case.name,
+            Case::Cycle(case) => &case.batch.name,
             Case::Finish(case) => &case.name,
             Case::Map(case) => &case.name,
             Case::Report(case) => &case.name,
@@ -163,8 +184,8 @@ impl Case {
                 let (image, left) = (with_counts(&case.image), with_counts(&case.left));
                 Case::Finish(FinishCase { image, left, ..case })
             }
-            // Maps and reports came after the counts.
-            Case::Map(_) | Case::Report(_) => self,
+            // These came after the counts.
+            Case::Cycle(_) | Case::Map(_) | Case::Report(_) => self,
         }
     }
 }
@@ -207,7 +228,17 @@ fn case_of(block: &BTreeMap<&str, &str>) -> Result<Case, String> {
     let answers = usize::from(number("answers")?);
     let given = words(field("given")?)?;
     let steps = bytes(field("steps")?)?;
-    Ok(Case::Batch(BatchCase { name, image, steps, answers, result: number("result")?, left, given }))
+    let batch = BatchCase { name, image, steps, answers, result: number("result")?, left, given };
+    match block.get("work") {
+        Some(line) => cycle_of(batch, line),
+        None => Ok(Case::Batch(batch)),
+    }
+}
+
+fn cycle_of(batch: BatchCase, line: &str) -> Result<Case, String> {
+    let (work, at_most) = line.split_once(' ').ok_or("work: two numbers")?;
+    let number = |text: &str| text.parse::<usize>().map_err(|e| format!("work: {e}"));
+    Ok(Case::Cycle(CycleCase { batch, work: number(work)?, at_most: number(at_most)? }))
 }
 
 /// Words in hex, `v*n` for n equal ones in a row (n decimal), `-` for none.
@@ -254,6 +285,9 @@ fn bytes(text: &str) -> Result<Vec<u8>, String> {
 pub fn print(case: &Case) -> String {
     match case {
         Case::Batch(case) => print_batch(case),
+        Case::Cycle(case) => {
+            print_batch(&case.batch) + &print_lines(&[("work", format!("{} {}", case.work, case.at_most))])
+        }
         Case::Finish(case) => print_finish(case),
         Case::Map(case) => print_map(case),
         Case::Report(case) => print_report(case),

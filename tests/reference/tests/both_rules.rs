@@ -5,7 +5,8 @@ mod common;
 
 use common::altered::*;
 use common::*;
-use reference::both_rules::{both_rules, events, lists, some_lists, Compared, End, Events, List, Shown};
+use reference::both_rules::{both_rules, lists, some_lists, Compared, End, Shown};
+use reference::events::{events, Events, List};
 use reference::image::Image;
 use reference::made::fresh_image;
 use reference::{batch, batch_by, Placing};

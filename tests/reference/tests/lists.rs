@@ -33,6 +33,7 @@ fn assert_worth_running(counts: &Counts, steps: usize) {
     assert!(counts.finishes_that_find > 50 && counts.garbage_freed > 100);
     assert!([3, 4, 10, 11].iter().all(|&number| counts.undirty_numbers[number] > 0), "{:?}", counts.undirty_numbers);
     assert!(counts.wiped.all_at_least(10), "{:?}", counts.wiped);
+    assert!(counts.work.accepted >= 10, "{:?}", counts.work);
 }
 
 #[test]

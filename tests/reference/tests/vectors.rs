@@ -2,14 +2,17 @@
 
 use std::collections::BTreeMap;
 
-use reference::both_rules::{both_rules, events};
+use reference::both_rules::both_rules;
 use reference::cases::otherwise_by_lowest;
+use reference::events::events;
 use reference::record::{records, DUE, NEW, RECORD_BYTES};
 use reference::vectors::{
-    parse, parse_batches, parse_maps, parse_older, parse_older_batches, parse_reports, print, BatchCase, Case,
-    UNTOUCHED, UNTOUCHED_BYTE,
+    parse, parse_batches, parse_cycles, parse_maps, parse_older, parse_older_batches, parse_reports, print, BatchCase,
+    Case, UNTOUCHED, UNTOUCHED_BYTE,
 };
-use reference::{batch_by, cover, finish, judge_report, service_map, undamaged_but_cover, Placing};
+use reference::work::{at_most, Cycles, Work};
+use reference::{batch, batch_by, cards_of_length, cover, finish, judge_report, service_map};
+use reference::{undamaged_but_cover, Placing};
 
 const BATCHES: &str = include_str!("../../vectors/batches.txt");
 const DUES: &str = include_str!("../../vectors/document_02/01-i.txt");
@@ -18,6 +21,7 @@ const MAPS: &str = include_str!("../../vectors/document_02/03-iii.txt");
 const DUES_IN_BATCHES: &str = include_str!("../../vectors/document_02/04-iv.txt");
 const TIGHT: &str = include_str!("../../vectors/document_02/05-v.txt");
 const REPORTS: &str = include_str!("../../vectors/document_02/06-vi.txt");
+const CYCLES: &str = include_str!("../../vectors/document_02/07-vii.txt");
 const FINISHES: &str = include_str!("../../vectors/finishes.txt");
 
 /// The reference's answers and image for a case, whose result must be right.
@@ -156,6 +160,27 @@ fn reports() {
     assert_eq!(results, [(0, 26), (1, 12), (2, 8), (12, 14), (13, 7), (14, 3)].into());
 }
 
+/// Each case is one cycle, from its begin to its finish. The most work of one, of stores of one card and of two, and how much there is in all.
+#[test]
+fn cycles() {
+    let (mut most, mut work) = (BTreeMap::new(), Work::default());
+    for case in parse_cycles(CYCLES).unwrap() {
+        assert_as_given(Placing::Tightest, &case.batch);
+        let BatchCase { name, image, steps, answers, .. } = &case.batch;
+        let cycles = Cycles::of(&events(image, &[(steps.clone(), *answers)], batch));
+        let k = cards_of_length(image.len()).unwrap();
+        assert_eq!(case.at_most, at_most(k), "{name}");
+        cycles.check(k).unwrap();
+        let [cycle] = cycles.works().collect::<Vec<_>>()[..] else { panic!("{name} is no cycle") };
+        assert_eq!(cycle.accepted(), case.work, "{name}");
+        most.entry(k).or_insert_with(Vec::new).push(case.work);
+        work = Work { traces: work.traces + cycle.traces, cleans: work.cleans + cycle.cleans };
+    }
+    let most = most.into_iter().map(|(k, works)| (k, works.len(), works.into_iter().max()));
+    assert_eq!(most.collect::<Vec<_>>(), [(1, 44, Some(170)), (2, 16, Some(156))]);
+    assert_eq!(work, Work { traces: 1_517, cleans: 459 });
+}
+
 #[test]
 fn finishes() {
     let (cases, left_out) = parse_older(FINISHES).unwrap();
@@ -184,7 +209,7 @@ fn a_finish_that_follows_all_is_caught() {
 
 #[test]
 fn printing_and_parsing_agree() {
-    for text in [BATCHES, DUES, WIPING, MAPS, DUES_IN_BATCHES, TIGHT, REPORTS, FINISHES] {
+    for text in [BATCHES, DUES, WIPING, MAPS, DUES_IN_BATCHES, TIGHT, REPORTS, CYCLES, FINISHES] {
         let cases = parse(text).unwrap();
         let printed: String = cases.iter().map(print).collect();
         assert_eq!(parse(&printed).unwrap(), cases);

@@ -5,10 +5,10 @@ mod common;
 use common::altered::*;
 use common::*;
 use reference::generate::{batches, list, Pace};
-use reference::image::{Image, Store};
+use reference::image::Image;
 use reference::made::{bare, fresh_image, idle, running};
 use reference::random::Random;
-use reference::steps::{step as run_step, step_by};
+use reference::steps::step_by;
 use reference::{batch, players_and_sweeps, whole_list, Placing};
 
 /// Some of the random lists must be found wrong, all for one of the reasons.
@@ -223,16 +223,6 @@ fn a_finish_that_leaves_the_counts() {
     assert_caught(&["damaged: Some(Counts)", RESULT], finish_that_leaves_the_counts);
 }
 
-/// A step of a batch of one record that judges nothing.
-fn unjudged_step(image: &mut [u16], steps: &[u8], answers: &mut [u16], wrong: Alter) -> u16 {
-    let got = image.to_vec();
-    let record = Record::from_bytes(steps);
-    let (number, value) = run_step(&mut Store::of(image).unwrap(), record);
-    answers.copy_from_slice(&[number, value]);
-    wrong(&mut Done { got: &got, record, image, answer: answers });
-    0
-}
-
 /// In how many lists with many undirty steps an object is lost. Each batch has one record, so that none is run behind such a finish.
 fn lost_by(wrong: Alter) -> usize {
     let mut lost = 0;
@@ -243,7 +233,7 @@ fn lost_by(wrong: Alter) -> usize {
         let pace = Pace { wild: 0, finish: 15, tracers: 30, undirty: 100 };
         let steps = list(&mut random, &mut image.clone(), 100, pace);
         let batches: Vec<(Vec<u8>, usize)> = steps.chunks(8).map(|bytes| (bytes.to_vec(), 2)).collect();
-        let run = |image: &mut [u16], steps: &[u8], answers: &mut [u16]| unjudged_step(image, steps, answers, wrong);
+        let run = |image: &mut [u16], steps: &[u8], answers: &mut [u16]| unjudged_batch(image, steps, answers, wrong);
         if let Err(error) = players_and_sweeps(&image, &batches, run) {
             assert!(error.contains("is reached by a chain and does not stay"), "{error}");
             lost += 1;

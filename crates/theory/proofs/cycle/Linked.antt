@@ -44,6 +44,16 @@ module _ (rule : Placing) (Ok : Image → Type 0) (st : Steady rule Ok) where
   linked-fine (l-cons x g d p) o e (List·Memᴰ·head q) = subst (Fine rule Ok) (sym q) (record { got-ok = subst Ok (sym g) o; is-step = d })
   linked-fine (l-cons x g d p) o e (List·Memᴰ·tail k) = linked-fine p (done-ok x (record { got-ok = subst Ok (sym g) o; is-step = d })) e k
 
+  -- an event of the list: it is fine, and what follows it is linked, in two parts
+  pub linked-from : {m n : Image} {es : List Event} → Successive rule m es n → Ok m → (b : Event) (before mid behind : List Event) → es ≡ before ++ (b ∷ (mid ++ behind))
+      → Fine rule Ok b × Parted rule (b .done .image) mid behind n
+  linked-from {m} {n} p o b before mid behind q =
+      let r = linked-parted rule m before (b ∷ (mid ++ behind)) n (subst (λ l. Successive rule m l n) q p) in
+      at (r .second-part) (linked-ok (r .first-part) o)
+    where
+      at : {x : Image} → Successive rule x (b ∷ (mid ++ behind)) n → Ok x → Fine rule Ok b × Parted rule (b .done .image) mid behind n
+      at (l-cons _ g d r) ox = (record { got-ok = subst Ok (sym g) ox; is-step = d }, linked-parted rule (b .done .image) mid behind n r)
+
   -- what is live stays so while no finish is accepted
   linked-live : {m n : Image} {es : List Event} → Successive rule m es n → Ok m → ((e : Event) → List·Memᴰ e es → Accepted finish e → ⊥) → (S : ℕ → Type 0) → Live S m → Live S n
   linked-live l-nil o nf S v = v
@@ -79,8 +89,10 @@ module _ (rule : Placing) (Ok : Image → Type 0) (st : Steady rule Ok) where
         → (g : ℕ) → isStart (b .got) g ≡ true → (Chain (b .got) g → ⊥)
         → (isStart (f .got) g ≡ true) × (isStart (f .done .image) g ≡ false)
     unreached-freed b f before mid behind q ab nf af g sg un =
-        let r = linked-parted rule m before (b ∷ (mid ++ (f ∷ behind))) n (subst (λ l. Successive rule m l n) q p) in
-        from-begin (r .second-part) (linked-ok (r .first-part) o)
+        let (k, t) = linked-from p o b before mid (f ∷ behind) q in
+        let z : (step rule (b .got) (b .request)) .number ≡ 0 = sym (ap (λ r. r .number) (k .is-step)) ∙ ab .no-number in
+        let v = subst (λ r. Live (Since (b .got)) (r .image)) (sym (k .is-step)) (begin-live rule (b .got) (b .request) (st .facts (b .got) (k .got-ok)) (ab .is-kind) z) in
+        at-finish (t .second-part) (linked-ok (t .first-part) (done-ok b k)) (linked-live (t .first-part) (done-ok b k) nf (Since (b .got)) v)
       where
         Freed : Type 0
         Freed = (isStart (f .got) g ≡ true) × (isStart (f .done .image) g ≡ false)
@@ -97,11 +109,3 @@ module _ (rule : Placing) (Ok : Image → Type 0) (st : Steady rule Ok) where
               ⊎-elim (λ t. t) (λ t. absurd (reached (v .live-free g t))) (bool-cases (isStart (f .got) g)),
               ⊎-elim (λ t. absurd (reached (live (finish-event f k af .only-kept g t .1)))) (λ t. t) (bool-cases (isStart (f .done .image) g)),
             )
-
-        from-begin : {x y : Image} → Successive rule x (b ∷ (mid ++ (f ∷ behind))) y → Ok x → Freed
-        from-begin {y = y} (l-cons _ h d r) ox =
-            let k : Fine rule Ok b = record { got-ok = subst Ok (sym h) ox; is-step = d } in
-            let z : (step rule (b .got) (b .request)) .number ≡ 0 = sym (ap (λ r. r .number) d) ∙ ab .no-number in
-            let v = subst (λ r. Live (Since (b .got)) (r .image)) (sym d) (begin-live rule (b .got) (b .request) (st .facts (b .got) (k .got-ok)) (ab .is-kind) z) in
-            let t = linked-parted rule (b .done .image) mid (f ∷ behind) y r in
-            at-finish (t .second-part) (linked-ok (t .first-part) (done-ok b k)) (linked-live (t .first-part) (done-ok b k) nf (Since (b .got)) v)

@@ -7,15 +7,17 @@ use Prim.Native.Nat.{ℕ, zero, suc, _+_, _*_, _-_, _/_}
 use native.Mathlib.Decide.{ℕ-discrete}
 use native.Mathlib.Omega.{arith}
 use lib.Dec.{eqb, ltb}
-use lib.ListN.{getD, take, drop}
-use borrow.Author.Tests.{eqb-false, not-true}
+use lib.ListN.{take, drop}
+use borrow.Author.Tests.{eqb-false}
 use Rattle.model.specs.Base.{some}
 use Rattle.model.specs.Image.{Image, word, isStart, marked, links, link, reg, owed, hand, nextLink, handCard, nextGranule, input, entry, count, dirty, setMark, markObject, setState, undirtyCard, setTracer, setScanned, withMarks, withCounts, withCards, withPackets, withTracers, withPlayers, withGeneral, fields-open}
-use Rattle.model.specs.Collect.{append, pop, takeOutput, enter, reach, reachAll, scanPlayer, beginCycle, putHand, takeObject, traceHand, traceInput, tracePool, traceOutput, traceLine, traceStep, putCard, nextMarked, cleanTo, cleanCard, lowestDirty, takeCard, cleanLine, cleanStep}
-use Rattle.model.proofs.Laws.{some-false, nth-put-other, first-passes}
+use Rattle.model.specs.Collect.{append, pop, takeOutput, enter, reach, reachAll, scanPlayer, beginCycle, putHand, takeObject, traceHand, traceInput, tracePool, traceOutput, traceStep, putCard, nextMarked, cleanTo, cleanCard, takeCard, cleanStep}
+use Rattle.model.proofs.Laws.{some-false, nth-put-other}
 use Rattle.model.proofs.Bits.{setBit-other}
 use Rattle.theory.specs.Cycle.{Quiet}
 use Rattle.theory.proofs.steps.Reaching.{enter-cases}
+use Rattle.theory.proofs.steps.Tracing.{trace-cases}
+use Rattle.theory.proofs.steps.Cleaning.{clean-cases}
 
 -- the image with other cards, packets, tracers, players and general words
 abbrev pub silent : Image → (cs ps ts ls gs : List ℕ) → Image
@@ -115,16 +117,9 @@ module _ {P : ℕ → Type 0} where
       (quiet-trans {m = pop m (input m t - 1)} (unfold pop withPackets in quiet-silent m _ _ _ _) (quiet-take (pop m (input m t - 1)) t _))
 
   pub quiet-trace : (m : Image) (t : ℕ) → NextSource P m t → Quiet P m (traceStep m t)
-  unfolding traceStep traceLine tracePool traceOutput setTracer withTracers
-  quiet-trace m t ok = go (traceLine m t) refl
-    where
-      go : (x : ℕ) → traceLine m t ≡ x → Quiet P m (getD (m ∷ traceHand m t ∷ traceInput m t ∷ tracePool m t ∷ traceOutput m t ∷ []) x m)
-      go zero e = quiet-refl m
-      go (suc zero) e = quiet-traceHand m t ok (eqb-false _ _ (not-true _ (first-passes 0 _ 0 e)))
-      go (suc (suc zero)) e = quiet-traceInput m t
-      go (suc (suc (suc zero))) e = quiet-silent m _ _ _ _
-      go (suc (suc (suc (suc zero)))) e = quiet-silent m _ _ _ _
-      go (suc (suc (suc (suc (suc x))))) e = quiet-refl m
+  unfolding tracePool traceOutput setTracer withTracers
+  quiet-trace m t ok =
+      trace-cases (λ x n. Quiet P m n) m t (quiet-refl m) (quiet-traceHand m t ok) (λ z e. quiet-traceInput m t) (λ e nz. quiet-silent m _ _ _ _) (λ e h. quiet-silent m _ _ _ _)
 
   quiet-cleanCard : (m : Image) (t : ℕ) → Quiet P m (cleanCard m t)
   unfolding cleanCard
@@ -137,12 +132,5 @@ module _ {P : ℕ → Type 0} where
           unfold cleanTo in quiet-trans c (quiet-take _ t g)
 
   pub quiet-clean : (m : Image) (t : ℕ) → NextSource P m t → Quiet P m (cleanStep m t)
-  unfolding cleanStep cleanLine takeCard putCard setTracer withTracers setState withCards
-  quiet-clean m t ok = go (cleanLine m t) refl
-    where
-      go : (x : ℕ) → cleanLine m t ≡ x → Quiet P m (getD (m ∷ traceHand m t ∷ cleanCard m t ∷ takeCard m t (lowestDirty m - 1) ∷ []) x m)
-      go zero e = quiet-refl m
-      go (suc zero) e = quiet-traceHand m t ok (eqb-false _ _ (not-true _ (first-passes 0 _ 0 e)))
-      go (suc (suc zero)) e = quiet-cleanCard m t
-      go (suc (suc (suc zero))) e = quiet-silent m _ _ _ _
-      go (suc (suc (suc (suc x)))) e = quiet-refl m
+  unfolding takeCard putCard setTracer withTracers setState withCards
+  quiet-clean m t ok = clean-cases (λ x n. Quiet P m n) m t (quiet-refl m) (quiet-traceHand m t ok) (λ z nz. quiet-cleanCard m t) (λ e nz. quiet-silent m _ _ _ _)

@@ -126,21 +126,21 @@ swap-ok {ts = ts} k t ht v e =
 
 -- ---- cards
 
--- a state that is changed is a state, and a taken card stays taken
+-- a state that is changed is a state, and a card is taken in this cycle just where it was
 abbrev pub Changes : (ℕ → ℕ) → Type 0
-Changes f = (x : ℕ) → (f x ≤ 3) × (2 ≤ x → 2 ≤ f x)
+Changes f = (x : ℕ) → (f x ≤ 3) × (2 ≤ x → 2 ≤ f x) × (2 ≤ f x → 2 ≤ x)
 
 pub dirty-changes : Changes dirtyState
 unfolding dirtyState
-dirty-changes zero = (omega arith, λ h. omega arith)
-dirty-changes (suc zero) = (omega arith, λ h. omega arith)
-dirty-changes (suc (suc x)) = (omega arith, λ h. omega arith)
+dirty-changes zero = (omega arith, λ h. omega arith, λ h. omega arith)
+dirty-changes (suc zero) = (omega arith, λ h. omega arith, λ h. omega arith)
+dirty-changes (suc (suc x)) = (omega arith, λ h. omega arith, λ h. omega arith)
 
 pub clean-changes : Changes cleanState
 unfolding cleanState
-clean-changes zero = (omega arith, λ h. omega arith)
-clean-changes (suc zero) = (omega arith, λ h. omega arith)
-clean-changes (suc (suc x)) = (omega arith, λ h. omega arith)
+clean-changes zero = (omega arith, λ h. omega arith, λ h. omega arith)
+clean-changes (suc zero) = (omega arith, λ h. omega arith, λ h. omega arith)
+clean-changes (suc (suc x)) = (omega arith, λ h. omega arith, λ h. omega arith)
 
 -- a card is written
 pub state-ok : {k : ℕ} {cs : List ℕ} → CardsOk k cs → (c v : ℕ) → c < k → v ≤ 3 → CardsOk k (put cs c v)

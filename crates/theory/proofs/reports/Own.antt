@@ -13,7 +13,7 @@ use Rattle.model.specs.Image.{Image, granules, isStart, size, fits, cardsOf, im
 use Rattle.model.specs.Undamaged.{undamaged, judgeAt}
 use Rattle.model.specs.Records.{begin, finish}
 use Rattle.model.specs.Mutate.{Placing}
-use Rattle.model.specs.Steps.{Event, run, after}
+use Rattle.model.specs.Steps.{Event}
 use Rattle.model.specs.Claim.{Chain, Lent, history, Accepted, Finishes, Claim}
 use Rattle.model.specs.Report.{chainSet, covered, badStretch, heldFreed, lostMissed, verdict, scratchWords, reportMisfit, eitherDamaged, reportNumber, reportWith, reportAt, reportOf}
 use Rattle.model.specs.OwnReport.{freedBy, TrueReport, SomeReport, OwnReport}
@@ -22,15 +22,13 @@ use Rattle.model.proofs.Sited.{Sited}
 use Rattle.model.proofs.Words.{length-words}
 use Rattle.model.proofs.Chains.{set-chain, chain-set}
 use Rattle.theory.specs.Lines.{Lines, Passes}
-use Rattle.theory.specs.Events.{Successive, Steady, recordsRun}
-use Rattle.theory.proofs.cycle.Linked.{run-linked, linked-fine}
+use Rattle.theory.proofs.cycle.Linked.{linked-fine}
 use Rattle.theory.proofs.finish.Safe.{chain-start}
 use Rattle.theory.proofs.heap.Facts.{heap-filled-of, laid-of, proper-of}
 use Rattle.theory.proofs.heap.Walk.{object-at}
 use Rattle.theory.proofs.lines.Passing.{judge-use, passes-fit, words-round, judge-make, sited-of}
-use Rattle.theory.proofs.steps.Kept.{step-passes, step-stays}
-use Rattle.theory.proofs.Histories.{history-run}
-use Rattle.theory.proofs.InOrder.{steady}
+use Rattle.theory.proofs.Histories.{history-linked}
+use Rattle.theory.proofs.InOrder.{OfCards, steady-cards}
 use Rattle.theory.proofs.Demand.{demand-three}
 use Rattle.theory.proofs.reports.Listed.{some-report}
 
@@ -82,24 +80,8 @@ no-refusal m n bs p q r = rw (p, q, r)
 -- ---- the images of a history
 
 -- the image that an event got passes, and has as many cards as the first
-module _ (rule : Placing) (w : ℕ) (ws : List ℕ) (lent : List Lent) (j : judgeAt w ws ≡ 0) where
-  abbrev Good : Image → Type 0
-  Good m = Passes w m × (m .k ≡ parts w ws .k)
-
-  good-steady : Steady rule Good
-  good-steady = record {
-    step-ok = λ m s o. (step-passes rule w m s (o .0), step-stays rule m s (o .0 .is-undamaged) .2 ∙ o .1);
-    facts = λ m o. steady rule w .facts m (o .0);
-    covers = λ m o. steady rule w .covers m (o .0);
-    new-leaves = λ m s o. steady rule w .new-leaves m s (o .0);
-    swept = λ m o. steady rule w .swept m (o .0);
-  }
-
-  got-good : (e : Event) → List·Memᴰ e (history rule w ws lent) → Good (e .got)
-  got-good e k =
-      let m : Image = parts w ws in
-      let linked : Successive rule m (history rule w ws lent) (after m (run rule m (recordsRun w lent))) = rw (history-run rule w ws lent j) (run-linked rule m (recordsRun w lent)) in
-      linked-fine rule Good good-steady linked (judge-use w ws j, refl) e k .got-ok
+got-good : (rule : Placing) (w : ℕ) (ws : List ℕ) (lent : List Lent) → judgeAt w ws ≡ 0 → (e : Event) → List·Memᴰ e (history rule w ws lent) → OfCards w (parts w ws .k) (e .got)
+got-good rule w ws lent j e k = linked-fine rule _ (steady-cards rule w (parts w ws .k)) (history-linked rule w ws lent j) (judge-use w ws j, refl) e k .got-ok
 
 -- what passes, as its words
 module _ (w : ℕ) (m : Image) (p : Passes w m) where

@@ -20,12 +20,15 @@ use Rattle.theory.proofs.lines.Sections.{scanned-set}
 
 -- ---- scan
 
+-- a player's registers are nil or starts
+pub scan-values : (m : Image) → Lines m → (p i : ℕ) → NilOr (Start m) (nth (take 16 (drop (16 * p) (m .regs))) i)
+scan-values m o p = each-take (NilOr (Start m)) (inl refl) 16 (drop (16 * p) (m .regs)) (λ i. rw (nth-drop (16 * p) (m .regs) i) (o .regs-ok .values (16 * p + i)))
+
 pub scan-does : (m : Image) → Lines m → Cover m → (t p : ℕ) → t < 8 → p < 16 → StepStays m (scanPlayer m t p)
 unfolding scanPlayer fields-open
 scan-does m o cov t p ht hp =
     let n : Image = reachAll m t (take 16 (drop (16 * p) (m .regs))) in
-    let r : StepStays m n = reachAll-does m o cov t ht (take 16 (drop (16 * p) (m .regs)))
-    (each-take (NilOr (Start m)) (inl refl) 16 (drop (16 * p) (m .regs)) (λ i. rw (nth-drop (16 * p) (m .regs) i) (o .regs-ok .values (16 * p + i)))) in
+    let r : StepStays m n = reachAll-does m o cov t ht (take 16 (drop (16 * p) (m .regs))) (scan-values m o p) in
     record {
       lines = put-players (r .lines) _ (scanned-set (r .lines .players-ok) p hp);
       cover = λ g i hg k l. covered-on n (setScanned n p) g i refl (λ a q. q) (λ d. is-coming (same-coming n (setScanned n p) refl refl refl g i d))

@@ -11,7 +11,7 @@ use lib.Dec.{eqb}
 use lib.ListN.{getD}
 use borrow.Author.Tests.{eqb-true, eqb-false, not-true, not-false}
 use Rattle.model.specs.Base.{nth, put, lowestOf, first}
-use Rattle.model.specs.Image.{Image, marked, hand, handCard, nextGranule, withCards, withTracers, setState, setTracer}
+use Rattle.model.specs.Image.{Image, marked, state, hand, handCard, nextGranule, withCards, withTracers, setState, setTracer}
 use Rattle.model.specs.Collect.{traceHand, putCard, nextMarked, cleanTo, cleanCard, lowestDirty, takeCard, cleanLine, cleanStep}
 use Rattle.model.proofs.Laws.{false≢, bool-cases, nth-put-same, nth-put-other, best-ok}
 use Rattle.theory.specs.Cover.{Cover}
@@ -50,7 +50,7 @@ pub record NextMark (m : Image) (d g h : ℕ) : Type 0 where
   pub under : h < g + d
   pub none-between : (x : ℕ) → g ≤ x → x < h → marked m x ≡ false
 
-next-some : (m : Image) (d g h : ℕ) → nextMarked m d g ≡ suc h → NextMark m d g h
+pub next-some : (m : Image) (d g h : ℕ) → nextMarked m d g ≡ suc h → NextMark m d g h
 unfolding nextMarked
 next-some m zero g h e = absurd (omega arith)
 next-some m (suc d) g h e =
@@ -102,15 +102,34 @@ takeCard-does m o cov t c ht e hc =
       frame-same = refl;
     }
 
-pub clean-does : (m : Image) → Lines m → Cover m → (t : ℕ) → t < 8 → StepStays m (cleanStep m t)
-unfolding cleanStep cleanLine first lowestDirty lowestOf
-clean-does m o cov t ht = go (not (eqb (hand m t) 0)) refl (not (eqb (handCard m t) 0)) refl (not (eqb (lowestDirty m) 0)) refl
+-- the card that line 3 takes
+pub dirty-below : (m : Image) → (lowestDirty m ≡ 0 → ⊥) → lowestDirty m - 1 < m .k
+unfolding lowestDirty lowestOf
+dirty-below m nz = let e : lowestDirty m ≡ suc (lowestDirty m - 1) = omega arith in best-ok _ _ (m .k) (lowestDirty m - 1) e .0
+
+pub dirty-state : (m : Image) → (lowestDirty m ≡ 0 → ⊥) → state m (lowestDirty m - 1) ≡ 1
+unfolding lowestDirty lowestOf
+dirty-state m nz = let e : lowestDirty m ≡ suc (lowestDirty m - 1) = omega arith in eqb-true _ _ (best-ok _ _ (m .k) (lowestDirty m - 1) e .1)
+
+-- by the line that applies, the first of the three, or none
+pub clean-cases : (P : ℕ → Image → Type 0) (m : Image) (t : ℕ) → P 0 m → ((hand m t ≡ 0 → ⊥) → P 1 (traceHand m t))
+    → (hand m t ≡ 0 → (handCard m t ≡ 0 → ⊥) → P 2 (cleanCard m t))
+    → (handCard m t ≡ 0 → (lowestDirty m ≡ 0 → ⊥) → P 3 (takeCard m t (lowestDirty m - 1)))
+    → P (cleanLine m t) (cleanStep m t)
+unfolding cleanStep cleanLine first
+clean-cases P m t idle byHand byCard byDirty = go (not (eqb (hand m t) 0)) refl (not (eqb (handCard m t) 0)) refl (not (eqb (lowestDirty m) 0)) refl
   where
+    lines : Bool → Bool → Bool → ℕ
+    lines a b c = first 1 (a ∷ b ∷ c ∷ [])
+
     go : (a : Bool) → not (eqb (hand m t) 0) ≡ a → (b : Bool) → not (eqb (handCard m t) 0) ≡ b → (c : Bool) → not (eqb (lowestDirty m) 0) ≡ c
-        → StepStays m (getD (m ∷ traceHand m t ∷ cleanCard m t ∷ takeCard m t (lowestDirty m - 1) ∷ []) (first 1 (a ∷ b ∷ c ∷ [])) m)
-    go true x b y c z = traceHand-does m o cov t ht (eqb-false _ _ (not-true _ x))
-    go false x true y c z = cleanCard-does m o cov t ht (eqb-true _ _ (not-false _ x)) (eqb-false _ _ (not-true _ y))
-    go false x false y true z =
-        let e : lowestDirty m ≡ suc (lowestDirty m - 1) = omega (arith, eqb-false (lowestDirty m) 0 (not-true _ z)) in
-        takeCard-does m o cov t (lowestDirty m - 1) ht (eqb-true _ _ (not-false _ y)) (best-ok _ _ (m .k) (lowestDirty m - 1) e .0)
-    go false x false y false z = record { lines = o; cover = cov; frame-same = refl }
+        → P (lines a b c) (getD (m ∷ traceHand m t ∷ cleanCard m t ∷ takeCard m t (lowestDirty m - 1) ∷ []) (lines a b c) m)
+    go true x b y c z = byHand (eqb-false _ _ (not-true _ x))
+    go false x true y c z = byCard (eqb-true _ _ (not-false _ x)) (eqb-false _ _ (not-true _ y))
+    go false x false y true z = byDirty (eqb-true _ _ (not-false _ y)) (eqb-false _ _ (not-true _ z))
+    go false x false y false z = idle
+
+pub clean-does : (m : Image) → Lines m → Cover m → (t : ℕ) → t < 8 → StepStays m (cleanStep m t)
+clean-does m o cov t ht =
+    clean-cases (λ x n. StepStays m n) m t (record { lines = o; cover = cov; frame-same = refl })
+    (traceHand-does m o cov t ht) (cleanCard-does m o cov t ht) (λ e nz. takeCard-does m o cov t (lowestDirty m - 1) ht e (dirty-below m nz))

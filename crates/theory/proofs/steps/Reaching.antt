@@ -224,11 +224,19 @@ pub record StepStays (m m′ : Image) : Type 0 where
   pub cover : Cover m′
   pub frame-same : frame m′ ≡ frame m
 
-pub reachAll-does : (m : Image) → Lines m → Cover m → (t : ℕ) → t < 8 → (l : List ℕ) → ((i : ℕ) → NilOr (Start m) (nth l i)) → StepStays m (reachAll m t l)
+-- what holds of no reach, of each and of one after another holds of a list of them
+pub reachAll-by : (R : Image → Image → Type 0) → ((m : Image) → Lines m → R m m) → ((l m n : Image) → R l m → R m n → R l n)
+    → (t : ℕ) → t < 8 → ((m : Image) → Lines m → (a : ℕ) → NilOr (Start m) a → R m (reach m t a))
+    → (m : Image) → Lines m → (l : List ℕ) → ((i : ℕ) → NilOr (Start m) (nth l i)) → R m (reachAll m t l)
 unfolding reachAll nth
-reachAll-does m o cov t ht [] f = record { lines = o; cover = cov; frame-same = refl }
-reachAll-does m o cov t ht (a ∷ l) f =
+reachAll-by R same both t ht each m o [] f = same m o
+reachAll-by R same both t ht each m o (a ∷ l) f =
     let r = reach-does m o t a ht (f zero) in
     let e = r .rest-same in
-    let s = reachAll-does (reach m t a) (r .lines) (reached-cover r cov) t ht l (λ i. rw (ap (λ x. x .0 .1) e, ap (λ x. x .0 .0) e, ap (λ x. x .2) e) (f (suc i))) in
-    record { lines = s .lines; cover = s .cover; frame-same = s .frame-same ∙ ap (λ x. x .0) e }
+    both m (reach m t a) _ (each m o a (f zero)) (reachAll-by R same both t ht each (reach m t a) (r .lines) l (λ i. rw (ap (λ x. x .0 .1) e, ap (λ x. x .0 .0) e, ap (λ x. x .2) e) (f (suc i))))
+
+pub reachAll-does : (m : Image) → Lines m → Cover m → (t : ℕ) → t < 8 → (l : List ℕ) → ((i : ℕ) → NilOr (Start m) (nth l i)) → StepStays m (reachAll m t l)
+reachAll-does m o cov t ht l f =
+    reachAll-by (λ x y. Cover x → StepStays x y) (λ x p c. record { lines = p; cover = c; frame-same = refl })
+    (λ x y z p q c. let r = p c in let s = q (r .cover) in record { lines = s .lines; cover = s .cover; frame-same = s .frame-same ∙ r .frame-same })
+    t ht (λ x p a ok c. let r = reach-does x p t a ht ok in record { lines = r .lines; cover = reached-cover r c; frame-same = ap (λ z. z .0) (r .rest-same) }) m o l f cov

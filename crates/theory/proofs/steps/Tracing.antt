@@ -85,9 +85,9 @@ pub takeObject-frame : (m : Image) (t g : ℕ) → frame (takeObject m t g) ≡ 
 unfolding takeObject putHand setTracer withTracers
 takeObject-frame m t g = elim (bool-cases (eqb (links m g) 0)) [ inl e ↦ rw e | inr e ↦ rw e ]
 
-fullest-ok : (m : Image) (q : ℕ) → fullest m ≡ suc q → (q < 32) × (held m q ≡ false)
+pub fullest-ok : (m : Image) (q : ℕ) → fullest m ≡ suc q → (q < 32) × (held m q ≡ false) × (0 < count m q)
 unfolding fullest
-fullest-ok m q e = let u = best-ok _ _ 32 q e in (u .0, not-true _ (every-use _ (u .1) 0))
+fullest-ok m q e = let u = best-ok _ _ 32 q e in (u .0, not-true _ (every-use _ (u .1) 0), ltb-true _ _ (every-use _ (u .1) 1))
 
 -- ---- the input
 
@@ -137,14 +137,28 @@ swap-does m o cov t ht = record {
 
 -- ---- trace
 
-pub trace-does : (m : Image) → Lines m → Cover m → (t : ℕ) → t < 8 → StepStays m (traceStep m t)
-unfolding traceStep traceLine tracePool traceOutput first
-trace-does m o cov t ht = go (not (eqb (hand m t) 0)) refl (hasEntries m (input m t)) refl (not (eqb (fullest m) 0)) (hasEntries m (output m t))
+-- by the line that applies, the first of the four, or none
+pub trace-cases : (P : ℕ → Image → Type 0) (m : Image) (t : ℕ) → P 0 m → ((hand m t ≡ 0 → ⊥) → P 1 (traceHand m t))
+    → (hand m t ≡ 0 → hasEntries m (input m t) ≡ true → P 2 (traceInput m t))
+    → (hasEntries m (input m t) ≡ false → (fullest m ≡ 0 → ⊥) → P 3 (tracePool m t))
+    → (hasEntries m (input m t) ≡ false → hasEntries m (output m t) ≡ true → P 4 (traceOutput m t))
+    → P (traceLine m t) (traceStep m t)
+unfolding traceStep traceLine first
+trace-cases P m t idle byHand byInput byPool byOutput = go (not (eqb (hand m t) 0)) refl (hasEntries m (input m t)) refl (not (eqb (fullest m) 0)) refl (hasEntries m (output m t)) refl
   where
-    go : (a : Bool) → not (eqb (hand m t) 0) ≡ a → (b : Bool) → hasEntries m (input m t) ≡ b → (c d : Bool)
-        → StepStays m (getD (m ∷ traceHand m t ∷ traceInput m t ∷ tracePool m t ∷ traceOutput m t ∷ []) (first 1 (a ∷ b ∷ c ∷ d ∷ [])) m)
-    go true x b y c d = traceHand-does m o cov t ht (eqb-false _ _ (not-true _ x))
-    go false x true y c d = traceInput-does m o cov t ht (eqb-true _ _ (not-false _ x)) y
-    go false x false y true d = pool-does m o cov t ht
-    go false x false y false true = swap-does m o cov t ht
-    go false x false y false false = record { lines = o; cover = cov; frame-same = refl }
+    lines : Bool → Bool → Bool → Bool → ℕ
+    lines a b c d = first 1 (a ∷ b ∷ c ∷ d ∷ [])
+
+    go : (a : Bool) → not (eqb (hand m t) 0) ≡ a → (b : Bool) → hasEntries m (input m t) ≡ b → (c : Bool) → not (eqb (fullest m) 0) ≡ c → (d : Bool) → hasEntries m (output m t) ≡ d
+        → P (lines a b c d) (getD (m ∷ traceHand m t ∷ traceInput m t ∷ tracePool m t ∷ traceOutput m t ∷ []) (lines a b c d) m)
+    go true x b y c z d v = byHand (eqb-false _ _ (not-true _ x))
+    go false x true y c z d v = byInput (eqb-true _ _ (not-false _ x)) y
+    go false x false y true z d v = byPool y (eqb-false _ _ (not-true _ z))
+    go false x false y false z true v = byOutput y v
+    go false x false y false z false v = idle
+
+pub trace-does : (m : Image) → Lines m → Cover m → (t : ℕ) → t < 8 → StepStays m (traceStep m t)
+unfolding tracePool traceOutput
+trace-does m o cov t ht =
+    trace-cases (λ x n. StepStays m n) m t (record { lines = o; cover = cov; frame-same = refl })
+    (traceHand-does m o cov t ht) (traceInput-does m o cov t ht) (λ e nz. pool-does m o cov t ht) (λ e h. swap-does m o cov t ht)

@@ -1,9 +1,9 @@
-//! `draw SEED COUNT` prints COUNT random cases in the format of the outside vectors, of batches and finishes; `draw SEED COUNT maps`
-//! cases of the service map, `draw SEED COUNT reports` cases of sweep reports.
+//! `draw SEED COUNT` prints COUNT random cases in the format of the outside vectors, of batches and finishes; `draw SEED COUNT cycles`
+//! batches of a whole cycle each, `draw SEED COUNT maps` cases of the service map, `draw SEED COUNT reports` cases of sweep reports.
 
 use std::io::{BufWriter, Write};
 
-use reference::cases::{case, maps};
+use reference::cases::{case, cycles, maps};
 use reference::random::Random;
 use reference::reports::reports;
 use reference::vectors::{print, Case};
@@ -11,7 +11,7 @@ use reference::vectors::{print, Case};
 fn main() {
     let arguments: Vec<String> = std::env::args().skip(1).collect();
     let Some(cases) = cases(&arguments.iter().map(String::as_str).collect::<Vec<_>>()) else {
-        eprintln!("usage: draw SEED COUNT [maps|reports]");
+        eprintln!("usage: draw SEED COUNT [cycles|maps|reports]");
         std::process::exit(2);
     };
     let mut out = BufWriter::new(std::io::stdout().lock());
@@ -31,6 +31,7 @@ fn cases(arguments: &[&str]) -> Option<Box<dyn Iterator<Item = Case>>> {
             let mut random = Random::new(seed);
             Some(Box::new((0..count).map(move |number| case(&mut random, number))))
         }
+        ["cycles"] => Some(Box::new(cycles(seed, count).map(Case::Batch))),
         ["maps"] => Some(Box::new(maps(seed, count).map(Case::Map))),
         ["reports"] => Some(Box::new(reports(seed, count).map(Case::Report))),
         _ => None,

@@ -1,20 +1,22 @@
 //! Reads cases in the vectors' format from standard input and prints each as theorems of antt: the model's definitions,
 //! computed by the checker, give what the case says. A batch that the lowest run would answer or leave otherwise is printed under that
-//! rule too, with what the second implementation does.
+//! rule too, with what the second implementation does; of an accepted batch the trace and clean steps are counted as well.
 
 use std::fmt::Display;
 use std::io::Read;
 
 use reference::cases::otherwise_by_lowest;
 use reference::vectors::{parse, BatchCase, Case, FinishCase, MapCase, ReportCase, UNTOUCHED, UNTOUCHED_BYTE};
+use reference::work::work_in;
 
 const HEAD: &str = "\
 use mathlib.Core.Path.{_≡_, refl}
 use mathlib.Core.List.{List, [], _∷_, _++_}
 use Prim.Native.Nat.{ℕ}
 use lib.ListN.{replicate}
-use Rattle.model.specs.Mutate.{lowest}
-use Rattle.model.specs.Batch.{Batch, Finished, judgeOf, batchAt, batchOf, finishOf}
+use Rattle.model.specs.Mutate.{lowest, tightest}
+use Rattle.model.specs.Batch.{Batch, Finished, judgeOf, batchAt, batchOf, finishOf, events}
+use Rattle.model.specs.Bound.{workIn}
 use Rattle.model.specs.Map.{Mapped, mapOf}
 use Rattle.model.specs.Report.{Reported, reportOf}
 use Rattle.model.specs.Open.{model-open}
@@ -33,6 +35,7 @@ fn main() {
     for (number, case) in cases.iter().enumerate() {
         match case {
             Case::Batch(case) => print_batch(number, case),
+            Case::Cycle(case) => print_batch(number, &case.batch),
             Case::Finish(case) => print_finish(number, case),
             Case::Map(case) => print_map(number, case),
             Case::Report(case) => print_report(number, case),
@@ -44,6 +47,11 @@ fn print_batch(number: usize, case: &BatchCase) {
     print_batch_by("batchOf", number, "batch", case);
     if let Some(case) = otherwise_by_lowest(case) {
         print_batch_by("batchAt lowest 16", number, "lowest", &case);
+    }
+    if case.result == 0 {
+        let work = work_in(&case.steps, &case.given).accepted();
+        let call = format!("workIn (events tightest 16 {} ({}))", runs(&case.image), list(&case.steps));
+        print_theorem(number, "work", &case.name, "ℕ", &call, &work.to_string());
     }
 }
 

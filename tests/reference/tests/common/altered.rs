@@ -2,6 +2,7 @@
 
 use reference::image::{Image, Store};
 use reference::record::*;
+use reference::steps::step;
 use reference::{batch, judge, Record};
 
 /// What a step got and has done; a wrong implementation changes image or answer.
@@ -49,6 +50,20 @@ pub fn altered_batch(image: &mut [u16], steps: &[u8], answers: &mut [u16], alter
 }
 
 pub type Alter = fn(&mut Done);
+
+/// The same, but an image is never judged, and goes on damaged.
+pub fn unjudged_batch(image: &mut [u16], steps: &[u8], answers: &mut [u16], alter: Alter) -> u16 {
+    if !steps.len().is_multiple_of(8) || answers.len() * 4 != steps.len() {
+        return 1;
+    }
+    for (record, answer) in records(steps).zip(answers.chunks_mut(2)) {
+        let got = image.to_vec();
+        let (number, value) = step(&mut Store::of(image).unwrap(), record);
+        answer.copy_from_slice(&[number, value]);
+        alter(&mut Done { got: &got, record, image, answer });
+    }
+    0
+}
 
 /// An undirty that document 02, (ii), refuses for the card's count.
 pub fn undirty_whatever_the_count(done: &mut Done) {

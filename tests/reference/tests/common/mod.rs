@@ -5,7 +5,7 @@
 pub mod altered;
 
 use reference::batch;
-use reference::cases::{case, maps};
+use reference::cases::{case, cycles, maps};
 use reference::made::fresh_image;
 use reference::random::Random;
 use reference::reports::reports;
@@ -117,6 +117,12 @@ fn seed_and_count() -> (u64, u64) {
 pub fn cases_of_the_gate() -> Vec<Case> {
     let (seed, count) = seed_and_count();
     gate_cases(seed, count)
+}
+
+/// The whole cycles that it computes, one for eight of these cases.
+pub fn cycles_of_the_gate() -> Vec<BatchCase> {
+    let (seed, count) = seed_and_count();
+    in_files(10, seed, count.div_ceil(8), cycles)
 }
 
 /// The maps that it computes, one for four of these cases.
