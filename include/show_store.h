@@ -32,9 +32,9 @@ extern "C" {
 #define SHOW_STORE_MAP_BYTES(k) (SHOW_STORE_MAP_LINE_BYTES * (size_t)(k))
 
 /* A sweep report is a record of so many bytes for each stretch that was freed. So many words of scratch are lent to have one judged, for
- * stores of k cards. */
+ * stores of k cards: one for every eight granules. */
 #define SHOW_STORE_STRETCH_BYTES 4
-#define SHOW_STORE_SCRATCH_WORDS(k) (64u * (size_t)(k))
+#define SHOW_STORE_SCRATCH_WORDS(k) (8u * (size_t)(k))
 
 /* The desk: players and tracers are counted from 0, and so are a player's registers. */
 #define SHOW_STORE_PLAYERS 16

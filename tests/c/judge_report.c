@@ -148,7 +148,8 @@ static void results(void)
 static void refusals(unsigned k)
 {
     const size_t words = SHOW_STORE_WORDS(k), n = SHOW_STORE_SCRATCH_WORDS(k);
-    const size_t wrong[] = {0, 1, n - 1, n + 1, n / 8, 2 * n};
+    /* The last are G words, those of a scratch before. */
+    const size_t wrong[] = {0, 1, n - 1, n + 1, n / 2, n / 8, 2 * n, 8 * n};
     uint16_t *image = fresh_store(k), *other = fresh_store(k == 512 ? 1 : k + 1), *damaged = copy_of(image, words), *was = copy_of(image, words);
     uint8_t *report = (uint8_t *)memory(7);
 
@@ -198,7 +199,7 @@ static void own_finish(void)
 int main(void)
 {
     expect("bytes of a stretch", SHOW_STORE_STRETCH_BYTES, 4);
-    expect("words of the largest scratch", SHOW_STORE_SCRATCH_WORDS(SHOW_STORE_MOST_CARDS), 32768);
+    expect("words of the largest scratch", SHOW_STORE_SCRATCH_WORDS(SHOW_STORE_MOST_CARDS), 4096);
     results();
     refusals(1);
     refusals(2);

@@ -110,7 +110,7 @@ unfolding model-open cases-open examples-open
 misfit-unwritten = refl
 
 -- D and E in two stretches, and in one: what a finish would free
-pub own-stretches : reportWords (stretchRecord 5 1 ∷ stretchRecord 6 3 ∷ []) (replicate 64 7) ≡ record { result = 0; scratch = replicate 64 0 }
+pub own-stretches : reportWords (stretchRecord 5 1 ∷ stretchRecord 6 3 ∷ []) (replicate 8 7) ≡ record { result = 0; scratch = replicate 8 0 }
 unfolding model-open cases-open examples-open
 own-stretches = refl
 
@@ -146,17 +146,17 @@ pub held-or-missed :
 unfolding model-open cases-open examples-open
 held-or-missed = refl
 
--- a part of a record, and a scratch of 63 words, go before damage, and neither they nor damage touch the scratch
+-- a part of a record, and a scratch of 64 words, go before damage, and neither they nor damage touch the scratch
 pub report-refused :
-    reportOf (put atBegin (at heapAt 5) 7) atFinish (stretchRecord 5 4) (replicate 64 7)
-    ∷ reportOf atBegin (put atFinish (at heapAt 5) 7) (stretchRecord 5 4) (replicate 64 7)
-    ∷ reportOf (put atBegin (at heapAt 5) 7) atFinish (5 ∷ 0 ∷ 4 ∷ []) (replicate 64 7)
-    ∷ reportOf (put atBegin (at heapAt 5) 7) atFinish (stretchRecord 5 4) (replicate 63 7)
+    reportOf (put atBegin (at heapAt 5) 7) atFinish (stretchRecord 5 4) (replicate 8 7)
+    ∷ reportOf atBegin (put atFinish (at heapAt 5) 7) (stretchRecord 5 4) (replicate 8 7)
+    ∷ reportOf (put atBegin (at heapAt 5) 7) atFinish (5 ∷ 0 ∷ 4 ∷ []) (replicate 8 7)
+    ∷ reportOf (put atBegin (at heapAt 5) 7) atFinish (stretchRecord 5 4) (replicate 64 7)
     ∷ []
-    ≡ record { result = 2; scratch = replicate 64 7 }
-    ∷ record { result = 2; scratch = replicate 64 7 }
+    ≡ record { result = 2; scratch = replicate 8 7 }
+    ∷ record { result = 2; scratch = replicate 8 7 }
+    ∷ record { result = 1; scratch = replicate 8 7 }
     ∷ record { result = 1; scratch = replicate 64 7 }
-    ∷ record { result = 1; scratch = replicate 63 7 }
     ∷ []
 unfolding model-open cases-open examples-open
 report-refused = refl

@@ -8,5 +8,6 @@ pub mod Entries
 pub mod Sited
 pub mod Found
 pub mod Chains
+pub mod LongScratch
 pub mod Cases
 pub mod Examples

@@ -142,7 +142,7 @@ unfoldable pub reportWords : List (List ℕ) → List ℕ → Reported
 reportWords stretches scratch = reportOf atBegin atFinish (bytes stretches) scratch
 
 unfoldable pub reportResult : List (List ℕ) → ℕ
-reportResult stretches = reportWords stretches (replicate 64 7) .result
+reportResult stretches = reportWords stretches (replicate 8 7) .result
 
 -- what document 01's rule says of an image and a: "value 1 if fewer than a granules are free, else 0"
 unfoldable pub dueBefore : Image → ℕ → ℕ

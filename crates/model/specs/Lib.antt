@@ -18,4 +18,5 @@ pub mod Claim
 pub mod Bound
 pub mod BothRules
 pub mod OwnReport
+pub mod LongScratch
 pub mod Open

@@ -1,4 +1,4 @@
--- "Judge an older desk's sweep report", document 02, (vi): what chains reach, by computation; the stretches of a report; the verdict.
+-- "Judge an older desk's sweep report", document 02, (vi) and (viii): what chains reach, by computation; the stretches of a report; the verdict.
 use mathlib.Core.Bool.{Bool, true, false, not}
 use mathlib.Core.List.{List, [], _∷_}
 use Prim.Native.Nat.{ℕ, zero, suc, _+_, _*_, _/_, _%_}
@@ -95,9 +95,9 @@ pub record Reported : Type 0 where
   pub result : ℕ
   pub scratch : List ℕ
 
--- "The caller lends G words of scratch": G = 64 × k granules
+-- "from G/8 words of scratch [..]. A scratch of G words is a misfit from then on", (viii): G = 64 × k granules
 unfoldable pub scratchWords : ℕ → ℕ
-scratchWords k = 64 * k
+scratchWords k = 64 * k / 8
 
 -- "1 for any misfit, images of unequal length and report bytes not a multiple of 4 included"
 unfoldable pub reportMisfit : ℕ → List ℕ → List ℕ → List ℕ → List ℕ → Bool

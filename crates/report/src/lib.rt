@@ -26,7 +26,7 @@ fn extent(first: &[Word], second: &[Word], report: &[u8], scratch: &[Word]) -> E
             if report.len() % 4 != 0 {
                 return Extent::Misfit;
             }
-            if scratch.len() != 64 * k {
+            if scratch.len() != 8 * k {
                 return Extent::Misfit;
             }
             Extent::Cards(k)

@@ -4,6 +4,7 @@ use mathlib.Core.Logic.{inl, inr}
 use mathlib.Core.Bool.{Bool, true, false, not}
 use mathlib.Core.List.{List, [], _∷_}
 use Prim.Native.Nat.{ℕ, _*_, _%_}
+use native.Mathlib.Omega.{arith}
 use lib.ListN.{length}
 use borrow.Author.Tests.{eq-eqb, ne-eqb, eqb-true, not-true, not-false}
 use Rattle.model.specs.Base.{some, first, zeros}
@@ -25,6 +26,10 @@ use Rattle.report_laws.specs.Reported.{reportedOf, reportExtent}
 
 -- ---- the four lengths
 
+scratch-eighth : (k : ℕ) → scratchWords k ≡ 8 * k
+unfolding scratchWords
+scratch-eighth k = omega arith
+
 module _ (w : ℕ) (fs ss bs sc : List ℕ) (s : Extent) (e : s ≡ extentOf w (length fs)) where
   pub first-misfit : s ≡ Misfit → Misfit ≡ reportExtent w fs ss bs sc
   unfolding reportExtent reportMisfit some extentBy
@@ -44,13 +49,13 @@ module _ (w : ℕ) (fs ss bs sc : List ℕ) (s : Extent) (e : s ≡ extentOf w (
       bytes-misfit h = rw (cards-fits w fs s e k q, eq-eqb _ _ l, ne-eqb _ _ h)
 
       module _ (r : length bs % 4 ≡ 0) where
-        pub scratch-misfit : (length sc ≡ 64 * k → ⊥) → Misfit ≡ reportExtent w fs ss bs sc
-        unfolding reportExtent reportMisfit some extentBy scratchWords
-        scratch-misfit h = rw (cards-fits w fs s e k q, eq-eqb _ _ l, eq-eqb _ _ r, cards-k, ne-eqb _ _ h)
+        pub scratch-misfit : (length sc ≡ 8 * k → ⊥) → Misfit ≡ reportExtent w fs ss bs sc
+        unfolding reportExtent reportMisfit some extentBy
+        scratch-misfit h = rw (cards-fits w fs s e k q, eq-eqb _ _ l, eq-eqb _ _ r, cards-k, scratch-eighth k, ne-eqb _ _ h)
 
-        pub lengths-fit : length sc ≡ 64 * k → Cards k ≡ reportExtent w fs ss bs sc
-        unfolding reportExtent reportMisfit some extentBy scratchWords
-        lengths-fit h = rw (cards-fits w fs s e k q, eq-eqb _ _ l, eq-eqb _ _ r, cards-k, eq-eqb _ _ h)
+        pub lengths-fit : length sc ≡ 8 * k → Cards k ≡ reportExtent w fs ss bs sc
+        unfolding reportExtent reportMisfit some extentBy
+        lengths-fit h = rw (cards-fits w fs s e k q, eq-eqb _ _ l, eq-eqb _ _ r, cards-k, scratch-eighth k, eq-eqb _ _ h)
 
 -- ---- both images
 

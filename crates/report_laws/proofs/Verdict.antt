@@ -1,15 +1,13 @@
--- Numbers 13 and 14 as the definitions have them, the planes as a part of the scratch, and the ways out of a verdict.
-use borrow.Rule.Slice.PartMut.{midOf, putMid, mid-len, same-len-mid}
+-- Numbers 13 and 14 as the definitions have them, the scratch, and the ways out of a verdict.
 use mathlib.Core.Path.{_≡_, refl, sym, ap, _∙_}
 use mathlib.Core.Logic.{⊎-elim}
 use mathlib.Core.Bool.{Bool, true, false, not, _&&_, _||_}
-use mathlib.Core.List.{List, [], _∷_, _++_, append-nil}
+use mathlib.Core.List.{List, [], _∷_}
 use Prim.Native.Nat.{ℕ, _+_, _*_, _-_, _/_, _≤_, _<_}
 use native.Mathlib.Omega.{arith}
-use lib.ListN.{length, getD, replicate, length-replicate, replicate-append-replicate, take, drop, length-take, length-drop, drop-of-length-le}
-use lib.Seq.{drop-at}
+use lib.ListN.{length, getD, replicate}
 use borrow.Author.Tests.{not-false, le-leb, lt-ltb, leb-true, ltb-true}
-use Rattle.model.specs.Base.{any, all, every, first, bit}
+use Rattle.model.specs.Base.{zeros, any, all, every, first, bit}
 use Rattle.model.specs.Image.{granules, isStart, image, imageOf}
 use Rattle.model.specs.Report.{chainSet, stretchCount, stretchStart, stretchLength, stretchEnd, inStretch, covered, goodStretch, badStretch, heldFreed, lostMissed, verdict, scratchWords}
 use Rattle.model.proofs.Laws.{same-test, any-use, any-make, every-use, every-cons, every-nil}
@@ -94,53 +92,19 @@ module _ (w k : ℕ) (ws : List ℕ) (z : Sized w k ws) (o : Sound (imageOf w k 
 
 -- ---- the scratch
 
-pub cleared : (n m : ℕ) (s : List ℕ) → m ≡ n → s ≡ replicate m 0 → s ≡ replicate n 0
-cleared n m s l e = e ∙ ap (λ (j : ℕ). replicate j 0) l
+-- it has the words of both planes: reports are of the store of 16-bit words alone
+pub planes-long : (k n : ℕ) → n ≡ scratchWords k → n ≡ 2 * (64 * k / 16)
+unfolding scratchWords
+planes-long k n e = omega arith
 
-abbrev noughts : ℕ → List ℕ
-noughts n = replicate n 0
-
--- a scratch of m words of which the first n are the planes: the words behind them come back as `back`, then the planes as zeros
-module _ (w k m : ℕ) {ws : List ℕ} (z : Sized w k ws) (em : m ≡ scratchWords k) (n e : ℕ) (en : n ≡ 2 * (64 * k / w)) (ee : e ≡ 64 * k) where
-  planes-in : (n ≤ e) × (e ≡ m)
-  unfolding scratchWords
-  planes-in = (by-width (λ w. n ≡ 2 * (64 * k / w) → n ≤ e) (λ q. omega arith) (λ q. omega arith) (sized-width z) en, omega arith)
-
-  module _ (sc : List ℕ) (l : length sc ≡ m) (back : List ℕ) (eb : back ≡ noughts (length (midOf n (e - n) sc))) where
-    cleared-behind : List ℕ
-    cleared-behind = putMid n (e - n) sc back
-
-    behind-long : length (midOf n (e - n) sc) ≡ e - n
-    behind-long = mid-len n (e) sc (omega (arith, planes-in .1))
-
-    same-long : length cleared-behind ≡ length sc
-    unfolding cleared-behind
-    same-long = same-len-mid n (e - n) sc back (ap length eb ∙ length-replicate {A = ℕ} _ 0)
-
-    pub planes-long : (n ≤ length (putMid n (e - n) sc back)) × (length (midOf 0 (n - 0) (putMid n (e - n) sc back)) ≡ n)
-    unfolding cleared-behind
-    planes-long =
-        let h : n ≤ length (putMid n (e - n) sc back) = omega (arith, planes-in, same-long) in
-        (h, mid-len 0 n (putMid n (e - n) sc back) h ∙ omega arith)
-
-    -- the words behind the planes are those that came back
-    behind-is : drop n (putMid n (e - n) sc back) ≡ noughts (e - n)
-    behind-is =
-        let t : length (take n sc) ≡ n = length-take n sc ∙ omega (arith, planes-in) in
-        let none : drop (e - n) (drop n sc) ≡ [] = drop-of-length-le (drop n sc) {i = e - n} (omega (arith, planes-in, length-drop n sc)) in
-        drop-at (take n sc) _ n t ∙ (rw (none, eb, behind-long) (append-nil (noughts (e - n))))
-
-    pub planes-back : (v : List ℕ) → v ≡ noughts n → putMid 0 (n - 0) (putMid n (e - n) sc back) v ≡ noughts (length sc)
-    planes-back v ev =
-        let d : n - 0 ≡ n = omega arith in
-        let all : n + (e - n) ≡ length sc = omega (arith, planes-in) in
-        rw (d, ev) (ap (λ (x : List ℕ). noughts n ++ x) behind-is) ∙ (replicate-append-replicate n (e - n) 0 ∙ ap noughts all)
+pub scratch-zero : (s sc : List ℕ) (n : ℕ) → n ≡ length sc → s ≡ replicate n 0 → s ≡ zeros sc
+unfolding zeros
+scratch-zero s sc n l e = e ∙ ap (λ (j : ℕ). replicate j 0) l
 
 -- ---- the ways out of a verdict
 
-pub bytes-in : (bs : List ℕ) (c : ℕ) → c ≡ stretchCount bs → 4 * c ≤ length bs
-unfolding stretchCount
-bytes-in bs c e = omega arith
+pub bytes-in : (bs : List ℕ) → 4 * (length bs / 4) ≤ length bs
+bytes-in bs = omega arith
 
 pub number-is : (bs : List ℕ) → length bs / 4 ≡ stretchCount bs
 unfolding stretchCount

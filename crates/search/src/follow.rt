@@ -1,13 +1,13 @@
 // Links followed from pending objects on. An object is pending from the moment at which it is first seen until its links are followed.
-// The hints are a stack of objects that may be pending; they only spare a walk over the plane of those that are.
+// The hints are a stack of objects that may be pending. One that finds no room there is spilled: the plane alone has it, until a refill.
 ghost use mathlib.Core.Path.{_≡_};
 ghost use Prim.Native.Nat.{_+_, _*_, _/_, _≤_, _<_};
-ghost use lib.ListN.{length, replicate};
+ghost use lib.ListN.{length};
 ghost use Rattle.model.specs.Image.{imageOf};
 ghost use Rattle.theory.specs.Lines.{Sound};
 ghost use Rattle.image_laws.specs.Sized.{Sized};
 ghost use Rattle.image.specs.Layout.{width, most};
-ghost use Rattle.search_laws.specs.Search.{Planes, pending, Visited, NextPending, Search, toDo, Goes, Held, NonePending, ChainBits};
+ghost use Rattle.search_laws.specs.Search.{Planes, pending, Visited, Hinted, LastPending, NonePending, Refilled, Search, toDo, Goes, Held, ChainBits};
 use image::layout::BITS;
 use image::layout::Word;
 
@@ -87,25 +87,11 @@ fn drain(im: &[Word], k: usize, s: &mut [Word], hints: &mut [Word], n: usize)
     }
 }
 
-// The lowest pending granule, or 64 * k.
-fn next_pending(s: &[Word], k: usize) -> usize
-    requires { ⌜ Planes width k (now s) ⌝ }
-    ensures { λ r. ⌜ NextPending width k (now (s .entry)) r ⌝ }
-{
-    let p = 64 * k / BITS;
-    for i in 0..p {
-        let x = s[p + i];
-        if x != 0 {
-            return BITS * i + crate::planes::lowest(x);
-        }
-    }
-    64 * k
-}
-
 // The granules of word i, the bits of word, become hints, while there is room.
 fn hint_word(hints: &mut [Word], n: usize, i: usize, word: Word) -> usize
-    requires { ⌜ n ≤ length (now hints) ⌝ }
+    requires { ⌜ n < length (now hints) ⌝ }
     requires { ⌜ i < 64 * most / width ⌝ }
+    ensures { λ r. ⌜ Hinted width i word (now (hints .entry)) n (now (hints .exit)) r ⌝ }
     ensures { λ r. ⌜ r ≤ length (now (hints .entry)) ⌝ }
 {
     let mut x = word;
@@ -122,15 +108,20 @@ fn hint_word(hints: &mut [Word], n: usize, i: usize, word: Word) -> usize
     h
 }
 
-// Pending granules become hints, the lowest first, while there is room.
+// Pending granules become hints, the lowest first, while there is room. There is no hint only if nothing is pending.
 fn refill(s: &[Word], k: usize, hints: &mut [Word]) -> usize
     requires { ⌜ Planes width k (now s) ⌝ }
+    requires { ⌜ 1 ≤ length (now hints) ⌝ }
+    ensures { λ r. ⌜ Refilled width k (now (s .entry)) (now (hints .exit)) r ⌝ }
     ensures { λ r. ⌜ r ≤ length (now (hints .entry)) ⌝ }
 {
     let p = 64 * k / BITS;
     let mut n = 0;
     for i in 0..p {
         n = hint_word(hints, n, i, s[p + i]);
+        if n == hints.len() {
+            return n;
+        }
     }
     n
 }
@@ -151,17 +142,17 @@ fn hold_all(im: &[Word], k: usize, s: &mut [Word], hints: &mut [Word]) -> usize
     h
 }
 
-// The pending object g is settled, then those that hints name.
-fn pass(im: &[Word], k: usize, s: &mut [Word], hints: &mut [Word], g: usize)
+// The object that the last hint names is settled, then those that the other hints name.
+fn pass(im: &[Word], k: usize, s: &mut [Word], hints: &mut [Word], n: usize)
     requires { ⌜ Sized width k (now im) ⌝ }
     requires { ⌜ Sound (imageOf width k (now im)) ⌝ }
     requires { ⌜ Search width k (imageOf width k (now im)) (now s) ⌝ }
-    requires { ⌜ (g < 64 * k) × (pending width k (now s) g ≡ 1) ⌝ }
+    requires { ⌜ (1 ≤ n) × (n ≤ length (now hints)) ⌝ }
+    requires { ⌜ LastPending width k (now s) (now hints) n ⌝ }
     ensures { λ _. ⌜ Goes width k (imageOf width k (now (im .entry))) (now (s .entry)) (now (s .exit)) 1 ⌝ }
 {
-    let n = settle(im, k, s, hints, 0, g);
-    drain(im, k, s, hints, n);
-    let h = refill(s, k, hints);
+    let g = hints[n - 1] as usize;
+    let h = settle(im, k, s, hints, n - 1, g);
     drain(im, k, s, hints, h);
 }
 
@@ -170,23 +161,26 @@ fn follow_all(im: &[Word], k: usize, s: &mut [Word], hints: &mut [Word])
     requires { ⌜ Sized width k (now im) ⌝ }
     requires { ⌜ Sound (imageOf width k (now im)) ⌝ }
     requires { ⌜ Search width k (imageOf width k (now im)) (now s) ⌝ }
+    requires { ⌜ 1 ≤ length (now hints) ⌝ }
     ensures { λ _. ⌜ Goes width k (imageOf width k (now (im .entry))) (now (s .entry)) (now (s .exit)) 0 ⌝ }
     ensures { λ _. ⌜ NonePending width k (now (s .exit)) ⌝ }
 {
-    let mut g = next_pending(s, k);
-    while g < 64 * k {
-        pass(im, k, s, hints, g);
-        g = next_pending(s, k);
+    let mut h = refill(s, k, hints);
+    while h != 0 {
+        pass(im, k, s, hints, h);
+        h = refill(s, k, hints);
     }
 }
 
-// From a scratch of zeros.
+// The planes may hold anything at entry.
 pub fn reach_with(im: &[Word], k: usize, s: &mut [Word], hints: &mut [Word])
     requires { ⌜ Sized width k (now im) ⌝ }
     requires { ⌜ Sound (imageOf width k (now im)) ⌝ }
-    requires { ⌜ now s ≡ replicate (2 * (64 * k / width)) 0 ⌝ }
+    requires { ⌜ length (now s) ≡ 2 * (64 * k / width) ⌝ }
+    requires { ⌜ 1 ≤ length (now hints) ⌝ }
     ensures { λ _. ⌜ ChainBits width k (imageOf width k (now (im .entry))) (now (s .exit)) ⌝ }
 {
+    stretches::clearing::clear(s);
     crate::planes::add(s, 0);
     let n = hold_all(im, k, s, hints);
     drain(im, k, s, hints, n);

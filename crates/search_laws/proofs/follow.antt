@@ -4,5 +4,5 @@ pub mod Goes
 pub mod Visiting
 pub mod Settling
 pub mod Registers
-pub mod NextPending
+pub mod Refill
 pub mod Reach

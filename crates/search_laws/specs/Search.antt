@@ -5,7 +5,7 @@ use mathlib.Core.Bool.{true, false}
 use mathlib.Core.List.{List}
 use mathlib.Core.Logic.{_⊎_}
 use lib.ListN.{length}
-use Rattle.model.specs.Base.{nth, bit, setBit, sumBelow}
+use Rattle.model.specs.Base.{nth, testBit, bit, setBit, sumBelow}
 use Rattle.model.specs.Image.{Image, mostCards, links, link}
 use Rattle.model.specs.Claim.{Chain}
 use Rattle.image_laws.specs.Digits.{digit}
@@ -29,10 +29,34 @@ pub data Visited (w k : ℕ) (s : List ℕ) (n a : ℕ) (s' : List ℕ) (r : ℕ
   again : seen w s a ≡ 1 → s' ≡ s → r ≡ n → Visited w k s n a s' r
   newly : seen w s a ≡ 0 → s' ≡ setBit w (setBit w s a) (64 * k + a) → r ≤ n + 1 → Visited w k s n a s' r
 
--- r is a pending granule, or the store's end if there is none
-pub record NextPending (w k : ℕ) (s : List ℕ) (r : ℕ) : Type 0 where
-  pub found : r < 64 * k → pending w k s r ≡ 1
-  pub none : 64 * k ≤ r → (g : ℕ) → g < 64 * k → pending w k s g ≡ 0
+-- ---- hints: granules that may be pending, the last of them the first to be looked at
+
+-- the last of n hints is a granule of x, word i of a plane
+pub record LastOf (w i x : ℕ) (hints : List ℕ) (n : ℕ) : Type 0 where
+  pub some : 1 ≤ n
+  pub bit-number : ℕ
+  pub within : bit-number < w
+  pub is-set : testBit x bit-number ≡ true
+  pub named : nth hints (n - 1) ≡ w * i + bit-number
+
+-- the granules of x, word i of a plane, have become hints: there were n, and room for more, there are r
+pub data Hinted (w i x : ℕ) (hints : List ℕ) (n : ℕ) (hints' : List ℕ) (r : ℕ) : Type 0 where
+  no-granule : x ≡ 0 → hints' ≡ hints → r ≡ n → Hinted w i x hints n hints' r
+  some-granule : LastOf w i x hints' r → Hinted w i x hints n hints' r
+
+-- the last of n hints is pending
+pub record LastPending (w k : ℕ) (s hints : List ℕ) (n : ℕ) : Type 0 where
+  pub here : nth hints (n - 1) < 64 * k
+  pub is-pending : pending w k s (nth hints (n - 1)) ≡ 1
+
+-- nothing is pending
+pub record NonePending (w k : ℕ) (s : List ℕ) : Type 0 where
+  pub none : (g : ℕ) → g < 64 * k → pending w k s g ≡ 0
+
+-- n hints have been made of what is pending: none only if nothing is
+pub record Refilled (w k : ℕ) (s hints : List ℕ) (n : ℕ) : Type 0 where
+  pub none : n ≡ 0 → NonePending w k s
+  pub last : 1 ≤ n → LastPending w k s hints n
 
 -- ---- what holds throughout
 
@@ -61,10 +85,6 @@ pub record Goes (w k : ℕ) (m : Image) (s s' : List ℕ) (d : ℕ) : Type 0 whe
 pub record Held (w k : ℕ) (m : Image) (s : List ℕ) : Type 0 where
   pub search : Search w k m s
   pub regs : (i : ℕ) → i < 256 → seen w s (nth (m .regs) i) ≡ 1
-
--- the search is at its end
-pub record NonePending (w k : ℕ) (s : List ℕ) : Type 0 where
-  pub none : (g : ℕ) → g < 64 * k → pending w k s g ≡ 0
 
 -- ---- what the search gives: the first plane has granule 0 and what a chain reaches, the second is zero
 

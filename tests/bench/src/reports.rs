@@ -7,6 +7,7 @@ use std::time::Duration;
 use reference::image::Image;
 use reference::layout::LARGEST_OBJECT;
 use reference::made::linked;
+use reference::overflow::{list, relay, tree, wide, Order};
 use reference::random::Random;
 use reference::report::{freed, joined, report_bytes, scratch_words, within_reach, Stretch};
 use reference::vectors::UNTOUCHED;
@@ -93,34 +94,43 @@ fn in_random_order(k: usize, seed: u64) -> Vec<u16> {
 /// The number of no object.
 const NONE: usize = usize::MAX;
 
-fn kinds(k: usize, seed: u64) -> [(&'static str, Report); 11] {
+/// Images and a report, by what they are, and the passes beyond judging that request (vi) took on them at k = 512, with its scratch of G words.
+type Kind = (&'static str, f64, Report);
+
+fn kinds(k: usize, seed: u64) -> [Kind; 15] {
     let mut random = Random::new(seed);
     let objects = 64 * k - 1;
-    let wide = objects.div_ceil(LARGEST_OBJECT);
+    let largest = objects.div_ceil(LARGEST_OBJECT);
     let unheld = || linked(k, 1, 2, None, |n, i| n + i + 1);
     let alone = |image| Report::of_all_lost(image, false);
     let ascending = graph(k, |n, i| if i == 0 { n + 1 } else { NONE });
     let descending = linked(k, 1, 2, Some(objects - 1), |n, i| if i == 0 { n.wrapping_sub(1) } else { NONE });
     [
-        ("random graph", alone(graph(k, |_, _| random.below(objects)))),
-        ("list, ascending", alone(ascending)),
-        ("list, descending", alone(descending)),
-        ("list, random order", alone(in_random_order(k, seed))),
-        ("tree", alone(graph(k, |n, i| 2 * n + 1 + i))),
-        ("4,094 links each", alone(linked(k, LARGEST_OBJECT, 4_094, Some(0), |n, i| (n + i) % wide))),
-        ("own, 1 granule", Report::of_our_own(show(k, Sizes::One, Free::Half))),
-        ("own, 1 to 8", Report::of_our_own(show(k, Sizes::OneToEight, Free::Half))),
-        ("own, runs between", Report::of_our_own(show(k, Sizes::OneBetweenRuns, Free::Half))),
-        ("all freed, each apart", alone(unheld())),
-        ("all freed, one stretch", Report::of_all_lost(unheld(), true)),
+        ("random graph", 32.5, alone(graph(k, |_, _| random.below(objects)))),
+        ("list, ascending", 15.4, alone(ascending)),
+        ("list, descending", 15.4, alone(descending)),
+        ("list, low and high", 14.2, alone(list(k, Order::Alternating))),
+        ("list, random order", 21.1, alone(in_random_order(k, seed))),
+        ("tree", 13.7, alone(graph(k, |n, i| 2 * n + 1 + i))),
+        ("4,094 links each", 9.0, alone(linked(k, LARGEST_OBJECT, 4_094, Some(0), |n, i| (n + i) % largest))),
+        ("one wide object", 6.3, alone(wide(k, Order::Rising))),
+        ("tree of wide objects", 9.2, alone(tree(k))),
+        ("wide objects in a row", 10.8, alone(relay(k, Order::Rising))),
+        ("own, 1 granule", 10.7, Report::of_our_own(show(k, Sizes::One, Free::Half))),
+        ("own, 1 to 8", 4.3, Report::of_our_own(show(k, Sizes::OneToEight, Free::Half))),
+        ("own, runs between", 5.5, Report::of_our_own(show(k, Sizes::OneBetweenRuns, Free::Half))),
+        ("all freed, each apart", 5.6, alone(unheld())),
+        ("all freed, one stretch", 5.3, Report::of_all_lost(unheld(), true)),
     ]
 }
 
 pub fn reporting(goals: &mut Goals) {
-    println!("report                         library ns  judging ns  second ns  library/second  passes beyond");
+    println!(
+        "report                         library ns  judging ns  second ns  library/second  passes beyond  against (vi)"
+    );
     for k in [64, 512] {
         let scratch = RefCell::new(vec![0; scratch_words(k)]);
-        for (what, report) in kinds(k, 1) {
+        for (what, before, report) in kinds(k, 1) {
             let mut ours = || report.time(library::judge_report, &scratch);
             let mut judging = || report.judging();
             let mut theirs = || report.time(reference::judge_report, &scratch);
@@ -128,10 +138,12 @@ pub fn reporting(goals: &mut Goals) {
             let works: [&mut dyn FnMut() -> Duration; 4] = [&mut ours, &mut judging, &mut theirs, &mut passes];
             let [ours, judging, theirs, five_passes] = in_turn(4, works);
             let (ratio, passes) = (ours / theirs, (ours - judging) / (five_passes / 5.0));
-            println!("  k = {k:3}, {what:22} {ours:11.0} {judging:11.0} {theirs:10.0} {ratio:15.2} {passes:14.1}");
+            print!("  k = {k:3}, {what:22} {ours:11.0} {judging:11.0} {theirs:10.0} {ratio:15.2} {passes:14.1}");
+            println!("{}", if k == 512 { format!(" {:13.2}", passes / before) } else { String::new() });
             goals.at_most("report against the second implementation", ratio, NOT_SLOWER);
             if k == 512 {
                 goals.at_most(&format!("report at k = 512 beyond judging, {what}, in plain passes"), passes, 50.0);
+                goals.at_most(&format!("passes of {what} against those of request (vi)"), passes / before, 1.5);
             }
         }
     }
@@ -142,8 +154,8 @@ pub fn reporting(goals: &mut Goals) {
 fn growing(goals: &mut Goals) {
     let scratch = RefCell::new(vec![0; scratch_words(512)]);
     let small: Vec<_> = (1..=8).map(|seed| kinds(64, seed)).collect();
-    for (n, (what, large)) in kinds(512, 1).iter().enumerate() {
-        let small: Vec<&Report> = small.iter().map(|kinds| &kinds[n].1).collect();
+    for (n, (what, _, large)) in kinds(512, 1).iter().enumerate() {
+        let small: Vec<&Report> = small.iter().map(|kinds| &kinds[n].2).collect();
         let all = |work: &dyn Fn(&Report) -> Duration| small.iter().map(|report| work(report)).sum::<Duration>();
         let [ours, judging, small_ours, small_judging] = in_turn(
             4,

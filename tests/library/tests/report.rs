@@ -4,10 +4,12 @@
 use std::collections::BTreeMap;
 
 use library::guarded::Guarded;
+use reference::bounded::FORGETFUL;
 use reference::generate::{batches, damage};
-use reference::image::{Image, Object};
-use reference::layout::LARGEST_OBJECT;
+use reference::image::{Image, Object, Store};
+use reference::layout::{CARD_GRANULES, LARGEST_OBJECT};
 use reference::made::{far, fresh_image, linked, running};
+use reference::overflow::{lists, overflowing};
 use reference::random::Random;
 use reference::record::{Record, BEGIN, FINISH, RECORD_BYTES};
 use reference::report::{joined, report_bytes, within_reach, Stretch};
@@ -15,7 +17,7 @@ use reference::reports::{any_image, any_scratch, cycles, list_with_cycles, repor
 use reference::reports::{Cycle, Drawn};
 use reference::scratch_words;
 use reference::spoils::{BAD, HELD, MISSED, UNREPORTED};
-use reference::vectors::{parse_reports, ReportCase};
+use reference::vectors::{parse_older_reports, parse_reports, ReportCase};
 
 const GUARD: u16 = 0xa55a;
 const BYTE_GUARD: u8 = 0x77;
@@ -59,6 +61,24 @@ impl Seen {
         let k = reference::cards_of_length(drawn.first.len()).unwrap();
         let scratch = any_scratch(random, scratch_words(k));
         self.same(&drawn.first, &drawn.second, &report_bytes(&drawn.stretches), &scratch)
+    }
+
+    /// Reports on one image: of all that is lost, of that and each of these objects, which are held, and of all that is lost but for some object.
+    fn same_around(&mut self, random: &mut Random, image: &[u16], held: &[Stretch]) {
+        let (_, lost) = held_and_lost(image);
+        let scratch = any_scratch(random, scratch_words(reference::cards_of_length(image.len()).unwrap()));
+        assert_eq!(self.same(image, image, &report_bytes(&lost), &scratch), 0);
+        for &object in held {
+            let mut more = lost.clone();
+            more.push(object);
+            more.sort_by_key(|stretch| stretch.start);
+            assert_eq!(self.same(image, image, &report_bytes(&more), &scratch), 13, "{object:?}");
+            let mut less = lost.clone();
+            if !less.is_empty() {
+                let missed = less.remove(random.below(lost.len()));
+                assert_eq!(self.same(image, image, &report_bytes(&less), &scratch), 14, "{missed:?}");
+            }
+        }
     }
 
     fn all_at_least(&self, results: &[u16], least: usize) {
@@ -214,23 +234,59 @@ fn many_objects_at_once() {
         let any = linked(k, size, links, Some(objects / 3), |_, _| random.below(objects));
         let few = linked(k, size, links, Some(0), |_, i| if i < 2 { random.below(objects) } else { NONE });
         for image in [tree, any, few] {
-            let (held, lost) = held_and_lost(&image);
-            let scratch = any_scratch(&mut random, scratch_words(k));
-            assert_eq!(seen.same(&image, &image, &report_bytes(&lost), &scratch), 0);
-            for _ in 0..8 {
-                let mut more = lost.clone();
-                more.push(random.pick(&held).unwrap());
-                more.sort_by_key(|stretch| stretch.start);
-                assert_eq!(seen.same(&image, &image, &report_bytes(&more), &scratch), 13);
-                let mut less = lost.clone();
-                if !less.is_empty() {
-                    less.remove(random.below(lost.len()));
-                    assert_eq!(seen.same(&image, &image, &report_bytes(&less), &scratch), 14);
-                }
-            }
+            let (held, _) = held_and_lost(&image);
+            let some: Vec<Stretch> = (0..8).map(|_| random.pick(&held).unwrap()).collect();
+            seen.same_around(&mut random, &image, &some);
         }
     }
     seen.all_at_least(&[0, 13, 14], 20);
+}
+
+/// Stores on which a stack of 1,024 entries overflows, and lists through the whole store. The held objects are the lowest, the highest and some others,
+/// and some that are reached only by way of one that such a stack has no room for.
+#[test]
+fn stores_that_overflow_a_stack() {
+    let mut random = Random::new(311);
+    let (mut seen, mut behind_others) = (Seen::default(), 0);
+    for (name, image) in overflowing().into_iter().chain(lists()) {
+        println!("{name}");
+        let (held, _) = held_and_lost(&image);
+        let near = FORGETFUL.run(Image::of(&image).unwrap()).seen;
+        let far: Vec<Stretch> = held.iter().copied().filter(|stretch| !near[stretch.granules().start]).collect();
+        let picked = [&held, &held, &held, &far, &far, &far].into_iter().filter_map(|from| random.pick(from));
+        let some = [&held[..2], &held[held.len() - 2..], &picked.collect::<Vec<_>>()].concat();
+        seen.same_around(&mut random, &image, &some);
+        behind_others += usize::from(!far.is_empty());
+    }
+    seen.all_at_least(&[0], 26);
+    seen.all_at_least(&[13, 14], 26 * 7);
+    assert_eq!(behind_others, 16);
+}
+
+/// Two of these stores as first and second image, or one of them with and without its register: nothing that is seen in one counts in the other.
+#[test]
+fn two_stores_that_overflow_a_stack() {
+    let mut random = Random::new(313);
+    let mut seen = Seen::default();
+    let mut last: Vec<u16> = Vec::new();
+    for (_, image) in overflowing().into_iter().chain(lists()) {
+        let mut unheld = image.clone();
+        Store::of(&mut unheld).unwrap().set_register(0, 0, 0);
+        let k = reference::cards_of_length(image.len()).unwrap();
+        let (_, lost) = held_and_lost(&image);
+        let [lost, all] = [&lost[..], &[Stretch::new(1, CARD_GRANULES * k - 1)]].map(report_bytes);
+        let scratch = any_scratch(&mut random, scratch_words(k));
+        assert_eq!(seen.same(&unheld, &image, &lost, &scratch), 14);
+        assert_eq!(seen.same(&image, &unheld, &lost, &scratch), 0);
+        assert_eq!(seen.same(&image, &unheld, &all, &scratch), 0);
+        assert_eq!(seen.same(&unheld, &unheld, &all, &scratch), 0);
+        assert_eq!(seen.same(&unheld, &image, &all, &scratch), 13);
+        if last.len() == image.len() {
+            seen.same(&last, &image, &lost, &scratch);
+        }
+        last = image;
+    }
+    seen.all_at_least(&[0, 13, 14], 26);
 }
 
 /// The objects within reach, and those out of reach, a stretch each.
@@ -314,14 +370,14 @@ fn lengths() {
     assert_eq!((seen.results[&2], seen.results[&12]), (6 * 2 * 3, 6 + 5));
 }
 
-/// Every length of the scratch up to two cards' words and more, and every length of an image up to two cards'.
+/// Every length of the scratch up to a word for each granule of three cards, and every length of an image up to two cards'.
 #[test]
 fn scratches_and_images_of_every_length() {
     let mut random = Random::new(307);
     let mut seen = Seen::default();
     for k in 1..=2 {
         let image = fresh_image(k);
-        for words in 0..=scratch_words(3) {
+        for words in 0..=3 * CARD_GRANULES {
             let scratch = any_scratch(&mut random, words);
             let result = seen.same(&image, &image, &[], &scratch);
             assert_eq!(result, u16::from(words != scratch_words(k)));
@@ -332,6 +388,31 @@ fn scratches_and_images_of_every_length() {
             let scratch = any_scratch(&mut random, scratch_words(k));
             assert_eq!(seen.same(&vec![0; words], &vec![0; words], &[], &scratch), 1);
         }
+    }
+}
+
+/// "A scratch of G words is a misfit from then on", and so is half of it and double the right one, with damage and without; the right one is
+/// none.
+#[test]
+fn a_scratch_of_g_words() {
+    let mut random = Random::new(312);
+    let mut seen = Seen::default();
+    for k in [1, 2, 3, 7, 8, 9, 64, 65, 511, 512] {
+        let image = any_image(&mut random, k);
+        let mut damaged = image.clone();
+        damage(&mut random, &mut damaged);
+        let (_, lost) = held_and_lost(&image);
+        let report = report_bytes(&lost);
+        let granules = CARD_GRANULES * k;
+        for words in [granules, granules / 2, granules / 4] {
+            let scratch = any_scratch(&mut random, words);
+            for second in [&image, &damaged] {
+                assert_eq!(seen.same(&image, second, &report, &scratch), 1, "{words} words, {k} cards");
+            }
+        }
+        let scratch = any_scratch(&mut random, granules / 8);
+        assert_eq!(seen.same(&image, &image, &report, &scratch), 0, "{k} cards");
+        assert_eq!(seen.same(&image, &damaged, &report, &scratch), 2, "{k} cards");
     }
 }
 
@@ -380,16 +461,24 @@ fn a_begin_and_a_finish_alone() {
     seen.all_at_least(&[0], 900);
 }
 
+/// Request (viii)'s, and request (vi)'s with G/8 words and as they stand.
 #[test]
 fn outside_reports() {
-    let cases = parse_reports(include_str!("../../vectors/document_02/06-vi.txt")).unwrap();
-    let mut seen = Seen::default();
-    for case in &cases {
-        let mut scratch = case.scratch.clone();
-        let result = library::judge_report(&case.first, &case.second, &case.report, &mut scratch);
-        assert_eq!(result, case.result, "case {}", case.name);
-        assert!(scratch == case.after, "scratch of case {}", case.name);
-        seen.same_case(case);
-    }
-    assert_eq!(seen.results, [(0, 26), (1, 12), (2, 8), (12, 14), (13, 7), (14, 3)].into());
+    let [with_an_eighth, as_they_stand] =
+        parse_older_reports(include_str!("../../vectors/document_02/06-vi.txt")).unwrap();
+    let newer = parse_reports(include_str!("../../vectors/document_02/08-viii.txt")).unwrap();
+    let results = [newer, with_an_eighth, as_they_stand].map(|cases| {
+        let mut seen = Seen::default();
+        for case in &cases {
+            let mut scratch = case.scratch.clone();
+            let result = library::judge_report(&case.first, &case.second, &case.report, &mut scratch);
+            assert_eq!(result, case.result, "case {}", case.name);
+            assert!(scratch == case.after, "scratch of case {}", case.name);
+            seen.same_case(case);
+        }
+        seen.results
+    });
+    assert_eq!(results[0], [(0, 16), (1, 9), (2, 11), (12, 21), (13, 11), (14, 2)].into());
+    assert_eq!(results[1], [(0, 26), (1, 12), (2, 8), (12, 14), (13, 7), (14, 3)].into());
+    assert_eq!(results[2], [(1, 70)].into());
 }

@@ -2,6 +2,7 @@
 //! alone, and the checks of whole lists of steps that any implementation of `batch` can be put to.
 
 pub mod both_rules;
+pub mod bounded;
 pub mod cases;
 pub mod demand;
 pub mod dragging;
@@ -13,6 +14,7 @@ pub mod judge;
 pub mod layout;
 pub mod made;
 pub mod map;
+pub mod overflow;
 pub mod pinned;
 pub mod placed;
 pub mod plain;

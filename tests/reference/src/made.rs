@@ -69,19 +69,35 @@ pub fn linked(
     held: Option<usize>,
     mut target: impl FnMut(usize, usize) -> usize,
 ) -> Vec<u16> {
-    let mut words = vec![0; length(k)];
-    let mut store = Store::of(&mut words).expect("a fitting length");
-    let granules = store.layout.granules();
-    let objects: Vec<usize> = (1..granules).step_by(size).collect();
-    for (n, &g) in objects.iter().enumerate() {
+    let granules = CARD_GRANULES * k;
+    let mut object = |(n, g)| {
         let size = size.min(granules - g);
         let links = links.min(GRANULE_WORDS * size - 2);
-        store.set_object(g, size, links);
-        for i in 0..links {
-            store.set_link(g, i, objects.get(target(n, i)).copied().unwrap_or(0));
+        (size, (0..links).map(|i| target(n, i)).collect())
+    };
+    let objects: Vec<_> = (1..granules).step_by(size).enumerate().map(&mut object).collect();
+    laid(k, &objects, held)
+}
+
+/// These objects side by side, each with its granules and the objects that it links to, counted from 0; a link to no such object is nil. They must
+/// fill the store. A register holds object `held`.
+pub fn laid(k: usize, objects: &[(usize, Vec<usize>)], held: Option<usize>) -> Vec<u16> {
+    let mut words = vec![0; length(k)];
+    let mut store = Store::of(&mut words).expect("a fitting length");
+    let mut end = 1;
+    let mut starts = Vec::new();
+    for (size, _) in objects {
+        starts.push(end);
+        end += size;
+    }
+    assert_eq!(end, store.layout.granules(), "objects that fill the store");
+    for (&g, (size, links)) in starts.iter().zip(objects) {
+        store.set_object(g, *size, links.len());
+        for (i, &n) in links.iter().enumerate() {
+            store.set_link(g, i, starts.get(n).copied().unwrap_or(0));
         }
     }
-    store.set_register(0, 0, held.map_or(0, |n| objects[n]));
+    store.set_register(0, 0, held.map_or(0, |n| starts[n]));
     words
 }
 

@@ -1,5 +1,5 @@
-//! Sweep reports of older desks, by document 02, (vi): "Given the image at the begin, the image just before the finish and such a report,
-//! say whether it is acceptable." And the report of a finish, by what it has freed.
+//! Sweep reports of older desks, by document 02, (vi) and (viii): "Given the image at the begin, the image just before the finish and such a
+//! report, say whether it is acceptable." And the report of a finish, by what it has freed.
 
 use std::ops::Range;
 
@@ -10,9 +10,10 @@ use crate::layout::{cards_of_length, CARD_GRANULES};
 /// "records of 4 bytes, no header"
 pub const STRETCH_BYTES: usize = 4;
 
-/// The words of scratch for stores of `k` cards: "The caller lends G words of scratch".
+/// The words of scratch for stores of `k` cards, by (viii): "The same verdicts, for the same images and reports, shall come from G/8 words of
+/// scratch, again zero afterwards. A scratch of G words is a misfit from then on."
 pub fn scratch_words(k: usize) -> usize {
-    CARD_GRANULES * k
+    CARD_GRANULES * k / 8
 }
 
 /// "start and length in granules, 16 bits each, low byte first"

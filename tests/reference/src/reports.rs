@@ -195,10 +195,17 @@ pub fn any_scratch(random: &mut Random, words: usize) -> Vec<u16> {
     }
 }
 
-/// Lengths of a scratch that are near the one for `k` cards, and none of them.
-pub fn wrong_scratches(k: usize) -> [usize; 8] {
+/// Lengths of a scratch that are near the one for `k` cards, and none of them: half of it and an eighth, and G words, as many as there were by
+/// (vi), among them.
+pub fn wrong_scratches(k: usize) -> [usize; 9] {
     let words = scratch_words(k);
-    [0, 1, words - 1, words + 1, words / 8, 8 * words, scratch_words(k - 1), scratch_words(k + 1)]
+    [0, 1, words - 1, words + 1, words / 2, words / 8, 8 * words, scratch_words(k - 1), scratch_words(k + 1)]
+}
+
+/// One of them, every other time G words.
+fn wrong_scratch(random: &mut Random, k: usize) -> usize {
+    let any = random.pick(&wrong_scratches(k)).expect("some length");
+    random.weighted(&[(1, 8 * scratch_words(k)), (1, any)])
 }
 
 /// The case with what this implementation does on it.
@@ -216,7 +223,7 @@ pub fn reports(seed: u64, count: u64) -> impl Iterator<Item = ReportCase> {
 }
 
 /// Keeps the generator apart from that of the maps, and has the few cases of the gate tell as much as they can.
-const SALT: u64 = 1500;
+const SALT: u64 = 5091;
 
 /// 32 kinds in turn, so that a few cases show every number, and every way to make a stretch bad.
 pub fn report_case(random: &mut Random, k: usize, number: u64) -> ReportCase {
@@ -311,7 +318,7 @@ fn unfit(random: &mut Random, turn: usize, drawn: &mut Drawn, report: &mut Vec<u
         match way {
             0 => report.resize(report.len() + random.from_to(1, 3), 0),
             1 => drawn.second = any_image(random, k + 1),
-            2 => scratch.resize(random.pick(&wrong_scratches(k)).expect("some length"), 1),
+            2 => scratch.resize(wrong_scratch(random, k), 1),
             3 => change_length(random, &mut drawn.first),
             _ => change_length(random, &mut drawn.second),
         }

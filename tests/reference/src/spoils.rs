@@ -1,5 +1,8 @@
 //! Ways to make a report wrong, each of which leaves the rest of it as it was.
 
+// Each is a `Spoil`, whether it adds stretches or not.
+#![allow(clippy::ptr_arg)]
+
 use std::collections::{BTreeMap, BTreeSet};
 use std::ops::Range;
 
@@ -127,7 +130,7 @@ fn empty(random: &mut Random, [_, second]: [Image; 2], stretches: &mut Vec<Stret
 fn ends(image: Image, granules: Range<usize>) -> (usize, usize) {
     let mut sizes = granules.filter(|&g| g < image.granules() && image.is_start(g)).map(|g| image.object(g).size);
     let first = sizes.next().unwrap_or(0);
-    (first, sizes.last().unwrap_or(first))
+    (first, sizes.next_back().unwrap_or(first))
 }
 
 fn start_inside(random: &mut Random, [_, second]: [Image; 2], stretches: &mut Vec<Stretch>) {

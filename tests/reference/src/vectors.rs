@@ -3,8 +3,9 @@
 use std::collections::BTreeMap;
 use std::fmt::LowerHex;
 
-use crate::layout::cards_of_length;
+use crate::layout::{cards_of_length, CARD_GRANULES};
 use crate::record::{records, DUE, UNDIRTY};
+use crate::report::scratch_words;
 
 /// The word that answer space holds before a call.
 pub const UNTOUCHED: u16 = 0x5aa5;
@@ -78,6 +79,24 @@ pub struct ReportCase {
     pub after: Vec<u16>,
 }
 
+impl ReportCase {
+    /// The call with an eighth of a scratch that has a word for each granule of some cards.
+    fn with_an_eighth(mut self) -> ReportCase {
+        if self.scratch.len().is_multiple_of(CARD_GRANULES) {
+            let words = self.scratch.len() / 8;
+            [&mut self.scratch, &mut self.after].into_iter().for_each(|scratch| scratch.truncate(words));
+        }
+        self
+    }
+
+    /// The call with the scratch that it has, which fits no more or never did.
+    fn misfit(self) -> ReportCase {
+        let fitting = cards_of_length(self.first.len()).map(scratch_words);
+        assert_ne!(Some(self.scratch.len()), fitting, "a scratch of case {} fits now", self.name);
+        ReportCase { result: 1, after: self.scratch.clone(), ..self }
+    }
+}
+
 #[derive(Clone, Debug, PartialEq, Eq)]
 pub enum Case {
     Batch(BatchCase),
@@ -136,6 +155,14 @@ pub fn parse_reports(text: &str) -> Result<Vec<ReportCase>, String> {
         Case::Report(case) => Some(case),
         _ => None,
     })
+}
+
+/// The cases of a text that was made before document 02, (viii), when a scratch had G words, read in two ways: with G/8 words, where the verdicts are
+/// "The same", and as they stand: "A scratch of G words is a misfit from then on."
+pub fn parse_older_reports(text: &str) -> Result<[Vec<ReportCase>; 2], String> {
+    let cases = parse_reports(text)?;
+    let read = |way: fn(ReportCase) -> ReportCase| cases.iter().cloned().map(way).collect();
+    Ok([read(ReportCase::with_an_eighth), read(ReportCase::misfit)])
 }
 
 fn all_of<T>(what: &str, cases: Vec<Case>, of: fn(Case) -> Option<T>) -> Result<Vec<T>, String> {

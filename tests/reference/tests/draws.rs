@@ -9,7 +9,7 @@ use reference::cards_of_length;
 use reference::cases::maps;
 use reference::image::Image;
 use reference::judge::{first_damage, Line};
-use reference::layout::card_of;
+use reference::layout::{card_of, CARD_GRANULES};
 use reference::reports::reports;
 use reference::vectors::{parse, print, Case, FinishCase, ReportCase};
 use reference::{scratch_words, undamaged_but_cover};
@@ -62,7 +62,7 @@ fn a_seed_gives_the_same_reports() {
     assert_eq!(parse(&printed).unwrap(), cases(5));
 }
 
-/// Every number often, in many cases and in the few of the gate; and misfits of each of the four slices.
+/// Every number often, in many cases and in the few of the gate; and misfits of each of the four slices, with a scratch of G words among them.
 #[test]
 fn reports_show_every_result() {
     let results = |cases: &[ReportCase]| {
@@ -84,6 +84,8 @@ fn reports_show_every_result() {
         |case| case.result == 1 && case.report.len().is_multiple_of(4) && case.scratch.len() == scratch_words(1),
     ];
     assert!(misfits.iter().all(|is_misfit| cases.iter().filter(|case| is_misfit(case)).count() >= 20));
+    let g_words = |cases: &[ReportCase]| cases.iter().filter(|case| case.scratch.len() == CARD_GRANULES).count();
+    assert!(g_words(&cases) >= 20 && g_words(&reports_of_the_gate()) >= 1);
     let one_fits = |test: fn(bool, bool) -> bool| cases.iter().any(|case| test(fits(&case.first), fits(&case.second)));
     assert!(one_fits(|first, second| first && !second) && one_fits(|first, second| second && !first));
 }

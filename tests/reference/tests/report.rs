@@ -1,5 +1,5 @@
-//! Sweep reports, by document 02, (vi): stretches by hand, the reports of our own finishes, and wrong implementations that the cases tell
-//! from the right one.
+//! Sweep reports, by document 02, (vi) and (viii): stretches by hand, the reports of our own finishes, and wrong implementations that the
+//! cases tell from the right one.
 
 mod common;
 
@@ -14,7 +14,7 @@ use reference::layout::length;
 use reference::random::Random;
 use reference::report::*;
 use reference::reports::*;
-use reference::vectors::{parse_reports, ReportCase};
+use reference::vectors::{parse_older_reports, parse_reports, ReportCase};
 use reference::{batch, judge};
 
 /// An object by its first granule, its size and its links.
@@ -171,6 +171,20 @@ fn chains_of_all_shapes() {
     }
 }
 
+/// "from G/8 words of scratch, again zero afterwards. A scratch of G words is a misfit", as is any other, which is left as it was.
+#[test]
+fn scratches_of_every_length() {
+    assert_eq!([1, 2, 512].map(scratch_words), [8, 16, 4_096]);
+    let image = store(&OBJECTS, &[0, 1]);
+    let report = report_bytes(&[Stretch::new(3, 4), Stretch::new(12, 52)]);
+    for words in 0..=2 * 64 {
+        let mut scratch = vec![0x5aa5; words];
+        let result = judge_report(&image, &image, &report, &mut scratch);
+        let wanted = if words == 8 { (0, vec![0; words]) } else { (1, vec![0x5aa5; words]) };
+        assert_eq!((result, scratch), wanted, "{words} words");
+    }
+}
+
 #[test]
 fn refusals_leave_the_scratch() {
     let mut random = Random::new(61);
@@ -269,13 +283,11 @@ const BAD: (u16, Applies) = (12, has_bad_stretch);
 const HELD: (u16, Applies) = (13, frees_held_object);
 const MISSED: (u16, Applies) = (14, misses_lost_object);
 
-/// A bad stretch where two in a row must be `in_order` and each one `is_good`, given for each granule the granules of its object.
-fn bad(
-    reported: &Reported,
-    image: Image,
-    in_order: fn(Range<usize>, Range<usize>) -> bool,
-    is_good: fn(&[Option<Range<usize>>], Range<usize>) -> bool,
-) -> bool {
+/// What is asked of a stretch, given for each granule the granules of its object.
+type IsGood = fn(&[Option<Range<usize>>], Range<usize>) -> bool;
+
+/// A bad stretch where two in a row must be `in_order` and each one `is_good`.
+fn bad(reported: &Reported, image: Image, in_order: fn(Range<usize>, Range<usize>) -> bool, is_good: IsGood) -> bool {
     let objects = objects_by_granule(image);
     let all: Vec<Range<usize>> = reported.stretches.iter().map(|stretch| stretch.granules()).collect();
     all.windows(2).any(|pair| !in_order(pair[0].clone(), pair[1].clone()))
@@ -380,10 +392,14 @@ fn misses(reported: &Reported, mut lost: impl Iterator<Item = usize>) -> bool {
     lost.any(|g| !covered[g])
 }
 
-const WRONG_MISSED: [(&str, Applies); 6] = [
+const WRONG_MISSED: [(&str, Applies); 7] = [
     ("nothing is lost", |_| false),
     ("lost in the second image", |r| misses(r, r.second.starts().filter(|&g| !within_reach(r.second)[g]))),
     ("out of reach in the second image", |r| misses(r, r.first.starts().filter(|&g| !within_reach(r.second)[g]))),
+    ("out of reach in both images", |r| {
+        let [first, second] = [r.first, r.second].map(within_reach);
+        misses(r, r.first.starts().filter(|&g| !first[g] && !second[g]))
+    }),
     ("all that registers do not hold", |r| {
         let held = reached_by(r.first, r.first, 0);
         misses(r, r.first.starts().filter(|g| !held.contains(g)))
@@ -407,8 +423,28 @@ const WRONG_ORDERS: [(&str, Conditions); 3] = [
 
 type Call = fn(&[u16], &[u16], &[u8], &mut [u16]) -> u16;
 
+/// The call by (vi), which takes G words of scratch and no others.
+fn with_g_words(first: &[u16], second: &[u16], report: &[u8], scratch: &mut [u16]) -> u16 {
+    let words = reference::cards_of_length(first.len()).map_or(0, scratch_words);
+    if scratch.len() != 8 * words {
+        return 1;
+    }
+    let result = judge_report(first, second, report, &mut scratch[..words]);
+    scratch.iter_mut().filter(|_| !matches!(result, 1 | 2)).for_each(|word| *word = 0);
+    result
+}
+
+/// The right call, but that a part of the scratch is left as it was.
+fn left(part: fn(usize) -> Range<usize>, first: &[u16], second: &[u16], report: &[u8], scratch: &mut [u16]) -> u16 {
+    let was = scratch.to_vec();
+    let result = judge_report(first, second, report, scratch);
+    let part = part(was.len());
+    scratch[part.clone()].copy_from_slice(&was[part]);
+    result
+}
+
 /// Calls that are wrong in what they take or in what they leave.
-const WRONG_CALLS: [(&str, Call); 12] = [
+const WRONG_CALLS: [(&str, Call); 16] = [
     ("any second image", |first, second, report, scratch| {
         let is_damaged = first.len() == second.len() && judge(second) == 2;
         judge_report(first, if is_damaged { first } else { second }, report, scratch)
@@ -432,6 +468,11 @@ const WRONG_CALLS: [(&str, Call); 12] = [
         let words = reference::cards_of_length(first.len()).map_or(0, scratch_words);
         judge_report(first, second, report, &mut vec![0; words])
     }),
+    ("G words of scratch", with_g_words),
+    ("G words of scratch too", |first, second, report, scratch| match judge_report(first, second, report, scratch) {
+        1 => with_g_words(first, second, report, scratch),
+        result => result,
+    }),
     ("2 before 1", |first, second, report, scratch| match (judge(first), judge(second)) {
         (2, _) | (_, 2) => 2,
         _ => judge_report(first, second, report, scratch),
@@ -439,11 +480,14 @@ const WRONG_CALLS: [(&str, Call); 12] = [
     ("a scratch left as it was", |first, second, report, scratch| {
         judge_report(first, second, report, &mut scratch.to_vec())
     }),
+    ("a scratch with its first half", |first, second, report, scratch| {
+        left(|words| 0..words / 2, first, second, report, scratch)
+    }),
+    ("a scratch with its second half", |first, second, report, scratch| {
+        left(|words| words / 2..words, first, second, report, scratch)
+    }),
     ("a scratch with its last word", |first, second, report, scratch| {
-        let last = scratch.last().copied();
-        let result = judge_report(first, second, report, scratch);
-        scratch.last_mut().into_iter().for_each(|word| *word = last.unwrap());
-        result
+        left(|words| words.saturating_sub(1)..words, first, second, report, scratch)
     }),
     ("a scratch left as it was on 12", |first, second, report, scratch| {
         let was = scratch.to_vec();
@@ -501,33 +545,45 @@ fn told(cases: &[ReportCase]) -> BTreeMap<&'static str, usize> {
     rules.chain(calls).collect()
 }
 
-/// So many cases tell each of them, but for those that are named.
+/// So many cases tell each of the 47, but for those that are named.
 fn assert_told(cases: &[ReportCase], at_least: usize, untold: &[&str]) {
     let told = told(cases);
     println!("{told:?}");
+    assert_eq!(told.len(), 47);
     for (name, times) in told {
         assert_eq!(times >= at_least, !untold.contains(&name), "{name}: told by {times}");
     }
 }
 
-/// The vectors have no case that tells the eleven: the drawn ones must.
+/// Wrong ones that no vector tells: the drawn cases must.
+const UNTOLD_BY_VECTORS: [&str; 8] = [
+    "a start inside",
+    "by one link",
+    "by two links",
+    "no granule",
+    "no granule at an object",
+    "only where a stretch starts",
+    "only where both images have a start",
+    "out of reach in both images",
+];
+
+/// Request (vi)'s, read in both ways, request (viii)'s, and all of them.
 #[test]
 fn the_vectors_tell_wrong_reports() {
-    let cases = parse_reports(include_str!("../../vectors/document_02/06-vi.txt")).unwrap();
-    let untold = [
+    let older = parse_older_reports(include_str!("../../vectors/document_02/06-vi.txt")).unwrap().concat();
+    let newer = parse_reports(include_str!("../../vectors/document_02/08-viii.txt")).unwrap();
+    let not_by_older = ["free granules", "free granules behind", "past the end"];
+    let not_by_newer = [
         "2 before 1",
-        "a start inside",
-        "by one link",
-        "by two links",
-        "free granules",
-        "free granules behind",
-        "no granule",
-        "no granule at an object",
-        "only where a stretch starts",
-        "only where both images have a start",
-        "past the end",
+        "G words of scratch too",
+        "a longer scratch",
+        "granule 0",
+        "images of unequal length",
+        "only starts rise",
     ];
-    assert_told(&cases, 1, &untold);
+    assert_told(&older, 1, &[&UNTOLD_BY_VECTORS[..], &not_by_older].concat());
+    assert_told(&newer, 1, &[&UNTOLD_BY_VECTORS[..], &not_by_newer].concat());
+    assert_told(&[older, newer].concat(), 1, &UNTOLD_BY_VECTORS);
 }
 
 #[test]
@@ -540,5 +596,5 @@ fn drawn_cases_tell_wrong_reports() {
 fn the_cases_of_the_gate_tell_wrong_reports() {
     let cases = reports_of_the_gate();
     assert_eq!(cases.len(), 32);
-    assert_told(&cases, 1, &["only where both images have a start"]);
+    assert_told(&cases, 1, &["out of reach in both images"]);
 }

@@ -7,8 +7,8 @@ use reference::cases::otherwise_by_lowest;
 use reference::events::events;
 use reference::record::{records, DUE, NEW, RECORD_BYTES};
 use reference::vectors::{
-    parse, parse_batches, parse_cycles, parse_maps, parse_older, parse_older_batches, parse_reports, print, BatchCase,
-    Case, UNTOUCHED, UNTOUCHED_BYTE,
+    parse, parse_batches, parse_cycles, parse_maps, parse_older, parse_older_batches, parse_older_reports,
+    parse_reports, print, BatchCase, Case, ReportCase, UNTOUCHED, UNTOUCHED_BYTE,
 };
 use reference::work::{at_most, Cycles, Work};
 use reference::{batch, batch_by, cards_of_length, cover, finish, judge_report, service_map};
@@ -22,6 +22,7 @@ const DUES_IN_BATCHES: &str = include_str!("../../vectors/document_02/04-iv.txt"
 const TIGHT: &str = include_str!("../../vectors/document_02/05-v.txt");
 const REPORTS: &str = include_str!("../../vectors/document_02/06-vi.txt");
 const CYCLES: &str = include_str!("../../vectors/document_02/07-vii.txt");
+const REPORTS_ON_THE_RACK: &str = include_str!("../../vectors/document_02/08-viii.txt");
 const FINISHES: &str = include_str!("../../vectors/finishes.txt");
 
 /// The reference's answers and image for a case, whose result must be right.
@@ -146,18 +147,34 @@ fn maps() {
     assert_eq!(signs, [('.', 1770), ('o', 442), ('#', 201), ('-', 1043)].into());
 }
 
-/// Cases by their result: every number is among them.
-#[test]
-fn reports() {
+/// How often each result is given. Results and scratches are those of the cases, to the last word.
+fn reported(cases: &[ReportCase]) -> BTreeMap<u16, usize> {
     let mut results = BTreeMap::new();
-    for case in parse_reports(REPORTS).unwrap() {
+    for case in cases {
         let mut scratch = case.scratch.clone();
         let result = judge_report(&case.first, &case.second, &case.report, &mut scratch);
         assert_eq!(result, case.result, "result of {}", case.name);
         assert!(scratch == case.after, "scratch of {}", case.name);
         *results.entry(result).or_insert(0) += 1;
     }
-    assert_eq!(results, [(0, 26), (1, 12), (2, 8), (12, 14), (13, 7), (14, 3)].into());
+    results
+}
+
+/// Every number is among the results.
+#[test]
+fn reports() {
+    let cases = parse_reports(REPORTS_ON_THE_RACK).unwrap();
+    assert_eq!(reported(&cases), [(0, 16), (1, 9), (2, 11), (12, 21), (13, 11), (14, 2)].into());
+}
+
+/// Request (vi)'s: their results by G/8 words, and misfits as they stand. 58 of them have been none before.
+#[test]
+fn older_reports() {
+    let [with_an_eighth, as_they_stand] = parse_older_reports(REPORTS).unwrap();
+    assert_eq!(reported(&with_an_eighth), [(0, 26), (1, 12), (2, 8), (12, 14), (13, 7), (14, 3)].into());
+    assert_eq!(reported(&as_they_stand), [(1, 70)].into());
+    let results = |cases: &[ReportCase]| cases.iter().map(|case| case.result).collect::<Vec<_>>();
+    assert_eq!(results(&with_an_eighth), results(&parse_reports(REPORTS).unwrap()));
 }
 
 /// Each case is one cycle, from its begin to its finish. The most work of one, of stores of one card and of two, and how much there is in all.
@@ -209,7 +226,7 @@ fn a_finish_that_follows_all_is_caught() {
 
 #[test]
 fn printing_and_parsing_agree() {
-    for text in [BATCHES, DUES, WIPING, MAPS, DUES_IN_BATCHES, TIGHT, REPORTS, CYCLES, FINISHES] {
+    for text in [BATCHES, DUES, WIPING, MAPS, DUES_IN_BATCHES, TIGHT, REPORTS, CYCLES, REPORTS_ON_THE_RACK, FINISHES] {
         let cases = parse(text).unwrap();
         let printed: String = cases.iter().map(print).collect();
         assert_eq!(parse(&printed).unwrap(), cases);

@@ -1,4 +1,4 @@
--- The whole search (`reach_with`): it begins with granule 0 seen; where nothing is pending any more, what is seen is what chains reach.
+-- The whole search (`reach_with`): it begins with zeros, and granule 0 seen; where nothing is pending any more, what is seen is what chains reach.
 use mathlib.Core.Path.{_≡_, refl, _∙_}
 use mathlib.Core.Logic.{inl}
 use mathlib.Core.List.{List}
@@ -21,19 +21,19 @@ use Rattle.search_laws.proofs.follow.Goes.{goes-on, stays-seen}
 
 -- ---- the beginning
 
-module _ {w k : ℕ} {ws s : List ℕ} (z : Sized w k ws) (e : s ≡ replicate (2 * (64 * k / w)) 0) where
+module _ {w k n : ℕ} {ws s : List ℕ} (z : Sized w k ws) (l : n ≡ 2 * (64 * k / w)) (e : s ≡ replicate n 0) where
   zero-planes : Planes w k s
-  zero-planes = record { low = z .low; high = z .high; long = rw e (length-replicate (2 * (64 * k / w)) 0) }
+  zero-planes = record { low = z .low; high = z .high; long = rw e (length-replicate n 0) ∙ l }
 
   pub first-in : 0 / w < length s
   first-in = seen-in zero-planes 0 (omega (arith, z .low))
 
   module _ (m : Image) {s' : List ℕ} (e' : s' ≡ setBit w s 0) where
     first-other : (g : ℕ) → (g ≡ 0 → ⊥) → seen w s' g ≡ 0
-    first-other g n = rw e' (digit-off (setBit-other w s 0 g n ∙ rw e (bit-zeros w (2 * (64 * k / w)) g)))
+    first-other g d = rw e' (digit-off (setBit-other w s 0 g d ∙ rw e (bit-zeros w n g)))
 
     first-only : (g : ℕ) → seen w s' g ≡ 1 → g ≡ 0
-    first-only g q = elim (ℕ-discrete g 0) [ yes y ↦ y | no n ↦ absurd (omega (arith, first-other g n)) ]
+    first-only g q = elim (ℕ-discrete g 0) [ yes y ↦ y | no d ↦ absurd (omega (arith, first-other g d)) ]
 
     pub search-first : Search w k m s'
     search-first = record {

@@ -1,7 +1,6 @@
-use mathlib.Core.Path.{_∙_}
 use native.Mathlib.Omega.{arith}
 use borrow.Author.Needs.{needs}
-use Rattle.report_laws.proofs.Verdict.{plane-within, lost-is, cleared}
+use Rattle.report_laws.proofs.Verdict.{plane-within, lost-is}
 use Rattle.report.proofs.verdict.lost_missed.Statement.{statement}
 use Rattle.report.proofs.verdict.lost_missed.Tie as tie
 
@@ -15,12 +14,8 @@ any-bare-requires c κs = (c .before .before .before .before .before .before .be
 
 returns : tie.Need-returns
 returns c =
-    let S = c .before .before .before .before .before .before .before .before .before .before .before .before .before .before .before .before .before in
-    let R = c .before .before .before .before .before .before .before .before .before .before .before .before .reach .ensures in
-    let A = c .before .before .before .before .before .before .before .before .cover-all .ensures in
-    (lost-is _ _ _ (S .pre .0) (S .pre .1 .0) _ _ (S .pre .1 .1 .0) _ R _ A _ (c .before .before .before .before .any-bare .ensures), cleared _ _ _ (A .same ∙ R .long) (c .before .before .clear .ensures))
+    let S = c .before .before .before .before .before .before .before .before .before .before .before .before .before in
+    lost-is _ _ _ (S .pre .0) (S .pre .1 .0) _ _ (S .pre .1 .1 .0) _ (c .before .before .before .before .before .before .before .before .reach .ensures) _ (c .before .before .before .before .cover-all .ensures) _ (c .any-bare .ensures)
 
 pub lost-missed-spec : {M : Type 1} → statement M
-lost-missed-spec =
-    tie.close
-    (tie.spec (λ c κs. search needs) cover-all-requires any-bare-requires (λ c κs. search needs) (λ c. search needs) returns)
+lost-missed-spec = tie.close (tie.spec (λ c κs. search needs) cover-all-requires any-bare-requires (λ c. search needs) returns)
