@@ -3,6 +3,7 @@
  * A program lends a slice of words (the image), makes a fresh store in it once, and then hands over batches of steps. Players make
  * objects, link them and read and write their level words; tracers follow the links between the players' steps; a finish frees what
  * nothing holds any more. The service map shows where objects lie. The report of a sweep, an older desk's or ours, can be judged.
+ * A wide store, of 32-bit words, has room for 128 times as many granules; it is made, judged and run in batches by functions of its own.
  *
  * Every function takes every slice: any length, any content, also length 0. A pointer and the length behind it name one slice;
  * the length counts words (bytes for step bytes, the map and a report). Slices of one call must not overlap, but for those that it only
@@ -26,6 +27,11 @@ extern "C" {
 /* A step is a record of so many bytes, and its answer so many words: its number, then its value. */
 #define SHOW_STORE_RECORD_BYTES 8
 #define SHOW_STORE_ANSWER_WORDS 2
+
+/* The same of a wide store, in words of 32 bits. */
+#define SHOW_STORE_WIDE_WORDS(k) (262u * (size_t)(k) + 1384u)
+#define SHOW_STORE_WIDE_MOST_CARDS 65536
+#define SHOW_STORE_WIDE_RECORD_BYTES 16
 
 /* The service map is a line of so many bytes for each card, the line end among them: so many bytes in all for a store of k cards. */
 #define SHOW_STORE_MAP_LINE_BYTES 73
@@ -74,7 +80,7 @@ enum show_step {
 /* Numbers of an answer: why a step was refused. The lowest that applies is given. A refused step has value 0 and alters nothing. */
 enum show_number {
     SHOW_NUMBER_ACCEPTED = 0,       /* the step was done */
-    SHOW_NUMBER_UNKNOWN = 3,        /* no such kind, or a field that the kind does not name is not 0 */
+    SHOW_NUMBER_UNKNOWN = 3,        /* no such kind, or a field that the kind does not name is not 0; wide: or a zero byte is not */
     SHOW_NUMBER_OFF_THE_DESK = 4,   /* no such player, register, tracer or card */
     SHOW_NUMBER_OWING = 5,          /* the player owes a barrier, or the player who would be handed something does */
     SHOW_NUMBER_NO_OBJECT = 6,      /* the register of the object is nil */
@@ -98,6 +104,18 @@ static inline void show_store_record(uint8_t *record, enum show_step kind, uint8
     record[5] = (uint8_t)(b >> 8);
     record[6] = (uint8_t)(c & 0xff);
     record[7] = (uint8_t)(c >> 8);
+}
+
+/* The same for a wide store, into the 16 bytes at `record`: the kind, the player or tracer, two zero bytes, then a, b and c of 32 bits. */
+static inline void show_store_wide_record(uint8_t *record, enum show_step kind, uint8_t who, uint32_t a, uint32_t b, uint32_t c)
+{
+    const uint32_t fields[3] = {a, b, c};
+    record[0] = (uint8_t)kind;
+    record[1] = who;
+    record[2] = 0;
+    record[3] = 0;
+    for (int i = 0; i < 12; i++)
+        record[4 + i] = (uint8_t)(fields[i / 4] >> (8 * (i % 4)) & 0xff);
 }
 
 /* Writes one stretch of a sweep report into the 4 bytes at `stretch`: its first granule and its length in granules, low byte first. */
@@ -146,6 +164,13 @@ uint16_t service_map(const uint16_t *image, size_t words, uint8_t *output, size_
  * the report are not altered. */
 uint16_t judge_report(const uint16_t *first, size_t first_words, const uint16_t *second, size_t second_words, const uint8_t *report,
                       size_t report_bytes, uint16_t *scratch, size_t scratch_words);
+
+/* The wide store: a store of SHOW_STORE_WIDE_WORDS(k) words of 32 bits, for shows that need more than 512 cards. Kinds, numbers and limits are
+ * those above, objects have at most 1,024 granules here too, and a, b, c and level words have 32 bits: register 65,536 is off the desk.
+ * The three do what fresh, judge and batch do. wide_batch takes records of 16 bytes; one whose third or fourth byte is not 0 gets number 3. */
+uint16_t wide_fresh(uint32_t *image, size_t words);
+uint16_t wide_judge(const uint32_t *image, size_t words);
+uint16_t wide_batch(uint32_t *image, size_t words, const uint8_t *steps, size_t bytes, uint32_t *answers, size_t answer_words);
 
 #ifdef __cplusplus
 }

@@ -67,7 +67,7 @@ fn make_object(im: &mut [Word], k: usize, p: usize, a: usize, b: usize, c: usize
 {
     image::sections::set_word(im, k, g, 0, b as Word);
     image::sections::set_word(im, k, g, 1, c as Word);
-    image::bits::set_start(im, k, g);
+    bits_and_cards::bits::set_start(im, k, g);
     image::sections::set_reg(im, k, p, a, g as Word);
 }
 

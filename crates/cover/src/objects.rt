@@ -7,20 +7,16 @@ ghost use Rattle.model.specs.Image.{imageOf, marked};
 ghost use Rattle.model.specs.Undamaged.{cover};
 ghost use Rattle.image_laws.specs.Sized.{Sized};
 ghost use Rattle.soundness_laws.specs.Tests.{wordwise};
-ghost use Rattle.soundness_laws.specs.Sets.{EnteredSet};
+ghost use Rattle.soundness_laws.specs.Sets.{Named};
+ghost use Rattle.soundness_laws.specs.Entered.{EnteredSet};
 ghost use Rattle.judge_laws.specs.Order.{Coverable, handComes, cardComes, holds, owesHolding, plain, coming, late, objectCovered};
 ghost use Rattle.judge_laws.specs.Near.{MarkedStretch};
-ghost use Rattle.judge_laws.specs.Links.{LinkTable};
 ghost use Rattle.image.specs.Layout.{width};
 use image::layout::BITS;
 use image::layout::VALUES;
 use image::layout::Word;
 use sets::SEEN;
-
-// Cards of a store whose table of links is a small one, and the words of that.
-const FEW_CARDS: usize = 64;
-
-const FEW_WORDS: usize = 64 * FEW_CARDS / BITS + 1;
+use sets::TABLE;
 
 // ---- hands
 
@@ -122,14 +118,14 @@ pub fn owed_with(im: &[Word], k: usize, g: usize, a: usize) -> bool
 
 pub fn is_coming(im: &[Word], k: usize, entered: &[Word], g: usize) -> bool
     requires { ⌜ Sized width k (now im) ⌝ }
-    requires { ⌜ EnteredSet width (imageOf width k (now im)) (now entered) ⌝ }
+    requires { ⌜ EnteredSet width k (imageOf width k (now im)) (now entered) ⌝ }
     requires { ⌜ g < 64 * k ⌝ }
     ensures { λ r. ⌜ r ≡ coming (imageOf width k (now (im .entry))) g ⌝ }
 {
-    if image::cards::is_dirty(im, k, g / 64) {
+    if bits_and_cards::cards::is_dirty(im, k, g / 64) {
         return true;
     }
-    if sets::in_set(entered, g) {
+    if entries::entered::is_entered(im, k, entered, g) {
         return true;
     }
     granule_to_come(im, k, g)
@@ -137,18 +133,18 @@ pub fn is_coming(im: &[Word], k: usize, entered: &[Word], g: usize) -> bool
 
 pub fn is_plain(im: &[Word], k: usize, table: &[Word], g: usize, j: usize) -> bool
     requires { ⌜ Sized width k (now im) ⌝ }
-    requires { ⌜ LinkTable width k (imageOf width k (now im)) (now table) ⌝ }
+    requires { ⌜ Named width (imageOf width k (now im) .marks) (now table) ⌝ }
     requires { ⌜ 4 * g + 2 + j < 256 * k ⌝ }
     ensures { λ r. ⌜ r ≡ plain (imageOf width k (now (im .entry))) g j ⌝ }
 {
     let a = image::sections::word(im, k, g, 2 + j) as usize;
-    sets::in_set(table, sets::least(a, 64 * k))
+    sets::nil_or_marked(im, k, table, a)
 }
 
 // The first two words for links stand in every object: both are asked, so that no branch hangs on how many links there are.
 pub fn first_plain(im: &[Word], k: usize, table: &[Word], g: usize, n: usize) -> bool
     requires { ⌜ Sized width k (now im) ⌝ }
-    requires { ⌜ LinkTable width k (imageOf width k (now im)) (now table) ⌝ }
+    requires { ⌜ Named width (imageOf width k (now im) .marks) (now table) ⌝ }
     requires { ⌜ g < 64 * k ⌝ }
     ensures { λ r. ⌜ r ≡ all (min 2 n) (plain (imageOf width k (now (im .entry))) g) ⌝ }
 {
@@ -157,7 +153,7 @@ pub fn first_plain(im: &[Word], k: usize, table: &[Word], g: usize, n: usize) ->
 
 pub fn all_plain(im: &[Word], k: usize, table: &[Word], g: usize, n: usize) -> bool
     requires { ⌜ Sized width k (now im) ⌝ }
-    requires { ⌜ LinkTable width k (imageOf width k (now im)) (now table) ⌝ }
+    requires { ⌜ Named width (imageOf width k (now im) .marks) (now table) ⌝ }
     requires { ⌜ 4 * g + 2 + n ≤ 256 * k ⌝ }
     ensures { λ r. ⌜ r ≡ all n (plain (imageOf width k (now (im .entry))) g) ⌝ }
 {
@@ -172,7 +168,7 @@ pub fn all_plain(im: &[Word], k: usize, table: &[Word], g: usize, n: usize) -> b
 
 pub fn is_late(im: &[Word], k: usize, table: &[Word], g: usize, j: usize) -> bool
     requires { ⌜ Sized width k (now im) ⌝ }
-    requires { ⌜ LinkTable width k (imageOf width k (now im)) (now table) ⌝ }
+    requires { ⌜ Named width (imageOf width k (now im) .marks) (now table) ⌝ }
     requires { ⌜ 4 * g + 2 + j < 256 * k ⌝ }
     ensures { λ r. ⌜ r ≡ late (imageOf width k (now (im .entry))) g j ⌝ }
 {
@@ -185,7 +181,7 @@ pub fn is_late(im: &[Word], k: usize, table: &[Word], g: usize, j: usize) -> boo
 
 pub fn all_late(im: &[Word], k: usize, table: &[Word], g: usize, n: usize) -> bool
     requires { ⌜ Sized width k (now im) ⌝ }
-    requires { ⌜ LinkTable width k (imageOf width k (now im)) (now table) ⌝ }
+    requires { ⌜ Named width (imageOf width k (now im) .marks) (now table) ⌝ }
     requires { ⌜ 4 * g + 2 + n ≤ 256 * k ⌝ }
     ensures { λ r. ⌜ r ≡ all n (late (imageOf width k (now (im .entry))) g) ⌝ }
 {
@@ -200,9 +196,9 @@ pub fn all_late(im: &[Word], k: usize, table: &[Word], g: usize, n: usize) -> bo
 
 pub fn object_covered(im: &[Word], k: usize, entered: &[Word], table: &[Word], g: usize) -> bool
     requires { ⌜ Sized width k (now im) ⌝ }
-    requires { ⌜ LinkTable width k (imageOf width k (now im)) (now table) ⌝ }
+    requires { ⌜ Named width (imageOf width k (now im) .marks) (now table) ⌝ }
     requires { ⌜ Coverable k (imageOf width k (now im)) ⌝ }
-    requires { ⌜ EnteredSet width (imageOf width k (now im)) (now entered) ⌝ }
+    requires { ⌜ EnteredSet width k (imageOf width k (now im)) (now entered) ⌝ }
     requires { ⌜ (g < 64 * k) × (marked (imageOf width k (now im)) g ≡ true) ⌝ }
     ensures { λ r. ⌜ r ≡ objectCovered (imageOf width k (now (im .entry))) g ⌝ }
 {
@@ -220,13 +216,13 @@ pub fn object_covered(im: &[Word], k: usize, entered: &[Word], table: &[Word], g
 
 pub fn word_covered(im: &[Word], k: usize, entered: &[Word], table: &[Word], w: usize) -> bool
     requires { ⌜ Sized width k (now im) ⌝ }
-    requires { ⌜ LinkTable width k (imageOf width k (now im)) (now table) ⌝ }
+    requires { ⌜ Named width (imageOf width k (now im) .marks) (now table) ⌝ }
     requires { ⌜ Coverable k (imageOf width k (now im)) ⌝ }
-    requires { ⌜ EnteredSet width (imageOf width k (now im)) (now entered) ⌝ }
+    requires { ⌜ EnteredSet width k (imageOf width k (now im)) (now entered) ⌝ }
     requires { ⌜ w < 64 * k / width ⌝ }
     ensures { λ r. ⌜ r ≡ wordwise width (objectCovered (imageOf width k (now (im .entry)))) w ⌝ }
 {
-    if image::cards::is_dirty(im, k, w / (64 / BITS)) {
+    if bits_and_cards::cards::is_dirty(im, k, w / (64 / BITS)) {
         return true;
     }
     let mut ok = true;
@@ -234,7 +230,7 @@ pub fn word_covered(im: &[Word], k: usize, entered: &[Word], table: &[Word], w: 
     while left != 0 {
         let j = u64::trailing_zeros(left as u64) as usize;
         ok = ok & object_covered(im, k, entered, table, BITS * w + j);
-        left = image::bits::without_bit(left, j as Word);
+        left = bits_and_cards::bits::without_bit(left, j as Word);
     }
     ok
 }
@@ -249,15 +245,15 @@ pub fn stretch_covered(
     i: usize,
 ) -> bool
     requires { ⌜ Sized width k (now im) ⌝ }
-    requires { ⌜ LinkTable width k (imageOf width k (now im)) (now table) ⌝ }
+    requires { ⌜ Named width (imageOf width k (now im) .marks) (now table) ⌝ }
     requires { ⌜ Coverable k (imageOf width k (now im)) ⌝ }
-    requires { ⌜ EnteredSet width (imageOf width k (now im)) (now entered) ⌝ }
+    requires { ⌜ EnteredSet width k (imageOf width k (now im)) (now entered) ⌝ }
     requires { ⌜ i < 64 * k / width ⌝ }
     requires { ⌜ MarkedStretch width (imageOf width k (now im)) from (i + 1) ⌝ }
     ensures { λ r. ⌜ r ≡ wordwise width (objectCovered (imageOf width k (now (im .entry)))) i ⌝ }
 {
     if from <= i {
-        if crate::near::is_near(im, k, from, i) {
+        if marked_words::near::is_near(im, k, from, i) {
             return true;
         }
     }
@@ -266,12 +262,12 @@ pub fn stretch_covered(
 
 pub fn all_covered(im: &[Word], k: usize, entered: &[Word], table: &[Word]) -> bool
     requires { ⌜ Sized width k (now im) ⌝ }
-    requires { ⌜ LinkTable width k (imageOf width k (now im)) (now table) ⌝ }
+    requires { ⌜ Named width (imageOf width k (now im) .marks) (now table) ⌝ }
     requires { ⌜ Coverable k (imageOf width k (now im)) ⌝ }
-    requires { ⌜ EnteredSet width (imageOf width k (now im)) (now entered) ⌝ }
+    requires { ⌜ EnteredSet width k (imageOf width k (now im)) (now entered) ⌝ }
     ensures { λ r. ⌜ r ≡ cover (imageOf width k (now (im .entry))) ⌝ }
 {
-    let low = image::bits::is_marked(im, k, 1) & image::bits::is_marked(im, k, 2);
+    let low = bits_and_cards::bits::is_marked(im, k, 1) & bits_and_cards::bits::is_marked(im, k, 2);
     let mut from = 0;
     let mut ok = true;
     let mut i = 0;
@@ -285,42 +281,17 @@ pub fn all_covered(im: &[Word], k: usize, entered: &[Word], table: &[Word]) -> b
     ok
 }
 
-// The table of a store of few cards is small, since a large one takes longer to clear than such a store to judge.
-fn few_covered(im: &[Word], k: usize, entered: &[Word]) -> bool
-    requires { ⌜ Sized width k (now im) ⌝ }
-    requires { ⌜ Coverable k (imageOf width k (now im)) ⌝ }
-    requires { ⌜ EnteredSet width (imageOf width k (now im)) (now entered) ⌝ }
-    requires { ⌜ k ≤ 64 ⌝ }
-    ensures { λ r. ⌜ r ≡ cover (imageOf width k (now (im .entry))) ⌝ }
-{
-    let mut table: [Word; FEW_WORDS] = [0; FEW_WORDS];
-    crate::links::note_marked(im, k, &mut table);
-    all_covered(im, k, entered, &table)
-}
-
-fn many_covered(im: &[Word], k: usize, entered: &[Word]) -> bool
-    requires { ⌜ Sized width k (now im) ⌝ }
-    requires { ⌜ Coverable k (imageOf width k (now im)) ⌝ }
-    requires { ⌜ EnteredSet width (imageOf width k (now im)) (now entered) ⌝ }
-    ensures { λ r. ⌜ r ≡ cover (imageOf width k (now (im .entry))) ⌝ }
-{
-    let mut table: [Word; SEEN + 1] = [0; SEEN + 1];
-    crate::links::note_marked(im, k, &mut table);
-    all_covered(im, k, entered, &table)
-}
-
 pub fn is_covered(im: &[Word], k: usize) -> bool
     requires { ⌜ Sized width k (now im) ⌝ }
     requires { ⌜ Coverable k (imageOf width k (now im)) ⌝ }
     ensures { λ r. ⌜ r ≡ cover (imageOf width k (now (im .entry))) ⌝ }
 {
-    if crate::links::all_marked(im, k) {
+    if marked_words::links::all_marked(im, k) {
         return true;
     }
     let mut entered: [Word; SEEN] = [0; SEEN];
-    cycle_sections::packets::all_once(im, k, &mut entered);
-    if k <= FEW_CARDS {
-        return few_covered(im, k, &entered);
-    }
-    many_covered(im, k, &entered)
+    entries::entered::all_once(im, k, &mut entered);
+    let mut table: [Word; TABLE] = [0; TABLE];
+    sets::note_marks(im, k, &mut table);
+    all_covered(im, k, &entered, &table)
 }

@@ -8,7 +8,7 @@ use image::layout::Word;
 
 pub mod counts; // counts.rt: the counts of the cards are those of their mark bits
 pub mod marks; // marks.rt: marks stand only on starts
-pub mod packets; // packets.rt: packets, and no object entered twice
+pub mod packets; // packets.rt: packets
 
 pub fn cycle_ok(im: &[Word], k: usize) -> bool
     requires { ⌜ Sized width k (now im) ⌝ }
@@ -18,7 +18,7 @@ pub fn cycle_ok(im: &[Word], k: usize) -> bool
         return false;
     }
     marks::marks_ok(im, k)
-        & packets::once_ok(im, k)
+        & entries::entered::once_ok(im, k)
         & short_sections::hands::tracers_ok(im, k)
         & short_sections::hands::held_ok(im, k)
         & counts::counts_ok(im, k)

@@ -30,13 +30,13 @@ fn dispatch_others(im: &mut [Word], k: usize, r: Request, usable: usize) -> Answ
 {
     let kind = r.kind;
     match kind {
-        2 => mutator::links::load(im, k, r.who, r.a, r.b, r.c),
-        3 => mutator::links::store(im, k, r.who, r.a, r.b, r.c),
-        4 => mutator::registers::barrier(im, k, r.who),
-        5 => mutator::registers::hand(im, k, r.who, r.a, r.b, r.c),
-        6 => mutator::registers::drop(im, k, r.who, r.a),
-        7 => mutator::levels::read(im, k, r.who, r.a, r.b),
-        8 => mutator::levels::write(im, k, r.who, r.a, r.b, r.c),
+        2 => mutator_links::links::load(im, k, r.who, r.a, r.b, r.c),
+        3 => mutator_links::links::store(im, k, r.who, r.a, r.b, r.c),
+        4 => mutator_registers::registers::barrier(im, k, r.who),
+        5 => mutator_registers::registers::hand(im, k, r.who, r.a, r.b, r.c),
+        6 => mutator_registers::registers::drop(im, k, r.who, r.a),
+        7 => mutator_levels::levels::read(im, k, r.who, r.a, r.b),
+        8 => mutator_levels::levels::write(im, k, r.who, r.a, r.b, r.c),
         9 => roots::begin::begin(im, k),
         10 => roots::scanning::scan(im, k, r.who, r.a),
         11 => marking::tracing::trace(im, k, r.who),

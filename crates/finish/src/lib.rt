@@ -12,7 +12,6 @@ use image::layout::Word;
 use runs_laws::Free;
 
 pub mod ending; // ending.rt: the end of a finish
-pub mod gaps; // gaps.rt: the sweep
 pub mod step; // step.rt: kind 13, the finish as a step
 
 // The value, granules freed, by which the free granules grow; and all of these.
@@ -29,7 +28,7 @@ pub fn finish(im: &mut [Word], k: usize, before: usize) -> Freed
     ensures { λ r. ⌜ r .free ≡ freeOf (imageOf width k (now (im .exit))) ⌝ }
 {
     finish_marking::mark_found(im, k);
-    let after = gaps::sweep_all(im, k);
+    let after = sweep::gaps::sweep_all(im, k);
     ending::keep_starts(im, k);
     ending::end_cycle(im, k);
     let value = (after.granules - before) as Word;

@@ -31,11 +31,11 @@ pub fn visit(im: &mut [Word], k: usize, head: usize, a: usize) -> usize
     if a == 0 {
         return head;
     }
-    if image::bits::is_marked(im, k, a) {
+    if bits_and_cards::bits::is_marked(im, k, a) {
         return head;
     }
-    image::bits::set_mark(im, k, a);
-    image::bits::clear_start(im, k, a);
+    bits_and_cards::bits::set_mark(im, k, a);
+    bits_and_cards::bits::clear_start(im, k, a);
     let c = a / 64;
     let v = image::sections::card(im, k, c);
     if v != 0 {
@@ -59,7 +59,7 @@ pub fn settle(im: &mut [Word], k: usize, head: usize, g: usize) -> usize
         let a = image::sections::word(im, k, g, 2 + i) as usize;
         h = visit(im, k, h, a);
     }
-    image::bits::set_start(im, k, g);
+    bits_and_cards::bits::set_start(im, k, g);
     h
 }
 
@@ -78,7 +78,7 @@ pub fn settle_bits(im: &mut [Word], k: usize, head: usize, i: usize, x: Word) ->
     while left != 0 {
         let j = u64::trailing_zeros(left as u64) as usize;
         h = settle(im, k, h, BITS * i + j);
-        left = image::bits::without_bit(left, j as Word);
+        left = bits_and_cards::bits::without_bit(left, j as Word);
         if left == 0 {
             left = pending_word(im, k, i);
         }

@@ -7,7 +7,6 @@ ghost use Rattle.finish_marking_laws.specs.Seeds.{KeptMarked};
 use image::layout::Word;
 
 pub mod follow; // follow.rt: links followed from pending objects on, with the cards as a work list
-pub mod seeds; // seeds.rt: the objects whose links are followed first
 
 // Marks all that a finish keeps: the seeds become pending, then their links are followed.
 pub fn mark_found(im: &mut [Word], k: usize)
@@ -15,10 +14,10 @@ pub fn mark_found(im: &mut [Word], k: usize)
     requires { ⌜ Sound (imageOf width k (now im)) ⌝ }
     ensures { λ _. ⌜ KeptMarked (imageOf width k (now (im .entry))) (imageOf width k (now (im .exit))) ⌝ }
 {
-    seeds::open_entries(im, k);
-    seeds::open_hands(im, k);
-    seeds::open_dirties(im, k);
-    seeds::hold_all(im, k);
-    let head = seeds::list_all(im, k);
+    finish_seeds::seeds::open_entries(im, k);
+    finish_seeds::seeds::open_hands(im, k);
+    finish_seeds::seeds::open_dirties(im, k);
+    finish_seeds::seeds::hold_all(im, k);
+    let head = finish_seeds::seeds::list_all(im, k);
     follow::mark_all(im, k, head);
 }

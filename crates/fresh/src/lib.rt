@@ -32,7 +32,7 @@ fn make(im: &mut [Word]) -> Verdict
 }
 
 // "Making one overwrites a slice of fitting length and gives 0, else gives 1 and writes nothing."
-pub fn fresh(im: &mut [Word]) -> Word
+pub fn fresh(im: &mut [Word]) -> u16
     ensures { λ r. ⌜ madeOf r (now (im .exit)) ≡ freshAt width (now (im .entry)) ⌝ }
 {
     image::result::result(make(im))

@@ -1,10 +1,9 @@
-// The result of a call, as a word.
+// The result of a call, as C gets it at either width.
 ghost use mathlib.Core.Path.{_≡_};
 ghost use Rattle.image_laws.specs.Result.{resultOf};
-use crate::layout::Word;
 use image_laws::Verdict;
 
-pub fn result(v: Verdict) -> Word
+pub fn result(v: Verdict) -> u16
     ensures { λ r. ⌜ r ≡ resultOf v ⌝ }
 {
     match v {

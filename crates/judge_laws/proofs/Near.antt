@@ -4,8 +4,7 @@ use mathlib.Core.Logic.{_⊎_, inl, inr}
 use mathlib.Core.Bool.{Bool, true, false, not, _&&_, _||_, and-true}
 use mathlib.Core.List.{List}
 use Prim.Native.Nat.{ℕ, zero, suc, _+_, _*_, _-_, _/_, _≤_, _<_, _^_}
-use native.Mathlib.Nat.{mul-suc, mul-le-mul-left}
-use native.Mathlib.Numerals.{add-one}
+use native.Mathlib.Nat.{mul-le-mul-left}
 use native.Mathlib.Decide.{decLt, ℕ-discrete}
 use native.Mathlib.Omega.{arith}
 use lib.Dec.{eqb}
@@ -20,15 +19,10 @@ use Rattle.image_laws.proofs.Lengths.{heap-words, sized-width}
 use Rattle.image_laws.proofs.Places.{words-full}
 use Rattle.soundness_laws.specs.Tests.{atWord, wordwise}
 use Rattle.soundness_laws.proofs.Checks.{nth-part}
-use Rattle.soundness_laws.proofs.Sets.{ones-bit}
+use Rattle.soundness_laws.proofs.Marks.{next-word, ones-bit}
 use Rattle.judge_laws.specs.Order.{Coverable, nilOrMarked, plain, objectCovered}
 use Rattle.judge_laws.specs.Near.{nearWord, MarkedStretch}
 use Rattle.judge_laws.proofs.Objects.{object-plain, mark-is}
-
--- ---- words
-
-next-word : (w i : ℕ) → w * (i + 1) ≡ w * i + w
-next-word w i = rw (add-one i) (mul-suc w i)
 
 -- word p of a part that is near
 near-at : (f d a n : ℕ) (l : List ℕ) → near f d (take n (drop a l)) ≡ true → a + n ≤ length l → (p : ℕ) → p < n → (nth l (a + p) ≤ 2) ⊎ ((f ≤ nth l (a + p)) × (nth l (a + p) < d))

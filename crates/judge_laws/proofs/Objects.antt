@@ -8,11 +8,10 @@ use native.Mathlib.Decide.{ℕ-discrete}
 use native.Mathlib.Omega.{arith}
 use lib.Count.{trailingZeros}
 use lib.Dec.{leb, eqb}
-use lib.ListN.{length}
 use borrow.Author.Tests.{eq-eqb, ne-eqb}
-use Rattle.model.specs.Base.{nth, all, any, every, some, implies, testBit, bit}
-use Rattle.model.specs.Image.{image, imageOf, word, marked, link, dirty, hand, nextLink, handCard, nextGranule, owed, Image, mostCards, links}
-use Rattle.model.specs.Undamaged.{linkToCome, granuleToCome, owedWith, covered, cover}
+use Rattle.model.specs.Base.{nth, all, any, every, some, implies, testBit}
+use Rattle.model.specs.Image.{image, imageOf, word, marked, link, dirty, hand, nextLink, handCard, nextGranule, owed, Image, links}
+use Rattle.model.specs.Undamaged.{linkToCome, granuleToCome, owedWith, covered, cover, entered}
 use Rattle.model.proofs.Laws.{false≢, bool-cases, all-use, all-make, imp-make, some-make, some-use, some-nil, some-false}
 use Rattle.judge_laws.specs.Order.{handComes, cardComes, holds, owesHolding, nilOrMarked, plain, coming, late, objectCovered, Coverable}
 use Rattle.image_laws.specs.Bits.{withoutBit}
@@ -20,9 +19,8 @@ use Rattle.image_laws.specs.Sized.{Sized}
 use Rattle.image_laws.proofs.Bits.{bit-at, zero-bit}
 use Rattle.image_laws.proofs.Masks.{withoutBit-same, withoutBit-less, withoutBit-other}
 use Rattle.image_laws.proofs.Parts.{all-cong}
-use Rattle.image_laws.proofs.Places.{place-in, word-in, words-full, by-width}
+use Rattle.image_laws.proofs.Places.{place-in, words-full, by-width}
 use Rattle.image_laws.proofs.Trailing.{Lowest, word-lowest}
-use Rattle.soundness_laws.specs.Sets.{EnteredSet}
 use Rattle.soundness_laws.specs.Tests.{atWord, wordwise}
 use Rattle.soundness_laws.proofs.Checks.{all-pick}
 use Rattle.soundness_laws.proofs.Marks.{by-words}
@@ -163,6 +161,10 @@ module _ (m : Image) where
 
   -- ---- one link
 
+  pub plain-is : (g j a : ℕ) (t : Bool) → a ≡ word m g (2 + j) → t ≡ (eqb a 0 || marked m a) → t ≡ plain m g j
+  unfolding plain nilOrMarked some link
+  plain-is g j a t ea et = rw (← ea, et) (simp or-false)
+
   module _ (g j : ℕ) (t : Bool) (e : t ≡ plain m g j) where
     pub late-plain : t ≡ true → true ≡ late m g j
     unfolding late some
@@ -179,15 +181,11 @@ module _ (m : Image) where
     unfolding coming some
     coming-dirty h = rw (← ed, h)
 
-    module _ (hd : d ≡ false) (w : ℕ) (set : List ℕ) (es : EnteredSet w m set) (x : Bool) (ex : x ≡ bit w set g) where
+    module _ (hd : d ≡ false) (x : Bool) (ex : x ≡ entered m g) where
       pub coming-entered : x ≡ true → true ≡ coming m g
       unfolding coming some
-      coming-entered h = rw (← ed, hd, ← (es .just g), ← ex, h)
+      coming-entered h = rw (← ed, hd, ← ex, h)
 
       pub coming-card : (c : Bool) → x ≡ false → c ≡ any 8 (cardComes m g) → c ≡ coming m g
       unfolding coming some granuleToCome cardComes
-      coming-card c h q = rw (← ed, hd, ← (es .just g), ← ex, h, ← q) (sym (or-false c))
-
--- a granule has its bit in the set
-pub set-place : (w k : ℕ) (l : List ℕ) (g : ℕ) (set : List ℕ) → Sized w k l → EnteredSet w (imageOf w k l) set → g < 64 * k → g / w < length set
-set-place w k l g set z es h = rw (es .long) (word-in w (mostCards w) (sized-width z) g (omega (arith, z .high)))
+      coming-card c h q = rw (← ed, hd, ← ex, h, ← q) (sym (or-false c))

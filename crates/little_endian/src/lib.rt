@@ -19,3 +19,13 @@ pub fn pair(bytes: &[u8], at: usize) -> usize
     let high = wide(bytes[at + 1]);
     low + 256 * high
 }
+
+// The number of 32 bits whose low byte is byte `at`.
+pub fn quad(bytes: &[u8], at: usize) -> usize
+    requires { ⌜ at + 4 ≤ length (now bytes) ⌝ }
+    ensures { λ r. ⌜ (r ≡ little (take 4 (drop at (now (bytes .entry))))) × (r < 4294967296) ⌝ }
+{
+    let low = pair(bytes, at);
+    let high = pair(bytes, at + 2);
+    low + 65536 * high
+}

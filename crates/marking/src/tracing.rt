@@ -27,7 +27,7 @@ fn trace_input(im: &mut [Word], k: usize, t: usize, p: usize)
     ensures { λ _. ⌜ imageOf width k (now (im .exit)) ≡ traceInput (imageOf width k (now (im .entry))) t ⌝ }
 {
     let g = work_packets::packet::pop_entry(im, k, p);
-    if image::cards::is_dirty(im, k, g as usize / 64) {
+    if bits_and_cards::cards::is_dirty(im, k, g as usize / 64) {
         return;
     }
     crate::hands::take_object(im, k, t, g);

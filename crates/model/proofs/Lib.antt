@@ -8,6 +8,5 @@ pub mod Entries
 pub mod Sited
 pub mod Found
 pub mod Chains
-pub mod LongScratch
 pub mod Cases
 pub mod Examples

@@ -18,7 +18,8 @@ pub record Batch : Type 0 where
   pub image : List ℕ
   pub answers : List ℕ
 
--- 1 misfit: "image length; step bytes not a multiple of 8; answers not two words a step"
+-- 1 misfit: "image length; step bytes not a multiple of 8; answers not two words a step"; document 02, (ix): "1 follows the new formula and the 16-byte
+-- record"
 unfoldable pub misfit : ℕ → List ℕ → List ℕ → List ℕ → Bool
 misfit w ws bytes answers =
     some
@@ -53,7 +54,8 @@ pub record Finished : Type 0 where
 unfoldable pub finishAt : ℕ → List ℕ → Finished
 finishAt w ws = let f : Finish = finishStep (parts w ws) in record { value = f .value; image = words (f .image) }
 
--- ---- the store of 16-bit words
+-- ---- the store of 16-bit words; document 02, (ix), "a wide store of 32-bit words, to be made, judged and run in batches, no more", has `freshAt`,
+-- `judgeAt` and `batchAt` at 32
 
 unfoldable pub freshOf : List ℕ → Made
 freshOf = freshAt 16

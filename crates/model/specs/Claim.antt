@@ -54,9 +54,9 @@ pub record Accepted (n : Kind) (e : Event) : Type 0 where
   pub is-kind : Is n e
   pub no-number : e .done .number ≡ 0
 
--- the record has a field, the second byte among them, that is not 0
+-- the record has a field, the second byte and the zero bytes among them, that is not 0
 unfoldable pub anyField : Step → Bool
-anyField s = someSet (s .who ∷ s .a ∷ s .b ∷ s .c ∷ [])
+anyField s = someSet (s .zeros ∷ s .who ∷ s .a ∷ s .b ∷ s .c ∷ [])
 
 -- the object at g is in both images, with the same size, links and level words
 pub record Same (m n : Image) (g : ℕ) : Type 0 where

@@ -1,12 +1,13 @@
 -- Worked images and lists that the starred cases do not reach: a finish on an image without Cover, Cover and its two players, runs joined, runs
--- too short to be usable, news by either rule, cards wiped, maps, reports; a history with the plain store beside it, and long cycles.
+-- too short to be usable, news by either rule, cards wiped, maps, reports; a history with the plain store beside it, long cycles; a wide store.
 use mathlib.Core.Bool.{cond}
 use mathlib.Core.List.{List, [], _∷_, _++_}
-use Prim.Native.Nat.{ℕ, zero, suc, _+_, _*_}
+use Prim.Native.Nat.{ℕ, zero, suc, _+_, _*_, _/_, _%_}
 use lib.Dec.{ltb}
 use lib.ListN.{length, replicate}
 use Rattle.model.specs.Base.{put, table}
 use Rattle.model.specs.Image.{Image, heapAt, countsAt, regsAt, playersAt, lengths, imageLength, place}
+use Rattle.model.specs.Undamaged.{freshAt}
 use Rattle.model.specs.Mutate.{Placing, tightest, freeGranules}
 use Rattle.model.specs.Batch.{Batch, freshOf, batchAt, batchOf}
 use Rattle.model.specs.Report.{Reported, reportOf}
@@ -170,7 +171,23 @@ dragging b c t u =
     let rs : List (List ℕ) = (rec 1 0 0 b c ∷ rec 9 0 0 0 0 ∷ rec 10 0 0 0 0 ∷ []) ++ (table t (λ i. rec 11 0 0 0 0) ++ ((rec 3 0 0 0 1 ∷ rec 4 0 0 0 0 ∷ []) ++ table u (λ i. rec 12 0 0 0 0))) in
     history tightest 16 oneCard (record { steps = bytes rs; answers = replicate (2 * length rs) 0 } ∷ [])
 
+-- ---- document 02, (ix): a wide store
+
+-- a number of 32 bits, and a record: kind, player or tracer, the zero bytes, a, b, c
+unfoldable pub quad : ℕ → List ℕ
+quad x = x % 256 ∷ x / 256 % 256 ∷ x / 65536 % 256 ∷ x / 16777216 ∷ []
+
+unfoldable pub wideRec : ℕ → ℕ → ℕ → ℕ → ℕ → ℕ → List ℕ
+wideRec kind who zeros a b c = kind ∷ who ∷ zeros % 256 ∷ zeros / 256 ∷ (quad a ++ (quad b ++ quad c))
+
+-- a fresh one of one card, and the answers of a batch on it
+unfoldable pub wideCard : List ℕ
+wideCard = (freshAt 32 (replicate 1646 7)) .image
+
+unfoldable pub wideAnswered : List (List ℕ) → List ℕ
+wideAnswered rs = (batchAt tightest 32 wideCard (bytes rs) (replicate (2 * length rs) 7)) .answers
+
 -- opens all of these
 unfoldable pub examples-open : ℕ
-unfolding at left inHand linkBehind traced owedByOne owedAndHeld allFreed byTurns scattered longCue nearEight duesNear gaps inGaps fourAndTwo nibbled wiping wipingSaid miscounted shown shownSheet crossing crossingSheet twoLost atBegin atFinish reportWords reportResult dueBefore again againSaid dragging
+unfolding at left inHand linkBehind traced owedByOne owedAndHeld allFreed byTurns scattered longCue nearEight duesNear gaps inGaps fourAndTwo nibbled wiping wipingSaid miscounted shown shownSheet crossing crossingSheet twoLost atBegin atFinish reportWords reportResult dueBefore again againSaid dragging quad wideRec wideCard wideAnswered
 examples-open = 0

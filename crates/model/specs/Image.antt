@@ -26,7 +26,7 @@ pub record Image : Type 0 where
 
 -- "Heap: 4 × G words", G = 64 × k; "Start bits, then mark bits: G/16 words each"; "Cards, k words"; document 02, (ii), "one word per
 -- card [..], placed after the card words"; "Registers: 16 players of 16 words"; "Packets: 32 of 32 words"; "Tracers: 8 of 8 words"; "Players, 16 of
--- 2 words"; "General, 8 words"
+-- 2 words"; "General, 8 words". (ix), of the wide store: "granules still of four words, 32 bits to a bit word, so that the length is 262 × k + 1384 words"
 abbrev pub lengths : ℕ → ℕ → List ℕ
 lengths w k = 256 * k ∷ 64 * k / w ∷ 64 * k / w ∷ k ∷ k ∷ 256 ∷ 1024 ∷ 64 ∷ 32 ∷ 8 ∷ []
 
@@ -75,7 +75,7 @@ place (n ∷ ns) (suc s) = n + place ns s
 abbrev pub imageLength : ℕ → ℕ → ℕ
 imageLength w k = total (lengths w k)
 
--- "A store has k cards, k from 1 to 512", with words of 16 bits; a wide store has words of 32 bits; there is no other
+-- "A store has k cards, k from 1 to 512", with words of 16 bits; document 02, (ix): "a wide store of 32-bit words [..]: k from 1 to 65,536"; there is no other
 abbrev pub mostCards : ℕ → ℕ
 mostCards w = cond (eqb w 16) 512 (cond (eqb w 32) 65536 0)
 

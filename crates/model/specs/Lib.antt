@@ -18,5 +18,4 @@ pub mod Claim
 pub mod Bound
 pub mod BothRules
 pub mod OwnReport
-pub mod LongScratch
 pub mod Open

@@ -1,14 +1,16 @@
 -- Step records: their bytes, fields and kinds.
-use mathlib.Core.Bool.{cond}
 use mathlib.Core.List.{List, [], _∷_}
 use Prim.Native.Nat.{ℕ, _+_, _*_, _/_}
 use lib.ListN.{length, getD, take, drop}
-use Rattle.model.specs.Base.{nth, zeroes, table}
+use Rattle.model.specs.Base.{nth, table}
 
 -- "Steps come as records of 8 bytes with no header: kind, player (kinds 1 to 8) or tracer (10 to 12), then a, b, c, 16 bits each, low byte first."
+-- Document 02, (ix), of the wide store: "Its step records have 16 bytes: kind, player or tracer, two zero bytes, then a, b, c of 32 bits, low byte
+-- first". `zeros` is the number that the zero bytes make.
 pub record Step : Type 0 where
   pub kind : ℕ
   pub who : ℕ
+  pub zeros : ℕ
   pub a : ℕ
   pub b : ℕ
   pub c : ℕ
@@ -18,8 +20,7 @@ unfoldable pub little : List ℕ → ℕ
 little [] = 0
 little (x ∷ xs) = x + 256 * little xs
 
--- A record is four words of w bits. The first holds kind and player or tracer; where it has more bytes (w is 32), they are zero,
--- or else the kind is unknown.
+-- A record is four words of w bits. The first holds kind, player or tracer, and the zero bytes, of which a word of 16 bits has none.
 unfoldable pub recordBytes : ℕ → ℕ
 recordBytes w = w / 2
 
@@ -27,8 +28,9 @@ unfoldable pub stepOf : ℕ → List ℕ → Step
 stepOf w bs =
     let n : ℕ = w / 8 in
     record {
-      kind = cond (zeroes (drop 2 (take n bs))) (nth bs 0) 0;
+      kind = nth bs 0;
       who = nth bs 1;
+      zeros = little (drop 2 (take n bs));
       a = little (take n (drop n bs));
       b = little (take n (drop (2 * n) bs));
       c = little (take n (drop (3 * n) bs));

@@ -25,10 +25,10 @@ someSet [] = false
 someSet (x ∷ xs) = not (eqb x 0) || someSet xs
 
 module _ (s : Step) where
-  -- 3 unknown: "kind not 1 to 14, or an unnamed field not 0"; document 02, (ii): "kind 15 leaves number 3"
+  -- 3 unknown: "kind not 1 to 14, or an unnamed field not 0"; document 02, (ii): "kind 15 leaves number 3"; (ix): "3 also if a zero byte isn't 0"
   unfoldable pub unnamed : Kind → Bool
   unfolding rowOf isUnused fields
-  unnamed n = eqb ((rowOf n) .code) 0 || some (fields s (λ r x. isUnused r && not (eqb x 0)) (rowOf n))
+  unnamed n = eqb ((rowOf n) .code) 0 || some (not (eqb (s .zeros) 0) ∷ fields s (λ r x. isUnused r && not (eqb x 0)) (rowOf n))
 
   -- 4 off the desk: "player or register above 15, tracer above 7"; "4 if the card doesn't exist"; k is the number of cards (0 in the plain
   -- store, whose kinds name none)

@@ -47,7 +47,7 @@ pub fn enter(im: &mut [Word], k: usize, t: usize, g: Word)
 {
     let x = image::sections::tracer_word(im, k, 8 * t + 1) as usize;
     if x == 0 {
-        image::cards::dirty_card(im, k, g as usize / 64);
+        bits_and_cards::cards::dirty_card(im, k, g as usize / 64);
     } else {
         work_packets::packet::append_entry(im, k, x - 1, g);
     }
@@ -63,10 +63,10 @@ pub fn reach(im: &mut [Word], k: usize, t: usize, g: Word)
     if g == 0 {
         return;
     }
-    if image::bits::is_marked(im, k, g as usize) {
+    if bits_and_cards::bits::is_marked(im, k, g as usize) {
         return;
     }
-    image::cards::mark_object(im, k, g as usize);
+    bits_and_cards::cards::mark_object(im, k, g as usize);
     take_output(im, k, t);
     enter(im, k, t, g);
 }

@@ -20,6 +20,7 @@ pub fn record_at(steps: &[u8], at: usize) -> Request
     Request {
         kind: kind,
         who: who,
+        zeros: 0,
         a: a,
         b: b,
         c: c,

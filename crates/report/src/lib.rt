@@ -8,8 +8,6 @@ ghost use Rattle.report_laws.specs.Reported.{reportedOf, reportExtent};
 use image::layout::Word;
 use image_laws::Extent;
 
-pub mod plane; // plane.rt: a plane of bits over the stretches, and over the starts of an image
-pub mod stretch; // stretch.rt: the stretches of a report, and whether each is good
 pub mod verdict; // verdict.rt: numbers 13 and 14, and the verdict
 
 // The cards of both images, if all four lengths fit.

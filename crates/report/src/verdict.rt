@@ -20,7 +20,7 @@ fn held_freed(im: &[Word], k: usize, report: &[u8], c: usize, s: &mut [Word]) ->
     ensures { λ r. ⌜ r ≡ heldFreed (imageOf width k (now (im .entry))) (now (report .entry)) ⌝ }
 {
     search::reach(im, k, s);
-    crate::plane::any_in(report, c, s)
+    report_planes::plane::any_in(report, c, s)
 }
 
 // Whether a start out of reach lies in no stretch.
@@ -32,8 +32,8 @@ fn lost_missed(im: &[Word], k: usize, report: &[u8], c: usize, s: &mut [Word]) -
     ensures { λ r. ⌜ r ≡ lostMissed (imageOf width k (now (im .entry))) (now (report .entry)) ⌝ }
 {
     search::reach(im, k, s);
-    crate::plane::cover_all(report, c, s);
-    crate::plane::any_bare(im, k, s)
+    report_planes::plane::cover_all(report, c, s);
+    report_planes::plane::any_bare(im, k, s)
 }
 
 // The verdict. The planes are left as the last search and the stretches have left them.
@@ -44,7 +44,7 @@ fn by_planes(first: &[Word], second: &[Word], k: usize, report: &[u8], s: &mut [
     ensures { λ r. ⌜ r ≡ verdict (imageOf width k (now (first .entry))) (imageOf width k (now (second .entry))) (now (report .entry)) ⌝ }
 {
     let c = report.len() / 4;
-    if !crate::stretch::all_good(second, k, report, c) {
+    if !report_stretches::stretch::all_good(second, k, report, c) {
         return 12;
     }
     if held_freed(second, k, report, c, s) {

@@ -100,7 +100,7 @@ fn some_stray(r: Request) -> bool
     let a = stray(limit(n, 1), r.a);
     let b = stray(limit(n, 2), r.b);
     let c = stray(limit(n, 3), r.c);
-    w | a | b | c
+    (r.zeros != 0) | (w | a | b | c)
 }
 
 // Number 4, but for cards.

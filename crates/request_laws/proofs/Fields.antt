@@ -52,11 +52,11 @@ module _ (w : ℕ) (r : Request) where
 
   module _ {l₀ l₁ l₂ l₃ : ℕ} {t u v x : Bool} (e₀ : l₀ ≡ boundAt w n 0) (e₁ : l₁ ≡ boundAt w n 1) (e₂ : l₂ ≡ boundAt w n 2) (e₃ : l₃ ≡ boundAt w n 3) where
     pub stray-found : 1 ≤ r .kind → r .kind < 16 → t ≡ (eqb l₀ 0 && not (eqb (r .who) 0)) → u ≡ (eqb l₁ 0 && not (eqb (r .a) 0)) → v ≡ (eqb l₂ 0 && not (eqb (r .b) 0)) → x ≡ (eqb l₃ 0 && not (eqb (r .c) 0))
-        → (((t || u) || v) || x) ≡ unnamed (requested r) (kindOf (r .kind))
-    unfolding some
+        → (not (eqb (r .zeros) 0) || (((t || u) || v) || x)) ≡ unnamed (requested r) (kindOf (r .kind))
+    unfolding requested some
     stray-found l h f₀ f₁ f₂ f₃ =
-        found (λ y z. eqb y 0 && not (eqb z 0)) e₀ e₁ e₂ e₃ f₀ f₁ f₂ f₃
-        ∙ sym (unnamed-by w s n ∙ ap (λ b. b || some (fields s (λ y z. eqb (bound w y) 0 && not (eqb z 0)) (rowOf n))) (kind-known (r .kind) l h))
+        ap (λ b. not (eqb (r .zeros) 0) || b) (found (λ y z. eqb y 0 && not (eqb z 0)) e₀ e₁ e₂ e₃ f₀ f₁ f₂ f₃)
+        ∙ sym (unnamed-by w s n ∙ ap (λ b. b || some (not (eqb (r .zeros) 0) ∷ fields s (λ y z. eqb (bound w y) 0 && not (eqb z 0)) (rowOf n))) (kind-known (r .kind) l h))
 
     pub beyond-found : t ≡ (ltb 0 l₀ && leb l₀ (r .who)) → u ≡ (ltb 0 l₁ && leb l₁ (r .a)) → v ≡ (ltb 0 l₂ && leb l₂ (r .b)) → x ≡ (ltb 0 l₃ && leb l₃ (r .c))
         → (((t || u) || v) || x) ≡ beyondLimit w (requested r) (kindOf (r .kind))

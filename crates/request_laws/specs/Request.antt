@@ -12,7 +12,7 @@ use Rattle.request_laws.specs.declared.Admission.{Admission}
 use Rattle.request_laws.specs.declared.Admission.the-variants.{Unknown, OffDesk, Owing, Admitted}
 
 unfoldable pub requested : Request → Step
-requested r = record { kind = r .kind; who = r .who; a = r .a; b = r .b; c = r .c }
+requested r = record { kind = r .kind; who = r .who; zeros = r .zeros; a = r .a; b = r .b; c = r .c }
 
 -- each field of its step is a word of w bits
 pub record InRange (w : ℕ) (r : Request) : Type 0 where

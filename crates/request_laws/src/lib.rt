@@ -3,6 +3,7 @@
 pub struct Request {
     pub kind: usize,
     pub who: usize,
+    pub zeros: usize,
     pub a: usize,
     pub b: usize,
     pub c: usize,

@@ -22,7 +22,7 @@ pub fn add(s: &mut [Word], i: usize)
     ensures { λ _. ⌜ now (s .exit) ≡ setBit width (now (s .entry)) i ⌝ }
 {
     let x = s[i / BITS];
-    s[i / BITS] = image::bits::with_bit(x, (i % BITS) as Word);
+    s[i / BITS] = bits_and_cards::bits::with_bit(x, (i % BITS) as Word);
 }
 
 pub fn take_out(s: &mut [Word], i: usize)
@@ -30,5 +30,5 @@ pub fn take_out(s: &mut [Word], i: usize)
     ensures { λ _. ⌜ now (s .exit) ≡ clearBit width (now (s .entry)) i ⌝ }
 {
     let x = s[i / BITS];
-    s[i / BITS] = image::bits::without_bit(x, (i % BITS) as Word);
+    s[i / BITS] = bits_and_cards::bits::without_bit(x, (i % BITS) as Word);
 }

@@ -8,9 +8,6 @@ use image::layout::Word;
 use image_laws::Extent;
 use image_laws::Verdict;
 
-pub mod lines; // lines.rt: the lines, one behind the other
-pub mod signs; // signs.rt: the signs of a card's granules
-
 fn verdict(im: &[Word], output: &mut [u8]) -> Verdict
     ensures { λ r. ⌜ mappedOf (resultOf r) (now (output .exit)) ≡ mapAt width (now (im .entry)) (now (output .entry)) ⌝ }
 {
@@ -22,7 +19,7 @@ fn verdict(im: &[Word], output: &mut [u8]) -> Verdict
                 return Verdict::Misfit;
             }
             if judge::is_undamaged(im, k) {
-                crate::lines::draw(im, k, output);
+                map_lines::lines::draw(im, k, output);
                 return Verdict::Accepted;
             }
             Verdict::Damaged
@@ -31,7 +28,7 @@ fn verdict(im: &[Word], output: &mut [u8]) -> Verdict
 }
 
 // "A lent output of another length than 73 bytes a line, or a bad image, leaves it unwritten. Checks: 1 and 2, as for a batch."
-pub fn service_map(im: &[Word], output: &mut [u8]) -> Word
+pub fn service_map(im: &[Word], output: &mut [u8]) -> u16
     ensures { λ r. ⌜ mappedOf r (now (output .exit)) ≡ mapAt width (now (im .entry)) (now (output .entry)) ⌝ }
 {
     image::result::result(verdict(im, output))

@@ -1,25 +1,29 @@
-// Sets of granules as bits, in tables that are lent: the values that a link may name, and the granules seen.
+// Granules told by bits: those of the image that a word may name, and sets in tables that are lent.
 ghost use mathlib.Core.Path.{_≡_};
-ghost use mathlib.Core.Bool.{not};
+ghost use mathlib.Core.Bool.{not, _||_};
 ghost use Prim.Native.Nat.{_/_, _<_, min};
+ghost use lib.Dec.{eqb, leb};
 ghost use lib.ListN.{length, replicate};
 ghost use Rattle.model.specs.Base.{bit, setBit};
-ghost use Rattle.model.specs.Image.{imageOf};
+ghost use Rattle.model.specs.Image.{imageOf, isStart, marked};
 ghost use Rattle.model.specs.Undamaged.{nilOrStart};
 ghost use Rattle.image_laws.specs.Sized.{Sized};
-ghost use Rattle.soundness_laws.specs.Sets.{Targets, fullWords};
-ghost use Rattle.image.specs.Layout.{width};
+ghost use Rattle.soundness_laws.specs.Sets.{Named, tableWords};
+ghost use Rattle.image.specs.Layout.{width, most};
 use image::layout::BITS;
 use image::layout::MOST_CARDS;
-use image::layout::VALUES;
 use image::layout::Word;
 
-// Words of a set with a bit for every granule of any store.
-pub const SEEN: usize = 64 * MOST_CARDS / BITS;
+// How many granules a set of entries tells apart, and its words: one that grew with the store would be large in a large one.
+pub const APART: usize = 32768;
 
-// Words of the set of what a link may name. With words of 16 bits that is a bit for every value of a word, so that a link is
-// tested without asking whether it lies in the store; with wider words the values behind these are asked of the image.
-pub const TARGETS: usize = 4096;
+pub const SEEN: usize = APART / BITS;
+
+// Words of a table with a bit for every number of 16 bits: with words of 16 bits, a link is tested by it alone.
+pub const TABLE: usize = 65536 / BITS;
+
+// The most cards of a store whose granules all have a bit there.
+const TABLED: usize = 1024;
 
 pub fn least(a: usize, b: usize) -> usize
     ensures { λ r. ⌜ r ≡ min a b ⌝ }
@@ -27,11 +31,13 @@ pub fn least(a: usize, b: usize) -> usize
     if a < b { a } else { b }
 }
 
+// ---- sets
+
 pub fn in_set(set: &[Word], g: usize) -> bool
     requires { ⌜ g / width < length (now set) ⌝ }
     ensures { λ r. ⌜ r ≡ bit width (now (set .entry)) g ⌝ }
 {
-    image::bits::has_bit(set[g / BITS], (g % BITS) as Word)
+    bits_and_cards::bits::has_bit(set[g / BITS], (g % BITS) as Word)
 }
 
 // whether g was not yet seen; it is now
@@ -42,49 +48,88 @@ pub fn first_time(seen: &mut [Word], g: usize) -> bool
     let w = g / BITS;
     let j = (g % BITS) as Word;
     let x = seen[w];
-    seen[w] = image::bits::with_bit(x, j);
-    !image::bits::has_bit(x, j)
+    seen[w] = bits_and_cards::bits::with_bit(x, j);
+    !bits_and_cards::bits::has_bit(x, j)
 }
 
-pub fn note_targets(im: &[Word], k: usize, targets: &mut [Word])
+// ---- what a word names: asked of a table, which has nil's bit besides those of the image; in a store with more granules of the image's own bits
+
+pub fn note_starts(im: &[Word], k: usize, table: &mut [Word])
     requires { ⌜ Sized width k (now im) ⌝ }
-    requires { ⌜ now targets ≡ replicate 4096 0 ⌝ }
-    ensures { λ _. ⌜ Targets width (imageOf width k (now (im .entry))) (now (targets .exit)) ⌝ }
+    requires { ⌜ now table ≡ replicate (tableWords width) 0 ⌝ }
+    ensures { λ _. ⌜ Named width (imageOf width k (now (im .entry)) .starts) (now (table .exit)) ⌝ }
 {
-    let n = least(64 * k / BITS, TARGETS);
+    let n = least(64 * k / BITS, TABLE);
     let mut i = 0;
     while i < n {
-        targets[i] = image::sections::start_word(im, k, i);
+        table[i] = image::sections::start_word(im, k, i);
         i += 1;
     }
-    let x = targets[0];
-    targets[0] = image::bits::with_bit(x, 0);
+    let x = table[0];
+    table[0] = bits_and_cards::bits::with_bit(x, 0);
 }
 
-pub fn is_target(im: &[Word], k: usize, targets: &[Word], a: usize) -> bool
+pub fn note_marks(im: &[Word], k: usize, table: &mut [Word])
     requires { ⌜ Sized width k (now im) ⌝ }
-    requires { ⌜ Targets width (imageOf width k (now im)) (now targets) ⌝ }
+    requires { ⌜ now table ≡ replicate (tableWords width) 0 ⌝ }
+    ensures { λ _. ⌜ Named width (imageOf width k (now (im .entry)) .marks) (now (table .exit)) ⌝ }
+{
+    let n = least(64 * k / BITS, TABLE);
+    let mut i = 0;
+    while i < n {
+        table[i] = image::sections::mark_word(im, k, i);
+        i += 1;
+    }
+    let x = table[0];
+    table[0] = bits_and_cards::bits::with_bit(x, 0);
+}
+
+// Whether the table is asked. By the store, not by the word: a branch between nil and granules beyond the table cannot be foretold.
+fn is_tabled(k: usize) -> bool
+    ensures { λ r. ⌜ r ≡ (leb most 1024 || leb k 1024) ⌝ }
+{
+    (MOST_CARDS <= TABLED) | (k <= TABLED)
+}
+
+// The bit is read of a granule that the store has, so that no branch hangs on the word.
+fn start_at(im: &[Word], k: usize, a: usize) -> bool
+    requires { ⌜ Sized width k (now im) ⌝ }
+    ensures { λ r. ⌜ r ≡ isStart (imageOf width k (now (im .entry))) a ⌝ }
+{
+    let b = least(a, 64 * k - 1);
+    (a < 64 * k) & bits_and_cards::bits::is_start(im, k, b)
+}
+
+pub fn marked_at(im: &[Word], k: usize, a: usize) -> bool
+    requires { ⌜ Sized width k (now im) ⌝ }
+    ensures { λ r. ⌜ r ≡ marked (imageOf width k (now (im .entry))) a ⌝ }
+{
+    let b = least(a, 64 * k - 1);
+    (a < 64 * k) & bits_and_cards::bits::is_marked(im, k, b)
+}
+
+pub fn is_target(im: &[Word], k: usize, table: &[Word], a: usize) -> bool
+    requires { ⌜ Sized width k (now im) ⌝ }
+    requires { ⌜ Named width (imageOf width k (now im) .starts) (now table) ⌝ }
     ensures { λ r. ⌜ r ≡ nilOrStart (imageOf width k (now (im .entry))) a ⌝ }
 {
-    if a / BITS < TARGETS {
-        return in_set(targets, a);
+    if is_tabled(k) {
+        if a / BITS < TABLE {
+            return in_set(table, a);
+        }
     }
-    if a < 64 * k {
-        return image::bits::is_start(im, k, a);
-    }
-    false
+    (a == 0) | start_at(im, k, a)
 }
 
-// How many words of the set are full, from the first on.
-pub fn full_words(set: &[Word]) -> usize
-    ensures { λ r. ⌜ r ≡ fullWords width (now (set .entry)) ⌝ }
+pub fn nil_or_marked(im: &[Word], k: usize, table: &[Word], a: usize) -> bool
+    requires { ⌜ Sized width k (now im) ⌝ }
+    requires { ⌜ Named width (imageOf width k (now im) .marks) (now table) ⌝ }
+    ensures { λ r. ⌜ r ≡ (eqb a 0 || marked (imageOf width k (now (im .entry))) a) ⌝ }
 {
-    let mut i = 0;
-    while i < set.len() {
-        if set[i] as usize != VALUES - 1 {
-            return i;
+    if is_tabled(k) {
+        if a / BITS < TABLE {
+            return in_set(table, a);
         }
-        i += 1;
     }
-    i
+    (a == 0) | marked_at(im, k, a)
 }

@@ -19,7 +19,7 @@ pub fn hand_ok(im: &[Word], k: usize, g: usize, i: usize) -> bool
     if 64 * k <= g {
         return false;
     }
-    image::bits::is_marked(im, k, g) & (i < image::sections::links(im, k, g))
+    bits_and_cards::bits::is_marked(im, k, g) & (i < image::sections::links(im, k, g))
 }
 
 pub fn hand_card_ok(im: &[Word], k: usize, c: usize, g: usize) -> bool

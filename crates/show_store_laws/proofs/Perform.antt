@@ -21,7 +21,7 @@ use Rattle.theory.specs.Lines.{Undamaged}
 use Rattle.theory.specs.Fields.{fieldAt, roleAt}
 use Rattle.theory.proofs.heap.Outside.{all-runs}
 use Rattle.theory.proofs.steps.Runs.{runs-stay}
-use Rattle.theory.proofs.steps.Fields.{field-zero, field-below, field-paid}
+use Rattle.theory.proofs.steps.Fields.{zeros-zero, field-zero, field-below, field-paid}
 use Rattle.request_laws.specs.Answer.{done, asked}
 use Rattle.request_laws.proofs.Numbers.{number-3}
 use Rattle.request_laws.specs.Passed.{Passed}
@@ -30,12 +30,16 @@ use Rattle.request_laws.specs.declared.Request.{Request}
 use Rattle.runs_laws.specs.declared.Free.{Free}
 use Rattle.runs_laws.specs.Granules.{freeOf}
 
--- the step of a request, by the fields that its kind names; the others are 0
-by-kind : (m : Image) (r : Request) (n w a b c : ℕ) (d : steps.Done) → r .kind ≡ n → r .who ≡ w → r .a ≡ a → r .b ≡ b → r .c ≡ c → d ≡ step tightest m (asked n w a b c) → d ≡ step tightest m (requested r)
-unfolding requested asked
-by-kind m r n w a b c d e f g h i q = rw (e, f, g, h, i) q
-
 module _ {m : Image} (r : Request) (q : Passed m (requested r) (kindOf (r .kind))) where
+  no-zeros : r .zeros ≡ 0
+  unfolding requested
+  no-zeros = zeros-zero (requested r) (kindOf (r .kind)) (q .named)
+
+  -- the step of a request, by the fields that its kind names; the others are 0
+  by-kind : (n w a b c : ℕ) (d : steps.Done) → r .kind ≡ n → r .who ≡ w → r .a ≡ a → r .b ≡ b → r .c ≡ c → d ≡ step tightest m (asked n w a b c) → d ≡ step tightest m (requested r)
+  unfolding requested asked
+  by-kind n w a b c d e f g h i p = rw (e, f, no-zeros, g, h, i) p
+
   -- a field that its kind n does not name, one that has a limit, and a player who must owe nothing
   module _ (n : ℕ) (e : r .kind ≡ n) (i : ℕ) (h : i < 4) where
     zero-at : roleAt (kindOf n) i ≡ unused → fieldAt (requested r) i ≡ 0
@@ -54,21 +58,21 @@ module _ {m : Image} (r : Request) (q : Passed m (requested r) (kindOf (r .kind)
   new-fields e = ((below-at 1 e 0 (omega arith) 16 refl, below-at 1 e 1 (omega arith) 16 refl), paid-at 1 e 0 (omega arith) refl refl)
 
   pub new-dispatched : r .kind ≡ 1 → (d : steps.Done) → d ≡ step tightest m (asked 1 (r .who) (r .a) (r .b) (r .c)) → d ≡ step tightest m (requested r)
-  new-dispatched e d = by-kind m r 1 (r .who) (r .a) (r .b) (r .c) d e refl refl refl refl
+  new-dispatched e d = by-kind 1 (r .who) (r .a) (r .b) (r .c) d e refl refl refl refl
 
   pub load-fields : r .kind ≡ 2 → ((r .who < 16) × (r .a < 16) × (r .b < 16)) × (owed m (r .who) ≡ 0)
   unfolding kindOf roleAt limit fieldAt requested
   load-fields e = ((below-at 2 e 0 (omega arith) 16 refl, below-at 2 e 1 (omega arith) 16 refl, below-at 2 e 2 (omega arith) 16 refl), paid-at 2 e 0 (omega arith) refl refl)
 
   pub load-dispatched : r .kind ≡ 2 → (d : steps.Done) → d ≡ step tightest m (asked 2 (r .who) (r .a) (r .b) (r .c)) → d ≡ step tightest m (requested r)
-  load-dispatched e d = by-kind m r 2 (r .who) (r .a) (r .b) (r .c) d e refl refl refl refl
+  load-dispatched e d = by-kind 2 (r .who) (r .a) (r .b) (r .c) d e refl refl refl refl
 
   pub store-fields : r .kind ≡ 3 → ((r .who < 16) × (r .a < 16) × (r .c < 16)) × (owed m (r .who) ≡ 0)
   unfolding kindOf roleAt limit fieldAt requested
   store-fields e = ((below-at 3 e 0 (omega arith) 16 refl, below-at 3 e 1 (omega arith) 16 refl, below-at 3 e 3 (omega arith) 16 refl), paid-at 3 e 0 (omega arith) refl refl)
 
   pub store-dispatched : r .kind ≡ 3 → (d : steps.Done) → d ≡ step tightest m (asked 3 (r .who) (r .a) (r .b) (r .c)) → d ≡ step tightest m (requested r)
-  store-dispatched e d = by-kind m r 3 (r .who) (r .a) (r .b) (r .c) d e refl refl refl refl
+  store-dispatched e d = by-kind 3 (r .who) (r .a) (r .b) (r .c) d e refl refl refl refl
 
   pub barrier-fields : r .kind ≡ 4 → r .who < 16
   unfolding kindOf roleAt limit fieldAt requested
@@ -76,14 +80,14 @@ module _ {m : Image} (r : Request) (q : Passed m (requested r) (kindOf (r .kind)
 
   pub barrier-dispatched : r .kind ≡ 4 → (d : steps.Done) → d ≡ step tightest m (asked 4 (r .who) 0 0 0) → d ≡ step tightest m (requested r)
   unfolding kindOf roleAt limit fieldAt requested
-  barrier-dispatched e d = by-kind m r 4 (r .who) 0 0 0 d e refl (zero-at 4 e 1 (omega arith) refl) (zero-at 4 e 2 (omega arith) refl) (zero-at 4 e 3 (omega arith) refl)
+  barrier-dispatched e d = by-kind 4 (r .who) 0 0 0 d e refl (zero-at 4 e 1 (omega arith) refl) (zero-at 4 e 2 (omega arith) refl) (zero-at 4 e 3 (omega arith) refl)
 
   pub hand-fields : r .kind ≡ 5 → ((r .who < 16) × (r .a < 16) × (r .b < 16) × (r .c < 16)) × ((owed m (r .who) ≡ 0) × (owed m (r .b) ≡ 0))
   unfolding kindOf roleAt limit fieldAt requested
   hand-fields e = ((below-at 5 e 0 (omega arith) 16 refl, below-at 5 e 1 (omega arith) 16 refl, below-at 5 e 2 (omega arith) 16 refl, below-at 5 e 3 (omega arith) 16 refl), (paid-at 5 e 0 (omega arith) refl refl, paid-at 5 e 2 (omega arith) refl refl))
 
   pub hand-dispatched : r .kind ≡ 5 → (d : steps.Done) → d ≡ step tightest m (asked 5 (r .who) (r .a) (r .b) (r .c)) → d ≡ step tightest m (requested r)
-  hand-dispatched e d = by-kind m r 5 (r .who) (r .a) (r .b) (r .c) d e refl refl refl refl
+  hand-dispatched e d = by-kind 5 (r .who) (r .a) (r .b) (r .c) d e refl refl refl refl
 
   pub drop-fields : r .kind ≡ 6 → ((r .who < 16) × (r .a < 16)) × (owed m (r .who) ≡ 0)
   unfolding kindOf roleAt limit fieldAt requested
@@ -91,7 +95,7 @@ module _ {m : Image} (r : Request) (q : Passed m (requested r) (kindOf (r .kind)
 
   pub drop-dispatched : r .kind ≡ 6 → (d : steps.Done) → d ≡ step tightest m (asked 6 (r .who) (r .a) 0 0) → d ≡ step tightest m (requested r)
   unfolding kindOf roleAt limit fieldAt requested
-  drop-dispatched e d = by-kind m r 6 (r .who) (r .a) 0 0 d e refl refl (zero-at 6 e 2 (omega arith) refl) (zero-at 6 e 3 (omega arith) refl)
+  drop-dispatched e d = by-kind 6 (r .who) (r .a) 0 0 d e refl refl (zero-at 6 e 2 (omega arith) refl) (zero-at 6 e 3 (omega arith) refl)
 
   pub read-fields : r .kind ≡ 7 → ((r .who < 16) × (r .a < 16)) × (owed m (r .who) ≡ 0)
   unfolding kindOf roleAt limit fieldAt requested
@@ -99,18 +103,18 @@ module _ {m : Image} (r : Request) (q : Passed m (requested r) (kindOf (r .kind)
 
   pub read-dispatched : r .kind ≡ 7 → (d : steps.Done) → d ≡ step tightest m (asked 7 (r .who) (r .a) (r .b) 0) → d ≡ step tightest m (requested r)
   unfolding kindOf roleAt limit fieldAt requested
-  read-dispatched e d = by-kind m r 7 (r .who) (r .a) (r .b) 0 d e refl refl refl (zero-at 7 e 3 (omega arith) refl)
+  read-dispatched e d = by-kind 7 (r .who) (r .a) (r .b) 0 d e refl refl refl (zero-at 7 e 3 (omega arith) refl)
 
   pub write-fields : r .kind ≡ 8 → ((r .who < 16) × (r .a < 16)) × (owed m (r .who) ≡ 0)
   unfolding kindOf roleAt limit fieldAt requested
   write-fields e = ((below-at 8 e 0 (omega arith) 16 refl, below-at 8 e 1 (omega arith) 16 refl), paid-at 8 e 0 (omega arith) refl refl)
 
   pub write-dispatched : r .kind ≡ 8 → (d : steps.Done) → d ≡ step tightest m (asked 8 (r .who) (r .a) (r .b) (r .c)) → d ≡ step tightest m (requested r)
-  write-dispatched e d = by-kind m r 8 (r .who) (r .a) (r .b) (r .c) d e refl refl refl refl
+  write-dispatched e d = by-kind 8 (r .who) (r .a) (r .b) (r .c) d e refl refl refl refl
 
   pub begin-dispatched : r .kind ≡ 9 → (d : steps.Done) → d ≡ step tightest m (asked 9 0 0 0 0) → d ≡ step tightest m (requested r)
   unfolding kindOf roleAt limit fieldAt requested
-  begin-dispatched e d = by-kind m r 9 0 0 0 0 d e (zero-at 9 e 0 (omega arith) refl) (zero-at 9 e 1 (omega arith) refl) (zero-at 9 e 2 (omega arith) refl) (zero-at 9 e 3 (omega arith) refl)
+  begin-dispatched e d = by-kind 9 0 0 0 0 d e (zero-at 9 e 0 (omega arith) refl) (zero-at 9 e 1 (omega arith) refl) (zero-at 9 e 2 (omega arith) refl) (zero-at 9 e 3 (omega arith) refl)
 
   pub scan-fields : r .kind ≡ 10 → (r .who < 8) × (r .a < 16)
   unfolding kindOf roleAt limit fieldAt requested
@@ -118,7 +122,7 @@ module _ {m : Image} (r : Request) (q : Passed m (requested r) (kindOf (r .kind)
 
   pub scan-dispatched : r .kind ≡ 10 → (d : steps.Done) → d ≡ step tightest m (asked 10 (r .who) (r .a) 0 0) → d ≡ step tightest m (requested r)
   unfolding kindOf roleAt limit fieldAt requested
-  scan-dispatched e d = by-kind m r 10 (r .who) (r .a) 0 0 d e refl refl (zero-at 10 e 2 (omega arith) refl) (zero-at 10 e 3 (omega arith) refl)
+  scan-dispatched e d = by-kind 10 (r .who) (r .a) 0 0 d e refl refl (zero-at 10 e 2 (omega arith) refl) (zero-at 10 e 3 (omega arith) refl)
 
   pub trace-fields : r .kind ≡ 11 → r .who < 8
   unfolding kindOf roleAt limit fieldAt requested
@@ -126,7 +130,7 @@ module _ {m : Image} (r : Request) (q : Passed m (requested r) (kindOf (r .kind)
 
   pub trace-dispatched : r .kind ≡ 11 → (d : steps.Done) → d ≡ step tightest m (asked 11 (r .who) 0 0 0) → d ≡ step tightest m (requested r)
   unfolding kindOf roleAt limit fieldAt requested
-  trace-dispatched e d = by-kind m r 11 (r .who) 0 0 0 d e refl (zero-at 11 e 1 (omega arith) refl) (zero-at 11 e 2 (omega arith) refl) (zero-at 11 e 3 (omega arith) refl)
+  trace-dispatched e d = by-kind 11 (r .who) 0 0 0 d e refl (zero-at 11 e 1 (omega arith) refl) (zero-at 11 e 2 (omega arith) refl) (zero-at 11 e 3 (omega arith) refl)
 
   pub clean-fields : r .kind ≡ 12 → r .who < 8
   unfolding kindOf roleAt limit fieldAt requested
@@ -134,15 +138,15 @@ module _ {m : Image} (r : Request) (q : Passed m (requested r) (kindOf (r .kind)
 
   pub clean-dispatched : r .kind ≡ 12 → (d : steps.Done) → d ≡ step tightest m (asked 12 (r .who) 0 0 0) → d ≡ step tightest m (requested r)
   unfolding kindOf roleAt limit fieldAt requested
-  clean-dispatched e d = by-kind m r 12 (r .who) 0 0 0 d e refl (zero-at 12 e 1 (omega arith) refl) (zero-at 12 e 2 (omega arith) refl) (zero-at 12 e 3 (omega arith) refl)
+  clean-dispatched e d = by-kind 12 (r .who) 0 0 0 d e refl (zero-at 12 e 1 (omega arith) refl) (zero-at 12 e 2 (omega arith) refl) (zero-at 12 e 3 (omega arith) refl)
 
   pub finish-dispatched : r .kind ≡ 13 → (d : steps.Done) → d ≡ step tightest m (asked 13 0 0 0 0) → d ≡ step tightest m (requested r)
   unfolding kindOf roleAt limit fieldAt requested
-  finish-dispatched e d = by-kind m r 13 0 0 0 0 d e (zero-at 13 e 0 (omega arith) refl) (zero-at 13 e 1 (omega arith) refl) (zero-at 13 e 2 (omega arith) refl) (zero-at 13 e 3 (omega arith) refl)
+  finish-dispatched e d = by-kind 13 0 0 0 0 d e (zero-at 13 e 0 (omega arith) refl) (zero-at 13 e 1 (omega arith) refl) (zero-at 13 e 2 (omega arith) refl) (zero-at 13 e 3 (omega arith) refl)
 
   pub due-dispatched : r .kind ≡ 14 → (d : steps.Done) → d ≡ step tightest m (asked 14 0 (r .a) 0 0) → d ≡ step tightest m (requested r)
   unfolding kindOf roleAt limit fieldAt requested
-  due-dispatched e d = by-kind m r 14 0 (r .a) 0 0 d e (zero-at 14 e 0 (omega arith) refl) refl (zero-at 14 e 2 (omega arith) refl) (zero-at 14 e 3 (omega arith) refl)
+  due-dispatched e d = by-kind 14 0 (r .a) 0 0 d e (zero-at 14 e 0 (omega arith) refl) refl (zero-at 14 e 2 (omega arith) refl) (zero-at 14 e 3 (omega arith) refl)
 
   pub undirty-fields : r .kind ≡ 15 → r .a < m .k
   unfolding kindOf roleAt limit fieldAt requested
@@ -150,7 +154,7 @@ module _ {m : Image} (r : Request) (q : Passed m (requested r) (kindOf (r .kind)
 
   pub undirty-dispatched : r .kind ≡ 15 → (d : steps.Done) → d ≡ step tightest m (asked 15 0 (r .a) 0 0) → d ≡ step tightest m (requested r)
   unfolding kindOf roleAt limit fieldAt requested
-  undirty-dispatched e d = by-kind m r 15 0 (r .a) 0 0 d e (zero-at 15 e 0 (omega arith) refl) refl (zero-at 15 e 2 (omega arith) refl) (zero-at 15 e 3 (omega arith) refl)
+  undirty-dispatched e d = by-kind 15 0 (r .a) 0 0 d e (zero-at 15 e 0 (omega arith) refl) refl (zero-at 15 e 2 (omega arith) refl) (zero-at 15 e 3 (omega arith) refl)
 
 -- ---- a number that is no kind's
 

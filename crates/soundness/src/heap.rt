@@ -7,7 +7,7 @@ ghost use Rattle.model.specs.Image.{imageOf, granules, isStart, firstRun};
 ghost use Rattle.model.specs.Undamaged.{linksOk, zeroGranule, filled};
 ghost use Rattle.image_laws.specs.Sized.{Sized};
 ghost use Rattle.image_laws.specs.Digits.{digit};
-ghost use Rattle.soundness_laws.specs.Sets.{Targets};
+ghost use Rattle.soundness_laws.specs.Sets.{Named};
 ghost use Rattle.soundness_laws.specs.Small.{SmallUpto};
 ghost use Rattle.image.specs.Layout.{width, most};
 ghost use Rattle.soundness_laws.specs.Tests.{LinksInside};
@@ -15,16 +15,16 @@ use image::layout::Word;
 
 // ---- the walk
 
-pub fn object_links(im: &[Word], k: usize, targets: &[Word], g: usize, object: bool) -> bool
+pub fn object_links(im: &[Word], k: usize, table: &[Word], g: usize, object: bool) -> bool
     requires { ⌜ Sized width k (now im) ⌝ }
-    requires { ⌜ Targets width (imageOf width k (now im)) (now targets) ⌝ }
+    requires { ⌜ Named width (imageOf width k (now im) .starts) (now table) ⌝ }
     requires { ⌜ g < 64 * k ⌝ }
     requires { ⌜ object ≡ isStart (imageOf width k (now im)) g ⌝ }
     requires { ⌜ LinksInside k (imageOf width k (now im)) g ⌝ }
     ensures { λ r. ⌜ r ≡ linksOk (imageOf width k (now (im .entry))) g ⌝ }
 {
     if object {
-        return targets::links_ok(im, k, targets, g, image::sections::links(im, k, g));
+        return targets::links_ok(im, k, table, g, image::sections::links(im, k, g));
     }
     true
 }
@@ -44,9 +44,9 @@ fn run_end(object: bool, end: usize, after: usize) -> usize
 }
 
 // That no start lies inside a piece is told at the end: then there are as many starts as objects.
-pub fn walk(im: &[Word], k: usize, targets: &[Word], from: usize, first: usize) -> bool
+pub fn walk(im: &[Word], k: usize, table: &[Word], from: usize, first: usize) -> bool
     requires { ⌜ Sized width k (now im) ⌝ }
-    requires { ⌜ Targets width (imageOf width k (now im)) (now targets) ⌝ }
+    requires { ⌜ Named width (imageOf width k (now im) .starts) (now table) ⌝ }
     requires { ⌜ first ≡ firstRun (imageOf width k (now im)) ⌝ }
     requires { ⌜ isStart (imageOf width k (now im)) 0 ≡ false ⌝ }
     requires { ⌜ SmallUpto k (imageOf width k (now im)) from ⌝ }
@@ -57,11 +57,11 @@ pub fn walk(im: &[Word], k: usize, targets: &[Word], from: usize, first: usize) 
     let mut end = 0;
     let mut seen = from - 1;
     while g < 64 * k {
-        let object = image::bits::is_start(im, k, g);
+        let object = bits_and_cards::bits::is_start(im, k, g);
         if !crate::pieces::piece_ok(im, k, g, object, next, g == end) {
             return false;
         }
-        if !object_links(im, k, targets, g, object) {
+        if !object_links(im, k, table, g, object) {
             return false;
         }
         seen = one_more(seen, object);
@@ -79,22 +79,22 @@ pub fn first_unused(im: &[Word], k: usize) -> bool
     requires { ⌜ Sized width k (now im) ⌝ }
     ensures { λ r. ⌜ r ≡ zeroGranule (imageOf width k (now (im .entry))) ⌝ }
 {
-    stretches::parts::zero_heap(im, k, 0, 4) & !image::bits::is_start(im, k, 0)
+    stretches::parts::zero_heap(im, k, 0, 4) & !bits_and_cards::bits::is_start(im, k, 0)
 }
 
-pub fn heap_ok(im: &[Word], k: usize, targets: &[Word]) -> bool
+pub fn heap_ok(im: &[Word], k: usize, table: &[Word]) -> bool
     requires { ⌜ Sized width k (now im) ⌝ }
-    requires { ⌜ Targets width (imageOf width k (now im)) (now targets) ⌝ }
+    requires { ⌜ Named width (imageOf width k (now im) .starts) (now table) ⌝ }
     ensures { λ r. ⌜ r ≡ (zeroGranule (imageOf width k (now (im .entry))) && (filled (imageOf width k (now (im .entry))) && all (granules (imageOf width k (now (im .entry)))) (linksOk (imageOf width k (now (im .entry)))))) ⌝ }
 {
     if !first_unused(im, k) {
         return false;
     }
-    let from = targets::small::after_small(im, k, targets);
+    let from = targets::small::after_small(im, k, table);
     walk(
         im,
         k,
-        targets,
+        table,
         from,
         image::sections::first_run(im, k) as usize,
     )

@@ -6,7 +6,7 @@ ghost use Rattle.image_laws.specs.Sized.{Sized};
 ghost use Rattle.image.specs.Layout.{width};
 ghost use Rattle.soundness_laws.specs.Tests.{layout};
 use image::layout::Word;
-use sets::TARGETS;
+use sets::TABLE;
 
 pub mod heap; // heap.rt: objects and runs fill the heap, links are nil or starts
 pub mod pieces; // pieces.rt: objects and runs, one at a time
@@ -16,10 +16,10 @@ pub fn layout_ok(im: &[Word], k: usize) -> bool
     requires { ⌜ Sized width k (now im) ⌝ }
     ensures { λ r. ⌜ r ≡ layout (imageOf width k (now (im .entry))) ⌝ }
 {
-    let mut targets: [Word; TARGETS] = [0; TARGETS];
-    sets::note_targets(im, k, &mut targets);
-    heap::heap_ok(im, k, &targets)
-        & targets::regs_ok(im, k, &targets)
+    let mut table: [Word; TABLE] = [0; TABLE];
+    sets::note_starts(im, k, &mut table);
+    heap::heap_ok(im, k, &table)
+        & targets::regs_ok(im, k, &table)
         & short_sections::cards_ok(im, k)
         & short_sections::players_ok(im, k)
         & short_sections::general_ok(im, k)

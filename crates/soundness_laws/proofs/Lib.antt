@@ -6,6 +6,7 @@ pub mod Marks
 pub mod Pieces
 pub mod Heap
 pub mod Packets
+pub mod Entered
 pub mod Counts
 pub mod Hands
 pub mod Lines

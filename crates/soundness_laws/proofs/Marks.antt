@@ -1,20 +1,21 @@
 -- Marks stand only on starts: the granules of a word at a time.
 use mathlib.Core.Path.{_≡_, refl, sym, ap, _∙_}
-use mathlib.Core.Bool.{Bool, _&&_}
+use mathlib.Core.Bool.{Bool, true}
 use mathlib.Core.List.{List}
-use Prim.Native.Nat.{ℕ, zero, suc, _+_, _*_, _-_, _/_, _^_, _<_, min}
+use Prim.Native.Nat.{ℕ, zero, suc, _+_, _*_, _-_, _/_, _^_, _<_}
 use native.Mathlib.Nat.{mul-zero, mul-suc}
+use native.Mathlib.Numerals.{add-one}
 use native.Mathlib.Omega.{arith}
-use lib.Dec.{eqb, ltb}
+use lib.Dec.{eqb}
 use lib.Bits.{bitAnd, and-le-l}
 use borrow.Author.Tests.{eq-eqb, eqb-true}
 use Rattle.model.specs.Base.{nth, all, implies, testBit}
 use Rattle.model.specs.Image.{image, imageOf, granules, isStart, marked}
 use Rattle.model.specs.Undamaged.{markOk}
 use Rattle.soundness_laws.specs.Tests.{atWord, wordwise}
-use Rattle.soundness_laws.proofs.Checks.{all-append, clamped}
+use Rattle.soundness_laws.proofs.Checks.{all-append}
 use Rattle.image_laws.specs.Sized.{Sized}
-use Rattle.image_laws.proofs.Bits.{bit-at, mark-past}
+use Rattle.image_laws.proofs.Bits.{bit-at}
 use Rattle.image_laws.proofs.Parts.{all-cong}
 use Rattle.image_laws.proofs.Places.{words-full}
 use Rattle.image_laws.proofs.Digits.{digit-two, digit-on, on-digit, bit-none, bit-and, bit-not}
@@ -27,6 +28,9 @@ use lib.Pow.{pow-pos}
 
 -- ---- by words
 
+pub next-word : (w i : ℕ) → w * (i + 1) ≡ w * i + w
+next-word w i = rw (add-one i) (mul-suc w i)
+
 all-words : (w n : ℕ) (p : ℕ → Bool) → all (w * n) p ≡ all n (wordwise w p)
 unfolding all wordwise atWord
 all-words w zero p = rw (mul-zero w) refl
@@ -38,6 +42,10 @@ unfolding granules imageOf image
 by-words w k l p r z e = e ∙ (rw (words-full w k (sized-width z)) at (sym (all-words w (64 * k / w) p)))
 
 -- ---- within a word
+
+-- a word of w bits that are all set
+pub ones-bit : (w x j : ℕ) → x + 1 ≡ 2 ^ w → j < w → testBit x j ≡ true
+ones-bit w x j e h = on-digit (testBit x j) (omega (arith, bit-not w 0 x j (omega arith) h, bit-none j))
 
 -- every bit of a is in b
 sub-word : (n a b c : ℕ) → a < 2 ^ n → b + c + 1 ≡ 2 ^ n → eqb (bitAnd a c) 0 ≡ all n (λ j. implies (testBit a j) (testBit b j))
@@ -59,7 +67,3 @@ unfolding wordwise atWord markOk marked isStart imageOf image
 mark-word w k l i a b ea eb ha hb =
     sub-word w a b (2 ^ w - 1 - b) ha (omega arith)
     ∙ all-cong w _ _ (λ j q. rw (bit-at w (imageOf w k l .marks) i j q, bit-at w (imageOf w k l .starts) i j q, ea, eb))
-
--- the mark of a granule that may lie past the end
-pub mark-at : (w k : ℕ) (l : List ℕ) (z : Sized w k l) (a b : ℕ) (t : Bool) → b ≡ min a (64 * k - 1) → t ≡ marked (imageOf w k l) b → (ltb a (64 * k) && t) ≡ marked (imageOf w k l) a
-mark-at w k l z a b t eb et = clamped (marked (imageOf w k l)) (64 * k) a b t (mark-past w k l z a) eb et

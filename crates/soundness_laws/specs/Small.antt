@@ -2,11 +2,12 @@
 use mathlib.Core.Path.{_≡_}
 use mathlib.Core.Bool.{Bool, true}
 use mathlib.Core.List.{List, [], _∷_}
-use Prim.Native.Nat.{ℕ, _+_, _*_, _≤_, _<_, min}
+use Prim.Native.Nat.{ℕ, _+_, _*_, _/_, _≤_, _<_, min}
 use lib.Dec.{eqb, leb}
 use lib.ListN.{length}
 use Rattle.model.specs.Base.{nth, put, all, every}
 use Rattle.model.specs.Image.{Image, word, links, isStart}
+use Rattle.model.specs.Undamaged.{nilOrStart}
 use Rattle.soundness_laws.specs.Tests.{linkOk}
 
 -- the object at g has one granule and at most two links, which are in order
@@ -23,6 +24,11 @@ pub record SmallUpto (k : ℕ) (m : Image) (e : ℕ) : Type 0 where
   pub high : e ≤ 64 * k
   pub starts : (g : ℕ) → 1 ≤ g → g < e → isStart m g ≡ true
   pub objects : SmallFrom m 1 e
+
+-- the granules of the first n bit words of w bits are starts, but granule 0, in a heap of k cards
+pub record FullUpto (w k : ℕ) (m : Image) (n : ℕ) : Type 0 where
+  pub within : n ≤ 64 * k / w
+  pub starts : (g : ℕ) → 1 ≤ g → g < w * n → isStart m g ≡ true
 
 -- ---- bounds of the words of such an object, whose links are at most `top`
 
@@ -42,3 +48,9 @@ pub record Bounds (w top n : ℕ) (l : List ℕ) : Type 0 where
   pub long : length l ≡ 8 * w
   pub least : (i j : ℕ) → i < n → j < 4 → nth l (4 * i + j) ≡ leastAt j
   pub most : (i j : ℕ) → i < n → j < 4 → nth l (4 * w + 4 * i + j) ≡ mostAt top j
+
+-- those of a bit word full of objects, where links up to some number are in order
+pub record LinkBounds (w : ℕ) (m : Image) (l : List ℕ) : Type 0 where
+  pub top : ℕ
+  pub targets : (a : ℕ) → a ≤ top → nilOrStart m a ≡ true
+  pub bounds : Bounds w top w l

@@ -18,6 +18,7 @@ pub record RefusedWhere (rule : Placing) (m : Image) (s : Step) (n : ℕ) (P : T
 
 -- new: player and register on the desk, no barrier owed, "b = 0, b over 1,024, or c over 4 × b − 2" not so
 pub record GoodNew (m : Image) (s : Step) : Type 0 where
+  pub zero-bytes : s .zeros ≡ 0
   pub player : s .who < 16
   pub register : s .a < 16
   pub owes-none : owed m (s .who) ≡ 0
@@ -27,11 +28,13 @@ pub record GoodNew (m : Image) (s : Step) : Type 0 where
 
 -- barrier
 pub record GoodBarrier (s : Step) : Type 0 where
+  pub zero-bytes : s .zeros ≡ 0
   pub player : s .who < 16
   pub no-fields : (s .a ≡ 0) × (s .b ≡ 0) × (s .c ≡ 0)
 
 -- scan, in a cycle
 pub record GoodScan (m : Image) (s : Step) : Type 0 where
+  pub zero-bytes : s .zeros ≡ 0
   pub tracer : s .who < 8
   pub player : s .a < 16
   pub no-fields : (s .b ≡ 0) × (s .c ≡ 0)
@@ -39,12 +42,14 @@ pub record GoodScan (m : Image) (s : Step) : Type 0 where
 
 -- trace and clean, in a cycle
 pub record GoodTracer (m : Image) (s : Step) : Type 0 where
+  pub zero-bytes : s .zeros ≡ 0
   pub tracer : s .who < 8
   pub no-fields : (s .a ≡ 0) × (s .b ≡ 0) × (s .c ≡ 0)
   pub in-cycle : running m ≡ 1
 
 -- undirty of a card that exists, in a cycle
 pub record GoodUndirty (m : Image) (s : Step) : Type 0 where
+  pub zero-bytes : s .zeros ≡ 0
   pub card : s .a < m .k
   pub no-fields : (s .who ≡ 0) × (s .b ≡ 0) × (s .c ≡ 0)
   pub in-cycle : running m ≡ 1

@@ -39,7 +39,7 @@ pub fn undirty(im: &mut [Word], k: usize, c: usize) -> Answer
     if image::sections::running(im, k) == 0 {
         return Answer::WrongPhase;
     }
-    let dirty = image::cards::is_dirty(im, k, c);
+    let dirty = bits_and_cards::cards::is_dirty(im, k, c);
     let marked = image::sections::count(im, k, c);
     if dirty & (marked == 0) {
         undirty_card(im, k, c);

@@ -3,48 +3,50 @@
 use std::hint::black_box;
 use std::time::Duration;
 
+use library::Exported;
 use reference::image::Store;
 use reference::record::{records, RECORD_BYTES};
 use reference::steps::step;
-use reference::vectors::UNTOUCHED;
+use reference::vectors::{untouched, UNTOUCHED};
 
 use crate::timing::timed;
 
-pub type Batch = fn(&mut [u16], &[u8], &mut [u16]) -> u16;
+/// A batch of the narrow store, unless another word is named.
+pub type Batch<W = u16> = fn(&mut [W], &[u8], &mut [W]) -> u16;
 
 /// A list in batches of `size` records on a copy of an image, and what it must leave and answer.
-pub struct Call<'a> {
-    image: &'a [u16],
+pub struct Call<'a, W = u16> {
+    image: &'a [W],
     steps: &'a [u8],
     size: usize,
-    left: Vec<u16>,
-    answers: Vec<u16>,
+    left: Vec<W>,
+    answers: Vec<W>,
 }
 
-impl<'a> Call<'a> {
+impl<'a, W: Exported> Call<'a, W> {
     /// The list in one batch; the empty list too is one batch.
-    pub fn new(image: &'a [u16], steps: &'a [u8]) -> Call<'a> {
-        Call::in_batches(image, steps, (steps.len() / RECORD_BYTES).max(1))
+    pub fn new(image: &'a [W], steps: &'a [u8]) -> Call<'a, W> {
+        Call::in_batches(image, steps, (steps.len() / W::RECORD_BYTES).max(1))
     }
 
-    pub fn in_batches(image: &'a [u16], steps: &'a [u8], size: usize) -> Call<'a> {
+    pub fn in_batches(image: &'a [W], steps: &'a [u8], size: usize) -> Call<'a, W> {
         let mut left = image.to_vec();
-        let mut answers = vec![UNTOUCHED; steps.len() / RECORD_BYTES * 2];
+        let mut answers = vec![untouched(); steps.len() / W::RECORD_BYTES * 2];
         assert_eq!(reference::batch(&mut left, steps, &mut answers), 0);
         assert_undamaged(&left);
         Call { image, steps, size, left, answers }
     }
 
     /// The time of all batches. Each must answer 0, and the image and the answers must be the second implementation's.
-    pub fn time(&self, batch: Batch) -> Duration {
+    pub fn time(&self, batch: Batch<W>) -> Duration {
         let mut image = self.image.to_vec();
-        let mut answers = vec![UNTOUCHED; self.answers.len()];
+        let mut answers = vec![untouched(); self.answers.len()];
         let mut result = 0;
         let took = timed(|| {
             if self.steps.is_empty() {
                 result |= batch(&mut image, &[], &mut []);
             }
-            let parts = self.steps.chunks(RECORD_BYTES * self.size).zip(answers.chunks_mut(2 * self.size));
+            let parts = self.steps.chunks(W::RECORD_BYTES * self.size).zip(answers.chunks_mut(2 * self.size));
             for (steps, answers) in parts {
                 result |= batch(&mut image, steps, answers);
             }
@@ -56,14 +58,14 @@ impl<'a> Call<'a> {
     }
 }
 
-pub fn assert_undamaged(image: &[u16]) {
-    assert_eq!((library::judge(image), reference::judge(image)), (0, 0), "the verdict on an image");
+pub fn assert_undamaged<W: Exported>(image: &[W]) {
+    assert_eq!((W::judge(image), reference::judge(image)), (0, 0), "the verdict on an image");
 }
 
-pub type Judge = fn(&[u16]) -> u16;
+pub type Judge<W = u16> = fn(&[W]) -> u16;
 
 /// The time of judging images one after the other, all of them undamaged.
-pub fn judge_all(judge: Judge, images: &[Vec<u16>]) -> Duration {
+pub fn judge_all<W>(judge: Judge<W>, images: &[Vec<W>]) -> Duration {
     let mut verdict = 0;
     let took = timed(|| {
         for image in images {

@@ -15,13 +15,14 @@ mod shows;
 mod stepping;
 mod timing;
 mod trees;
+mod wide;
 mod work;
 
 use timing::Goals;
 
 type Part = fn(&mut Goals);
 
-const PARTS: [(&str, Part); 13] = [
+const PARTS: [(&str, Part); 14] = [
     ("judge", judging::judging),
     ("growth", judging::growing),
     ("fresh", judging::making),
@@ -32,6 +33,7 @@ const PARTS: [(&str, Part); 13] = [
     ("new", placing::placing),
     ("due", dues::dues),
     ("undirty", stepping::wiping),
+    ("wide", wide::wide),
     ("pauses", pauses::pauses),
     ("show", |_| halts::longest()),
     ("trees", trees::trees),

@@ -1,7 +1,7 @@
 //! Shows for the timings of a finish, of due and of new, laid directly in an image with no cycle.
 
 use reference::image::Store;
-use reference::layout::length;
+use reference::layout::{length, Places};
 use reference::random::Random;
 
 use crate::calls::assert_undamaged;

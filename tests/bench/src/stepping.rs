@@ -1,5 +1,7 @@
 //! Timings of batches: the steps of a show, a finish, and undirty.
 
+use library::Exported;
+
 use crate::calls::{Batch, Call};
 use crate::timing::{in_turn, Goals, NOT_SLOWER};
 use crate::work::{self, BEGIN, FINISH};
@@ -24,7 +26,7 @@ pub fn stepping(goals: &mut Goals) {
 
 /// Some steps alone, by each and on each image: the time of a batch of them less that of an empty batch, which judges the image too.
 /// All run in turn.
-pub fn alone<const N: usize>(rounds: usize, steps: &[u8], runs: [(Batch, &[u16]); N]) -> [f64; N] {
+pub fn alone<W: Exported, const N: usize>(rounds: usize, steps: &[u8], runs: [(Batch<W>, &[W]); N]) -> [f64; N] {
     let calls = runs.map(|(batch, image)| (batch, Call::new(image, steps), Call::new(image, &[])));
     let mut least = [[f64::MAX; 2]; N];
     for _ in 0..rounds {

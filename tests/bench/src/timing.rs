@@ -14,11 +14,16 @@ pub type Work<'a> = &'a mut dyn FnMut() -> Duration;
 
 /// The shortest timing of each work, in nanoseconds: what it takes when nothing else runs. The works run in turn, eight times
 /// each, so that a slow moment of the machine falls on all of them.
-pub fn in_turn<const N: usize>(rounds: usize, mut works: [Work; N]) -> [f64; N] {
+pub fn in_turn<const N: usize>(rounds: usize, works: [Work; N]) -> [f64; N] {
+    in_turn_by(rounds, 8, works)
+}
+
+/// The same with so many timings in a row, for works that take long.
+pub fn in_turn_by<const N: usize>(rounds: usize, times: usize, mut works: [Work; N]) -> [f64; N] {
     let mut least = [f64::MAX; N];
     for _ in 0..rounds {
         for (work, least) in works.iter_mut().zip(&mut least) {
-            for _ in 0..8 {
+            for _ in 0..times {
                 *least = least.min(work().as_nanos() as f64);
             }
         }
@@ -27,8 +32,8 @@ pub fn in_turn<const N: usize>(rounds: usize, mut works: [Work; N]) -> [f64; N] 
 }
 
 /// One plain pass that adds up the words.
-pub fn pass(image: &[u16]) {
-    black_box(black_box(image).iter().map(|&word| u64::from(word)).sum::<u64>());
+pub fn pass<W: Copy + Into<u64>>(image: &[W]) {
+    black_box(black_box(image).iter().map(|&word| word.into()).sum::<u64>());
 }
 
 /// What a plain pass over an image takes, in nanoseconds: it tells how fast the machine is.

@@ -1,42 +1,43 @@
 //! Images and lists for the timings, made by the second implementation.
 
 use reference::generate::{list, Pace};
-use reference::image::{Image, Store};
+use reference::image::{Image, StoreOf};
 use reference::layout::{card_of, LARGEST_OBJECT, REGISTERS};
 use reference::made::fresh_image;
 use reference::random::Random;
 use reference::record::*;
 use reference::steps::step;
+use reference::width::Width;
 
 pub const BEGIN: [u8; 8] = [9, 0, 0, 0, 0, 0, 0, 0];
 pub const FINISH: [u8; 8] = [13, 0, 0, 0, 0, 0, 0, 0];
 
 /// The image that some steps leave.
-pub fn after(image: &[u16], steps: &[u8]) -> Vec<u16> {
+pub fn after<W: Width>(image: &[W], steps: &[u8]) -> Vec<W> {
     let mut image = image.to_vec();
-    let mut answers = vec![0; steps.len() / 4];
+    let mut answers = vec![W::default(); steps.len() / W::RECORD_BYTES * 2];
     assert_eq!(reference::batch(&mut image, steps, &mut answers), 0);
     image
 }
 
 /// A store filled with objects of 16 granules with 8 links each, no cycle, every one in a chain from a register.
-pub fn compact(k: usize) -> Vec<u16> {
+pub fn compact<W: Width>(k: usize) -> Vec<W> {
     chain(k, 16, 8)
 }
 
 /// A store filled with cues of 4 granules with 2 links each, all in one chain from a register.
-pub fn compact_show(k: usize) -> Vec<u16> {
+pub fn compact_show<W: Width>(k: usize) -> Vec<W> {
     chain(k, 4, 2)
 }
 
 /// Objects of `size` granules and `links` links until there is no more room: each new one is linked from the one before, and
 /// every fourth is let go.
-fn chain(k: usize, size: u16, links: u16) -> Vec<u16> {
+fn chain<W: Width>(k: usize, size: usize, links: usize) -> Vec<W> {
     let mut steps = Vec::new();
-    let mut add = |kind, a, b, c| steps.extend(Record::new(kind, 0, a, b, c).to_bytes());
+    let mut add = |kind, a, b, c| steps.extend(RecordOf::<W>::of(kind, 0, a, b, c).to_bytes());
     add(1, 0, size, links);
     add(5, 0, 0, 1);
-    for n in 1..64 * k / usize::from(size) - 1 {
+    for n in 1..64 * k / size - 1 {
         // r1 holds the last object of the chain, r2 the new one.
         add(1, 2, size, links);
         if n % 4 != 0 {
@@ -51,28 +52,25 @@ fn chain(k: usize, size: u16, links: u16) -> Vec<u16> {
 
 /// The tracers' steps that are accepted from a begin to the end of marking: every player scanned, then traced, and cleaned where
 /// nothing is left to trace, until neither finds anything to do.
-pub fn marking(begun: &[u16]) -> Vec<u8> {
+pub fn marking<W: Width>(begun: &[W]) -> Vec<u8> {
     let mut image = begun.to_vec();
-    let mut store = Store::of(&mut image).expect("a fitting length");
+    let mut store = StoreOf::of(&mut image).expect("a fitting length");
     let mut accepted = Vec::new();
-    let mut does = |record: Record| {
-        let is_accepted = step(&mut store, record) == (0, 0);
+    let mut does = |record: RecordOf<W>| {
+        let is_accepted = step(&mut store, record) == (W::default(), W::default());
         accepted.extend(record.to_bytes().iter().filter(|_| is_accepted));
         is_accepted
     };
-    (0..16).for_each(|player| assert!(does(Record::new(SCAN, 0, player, 0, 0))));
-    while does(Record::new(TRACE, 0, 0, 0, 0)) || does(Record::new(CLEAN, 0, 0, 0, 0)) {}
+    (0..16).for_each(|player| assert!(does(RecordOf::of(SCAN, 0, player, 0, 0))));
+    while does(RecordOf::of(TRACE, 0, 0, 0, 0)) || does(RecordOf::of(CLEAN, 0, 0, 0, 0)) {}
     accepted
 }
 
 /// The middle of a cycle: one player scanned and a tracer's steps run, as many as there are cues.
-pub fn half_marked(k: usize) -> Vec<u16> {
+pub fn half_marked<W: Width>(k: usize) -> Vec<W> {
     let show = compact_show(k);
-    let mut steps: Vec<u8> = Record::new(9, 0, 0, 0, 0).to_bytes().to_vec();
-    steps.extend(Record::new(10, 0, 0, 0, 0).to_bytes());
-    for _ in 0..16 * k {
-        steps.extend(Record::new(11, 0, 0, 0, 0).to_bytes());
-    }
+    let record = |kind| RecordOf::<W>::of(kind, 0, 0, 0, 0).to_bytes();
+    let steps = [record(9), record(10), record(11).repeat(16 * k)].concat();
     after(&show, &steps)
 }
 

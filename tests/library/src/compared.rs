@@ -1,13 +1,15 @@
-//! A call of `batch` by the proved library and by the second implementation, and what such calls have shown.
+//! A call by the proved library and by the second implementation, and what such calls have shown.
 
 use reference::demand::{found_no_packet, Wiped};
-use reference::image::Image;
-use reference::record::{records, DUE, RECORD_BYTES, UNDIRTY};
-use reference::vectors::UNTOUCHED;
+use reference::image::ImageOf;
+use reference::record::{records_of, DUE, UNDIRTY};
+use reference::vectors::untouched;
+use reference::width::Width;
 
 use crate::guarded::Guarded;
+use crate::Exported;
 
-const GUARD: u16 = 0xa55a;
+const GUARD: usize = 0xa55a;
 const BYTE_GUARD: u8 = 0x77;
 
 /// What a run has shown: steps, accepted ones by kind, dues that said 1, steps of no kind, numbers, those of undirty steps, refused
@@ -26,15 +28,16 @@ pub struct Seen {
 }
 
 impl Seen {
-    fn count(&mut self, steps: &[u8], answers: &[u16]) {
-        for (record, answer) in records(steps).zip(answers.chunks(2)) {
+    fn count<W: Width>(&mut self, steps: &[u8], answers: &[W]) {
+        for (record, answer) in records_of::<W>(steps).zip(answers.chunks(2)) {
+            let (number, value) = (answer[0].number(), answer[1].number());
             self.steps += 1;
             self.unknown_kinds += usize::from(!(1..=15).contains(&record.kind));
-            self.numbers[usize::from(answer[0])] += 1;
-            self.undirty_numbers[usize::from(answer[0])] += usize::from(record.kind == UNDIRTY);
-            if answer[0] == 0 {
+            self.numbers[number] += 1;
+            self.undirty_numbers[number] += usize::from(record.kind == UNDIRTY);
+            if number == 0 {
                 self.accepted[usize::from(record.kind)] += 1;
-                self.due += usize::from(record.kind == DUE && answer[1] == 1);
+                self.due += usize::from(record.kind == DUE && value == 1);
             }
         }
     }
@@ -52,13 +55,18 @@ impl Seen {
     }
 }
 
-/// One call of both: same result, image and answers, and nothing else touched. Gives the answers, none if the batch was refused.
+/// One call of both of the narrow store.
 pub fn same(image: &mut [u16], steps: &[u8], answer_words: usize, seen: &mut Seen) -> Vec<u16> {
-    let answers = vec![UNTOUCHED; answer_words];
-    let mut lent = Guarded::new(image, GUARD);
+    same_of(image, steps, answer_words, seen)
+}
+
+/// One call of both: same result, image and answers, and nothing else touched. Gives the answers, none if the batch was refused.
+pub fn same_of<W: Exported>(image: &mut [W], steps: &[u8], answer_words: usize, seen: &mut Seen) -> Vec<W> {
+    let answers = vec![untouched(); answer_words];
+    let mut lent = Guarded::new(image, W::of(GUARD));
     let lent_steps = Guarded::new(steps, BYTE_GUARD);
-    let mut lent_answers = Guarded::new(&answers, GUARD);
-    let result = crate::batch(lent.items_mut(), lent_steps.items(), lent_answers.items_mut());
+    let mut lent_answers = Guarded::new(&answers, W::of(GUARD));
+    let result = W::batch(lent.items_mut(), lent_steps.items(), lent_answers.items_mut());
 
     let got = image.to_vec();
     let mut others = answers;
@@ -74,10 +82,42 @@ pub fn same(image: &mut [u16], steps: &[u8], answer_words: usize, seen: &mut See
         return Vec::new();
     }
     seen.count(steps, &others);
-    if steps.len() == RECORD_BYTES && others[0] == 0 {
-        let (got, left) = (Image::of(&got).unwrap(), Image::of(image).unwrap());
+    if steps.len() == W::RECORD_BYTES && others[0] == W::default() {
+        let (got, left) = (ImageOf::of(&got).unwrap(), ImageOf::of(image).unwrap());
         seen.without_packet += usize::from(found_no_packet(steps, got, left));
         seen.wiped.count(steps, got);
     }
     others
+}
+
+/// How often each verdict was given.
+#[derive(Debug, Default)]
+pub struct Verdicts {
+    pub of: [usize; 3],
+}
+
+impl Verdicts {
+    /// Both implementations say the same, and nothing is written. Gives what they say.
+    pub fn same<W: Exported>(&mut self, image: &[W]) -> u16 {
+        let lent = Guarded::new(image, W::of(GUARD));
+        let said = W::judge(lent.items());
+        assert_eq!(said, reference::judge(image), "{} words", image.len());
+        assert!(lent.guards_stand() && lent.items() == image, "judge wrote into {} words", image.len());
+        self.of[usize::from(said)] += 1;
+        said
+    }
+
+    pub fn sum(&self) -> usize {
+        self.of.iter().sum()
+    }
+}
+
+/// Both make the same store of these words, or leave them alone. Gives the result.
+pub fn same_fresh<W: Exported>(words: &[W]) -> u16 {
+    let mut lent = Guarded::new(words, W::of(GUARD));
+    let mut other = words.to_vec();
+    let result = W::fresh(lent.items_mut());
+    assert_eq!(result, reference::fresh(&mut other), "{} words", words.len());
+    assert!(lent.guards_stand() && lent.items() == other, "{} words", words.len());
+    result
 }

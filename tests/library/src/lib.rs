@@ -2,6 +2,9 @@
 
 pub mod compared;
 pub mod guarded;
+pub mod wide;
+
+use reference::width::Width;
 
 mod exported {
     extern "C" {
@@ -71,5 +74,43 @@ pub fn judge_report(first: &[u16], second: &[u16], report: &[u8], scratch: &mut 
             scratch.as_mut_ptr(),
             scratch.len(),
         )
+    }
+}
+
+/// The store of such words, as the library exports it.
+pub trait Exported: Width {
+    fn fresh(image: &mut [Self]) -> u16;
+    fn judge(image: &[Self]) -> u16;
+    fn batch(image: &mut [Self], steps: &[u8], answers: &mut [Self]) -> u16;
+}
+
+impl Exported for u16 {
+    fn fresh(image: &mut [u16]) -> u16 {
+        fresh(image)
+    }
+
+    fn judge(image: &[u16]) -> u16 {
+        judge(image)
+    }
+
+    fn batch(image: &mut [u16], steps: &[u8], answers: &mut [u16]) -> u16 {
+        batch(image, steps, answers)
+    }
+}
+
+impl Exported for u32 {
+    #[inline]
+    fn fresh(image: &mut [u32]) -> u16 {
+        wide::fresh(image)
+    }
+
+    #[inline]
+    fn judge(image: &[u32]) -> u16 {
+        wide::judge(image)
+    }
+
+    #[inline]
+    fn batch(image: &mut [u32], steps: &[u8], answers: &mut [u32]) -> u16 {
+        wide::batch(image, steps, answers)
     }
 }

@@ -2,36 +2,12 @@
 
 use std::ops::Range;
 
-use library::guarded::Guarded;
+use library::compared::{same_fresh, Verdicts};
 use reference::generate::{miscount, spoil};
 use reference::image::Store;
-use reference::layout::Layout;
+use reference::layout::{Layout, Places};
 use reference::made::{bare, fresh_image, idle, loose, running, starved, uncovered_image, STARVED_CARDS};
 use reference::random::Random;
-
-const GUARD: u16 = 0xa55a;
-
-/// How often each verdict was given.
-#[derive(Default)]
-struct Verdicts {
-    of: [usize; 3],
-}
-
-impl Verdicts {
-    /// Both implementations say the same, and nothing is written. Gives what they say.
-    fn same(&mut self, image: &[u16]) -> u16 {
-        let lent = Guarded::new(image, GUARD);
-        let said = library::judge(lent.items());
-        assert_eq!(said, reference::judge(image), "{} words", image.len());
-        assert!(lent.guards_stand() && lent.items() == image, "judge wrote into {} words", image.len());
-        self.of[usize::from(said)] += 1;
-        said
-    }
-
-    fn sum(&self) -> usize {
-        self.of.iter().sum()
-    }
-}
 
 fn image(random: &mut Random, k: usize) -> Vec<u16> {
     match random.below(7) {
@@ -55,7 +31,7 @@ fn made_and_spoiled_images() {
         verdicts.same(&words);
     }
     for _ in 0..50 {
-        verdicts.same(&starved(&mut random, STARVED_CARDS));
+        verdicts.same(&starved::<u16>(&mut random, STARVED_CARDS));
     }
     assert!(verdicts.sum() > 80_000 && verdicts.of[0] > 20_000 && verdicts.of[2] > 20_000);
 }
@@ -148,15 +124,15 @@ fn random_words_in_each_part() {
 fn every_length() {
     let mut verdicts = Verdicts::default();
     for length in 0..=3_000 {
-        verdicts.same(&vec![0; length]);
+        verdicts.same(&vec![0u16; length]);
     }
     for k in 1..=513 {
         let length = reference::length(k);
         for near in [length - 1, length, length + 1] {
-            verdicts.same(&vec![0; near]);
+            verdicts.same(&vec![0u16; near]);
         }
         if k <= 512 {
-            verdicts.same(&fresh_image(k));
+            verdicts.same(&fresh_image::<u16>(k));
         }
     }
     // Lengths that fit are 512 from 1 to 512 cards, all zero and damaged; 6 of them are among the first 3,001 too.
@@ -207,13 +183,13 @@ fn large_images() {
     let mut verdicts = Verdicts::default();
     for k in [16, 64, 200, 511, 512] {
         for _ in 0..4 {
-            let mut words = running(&mut random, k);
+            let mut words: Vec<u16> = running(&mut random, k);
             verdicts.same(&words);
             spoil(&mut random, &mut words);
             verdicts.same(&words);
-            verdicts.same(&idle(&mut random, k));
+            verdicts.same(&idle::<u16>(&mut random, k));
         }
-        let mut words = running(&mut random, k);
+        let mut words: Vec<u16> = running(&mut random, k);
         miscount(&mut random, &mut words);
         assert_eq!(verdicts.same(&words), 2, "a wrong count, {k} cards");
     }
@@ -228,12 +204,7 @@ fn fresh_stores() {
         (0..=3_000).chain((1..=513).flat_map(|k| [-1, 0, 1].map(|d| (reference::length(k) as isize + d) as usize)));
     for length in lengths {
         let words: Vec<u16> = (0..length).map(|_| random.word()).collect();
-        let mut lent = Guarded::new(&words, GUARD);
-        let mut other = words.clone();
-        let result = library::fresh(lent.items_mut());
-        made += usize::from(result == 0);
-        assert_eq!(result, reference::fresh(&mut other), "{length} words");
-        assert!(lent.guards_stand() && lent.items() == other, "{length} words");
+        made += usize::from(same_fresh(&words) == 0);
     }
     assert!(made >= 512, "{made}");
 }

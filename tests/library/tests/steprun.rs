@@ -82,7 +82,7 @@ fn random_lists() {
     for _ in 0..60 {
         let pace = Pace::draw(&mut random);
         let count = random.from_to(1, MOST_BYTES / 8);
-        let steps = list(&mut random, &mut fresh_image(CARDS), count, pace);
+        let steps = list(&mut random, &mut fresh_image::<u16>(CARDS), count, pace);
         same(&steps);
         numbers.extend(lines(&steps).lines().filter_map(number));
     }

@@ -75,8 +75,8 @@ fn compare(
     compared: &mut Compared,
 ) -> Result<(), String> {
     let bytes = &lowest.bytes;
-    let first = by_lowest.value(bytes, place, lowest.number, lowest.value)?;
-    let second = by_tightest.value(bytes, place, tightest.number, tightest.value)?;
+    let first = by_lowest.value(bytes[0], place, lowest.number.into(), lowest.value.into())?;
+    let second = by_tightest.value(bytes[0], place, tightest.number.into(), tightest.value.into())?;
     if (lowest.number, first) != (tightest.number, second) {
         return Err(format!("{} {first:?} under the lowest, {} {second:?}", lowest.number, tightest.number));
     }

@@ -3,7 +3,7 @@
 use crate::dragging::short_cycle;
 use crate::finish::finish;
 use crate::generate::{damage, list, list_with_dues, list_with_gaps, list_with_wiping};
-use crate::generate::{miscount, misfit, spoil, wrong_rooms, Pace};
+use crate::generate::{miscount, misfit_of, spoil, wrong_rooms, Pace};
 use crate::image::Image;
 use crate::judge::cover;
 use crate::layout::{PLAYERS, TRACERS};
@@ -12,7 +12,8 @@ use crate::map::{map_bytes, service_map};
 use crate::random::Random;
 use crate::record::{Record, RECORD_BYTES, SCAN};
 use crate::steps::{batch, batch_by, Placing};
-use crate::vectors::{BatchCase, Case, FinishCase, MapCase, UNTOUCHED, UNTOUCHED_BYTE};
+use crate::vectors::{untouched, BatchCase, Case, FinishCase, MapCase, UNTOUCHED_BYTE};
+use crate::width::Width;
 
 /// Sets the seed of the cycles apart from that of the other cases.
 const CYCLES: u64 = 0xc1c1e5;
@@ -43,21 +44,24 @@ fn finish_case(random: &mut Random, number: u64) -> Case {
 
 fn batch_case(random: &mut Random, number: u64) -> Case {
     let (what, image, steps, answers) = call(random);
-    let name = format!("{number} {what}");
-    let case = BatchCase { name, image, steps, answers, result: 0, left: Vec::new(), given: Vec::new() };
-    Case::Batch(by(Placing::Tightest, &case))
+    Case::Batch(batch_case_of(format!("{number} {what}"), image, steps, answers))
+}
+
+/// A call with what this implementation does on it.
+pub(crate) fn batch_case_of<W: Width>(name: String, image: Vec<W>, steps: Vec<u8>, answers: usize) -> BatchCase<W> {
+    by(Placing::Tightest, &BatchCase { name, image, steps, answers, result: 0, left: Vec::new(), given: Vec::new() })
 }
 
 /// The case with what this implementation does on it under that rule of placing.
-pub fn by(placing: Placing, case: &BatchCase) -> BatchCase {
+pub fn by<W: Width>(placing: Placing, case: &BatchCase<W>) -> BatchCase<W> {
     let mut left = case.image.clone();
-    let mut given = vec![UNTOUCHED; case.answers];
+    let mut given = vec![untouched(); case.answers];
     let result = batch_by(placing, &mut left, &case.steps, &mut given);
     BatchCase { result, left, given, ..case.clone() }
 }
 
 /// The case by the lowest run, if it comes to other answers or another image so.
-pub fn otherwise_by_lowest(case: &BatchCase) -> Option<BatchCase> {
+pub fn otherwise_by_lowest<W: Width>(case: &BatchCase<W>) -> Option<BatchCase<W>> {
     let [lowest, tightest] = [Placing::Lowest, Placing::Tightest].map(|placing| by(placing, case));
     (lowest != tightest).then_some(lowest)
 }
@@ -83,7 +87,7 @@ fn call(random: &mut Random) -> (&'static str, Vec<u16>, Vec<u8>, usize) {
     // The list is drawn for the sound image, whatever happens to the image or the lengths then.
     let steps = steps(random, what, &mut image.clone());
     let words = steps.len() / RECORD_BYTES * 2;
-    let (steps, answers) = if what == "misfit" { misfit(random, &steps) } else { (steps, words) };
+    let (steps, answers) = if what == "misfit" { misfit_of::<u16>(random, &steps) } else { (steps, words) };
     match what {
         "spoiled" => spoil(random, &mut image),
         "miscounted" => miscount(random, &mut image),
@@ -137,7 +141,7 @@ fn scans(random: &mut Random, image: &mut [u16]) -> Vec<u8> {
 }
 
 /// A fresh store after some steps.
-pub fn evolved(random: &mut Random, k: usize) -> Vec<u16> {
+pub fn evolved<W: Width>(random: &mut Random, k: usize) -> Vec<W> {
     let mut image = fresh_image(k);
     let count = random.from_to(10, 400);
     let pace = Pace::draw(random);
@@ -145,9 +149,10 @@ pub fn evolved(random: &mut Random, k: usize) -> Vec<u16> {
     image
 }
 
-pub(crate) fn change_length(random: &mut Random, image: &mut Vec<u16>) {
-    let length = random.pick(&[0, 1, 264, 1383, 1384, 1648, image.len() - 1, image.len() + 1, 1649, 1651]);
-    image.resize(length.unwrap_or(0), 0);
+pub(crate) fn change_length<W: Width>(random: &mut Random, image: &mut Vec<W>) {
+    let (length, shortest) = (image.len(), W::length(1));
+    let others = [0, 1, 264, 1383, 1384, shortest - 2, length - 1, length + 1, shortest - 1, shortest + 1];
+    image.resize(random.pick(&others).unwrap_or(0), W::default());
 }
 
 /// Batches of a whole cycle each, on one card. They have a generator of their own: the other cases of a seed do not hang on them.
@@ -157,9 +162,7 @@ pub fn cycles(seed: u64, count: u64) -> impl Iterator<Item = BatchCase> {
         let image = idle(&mut random, 1);
         let steps = short_cycle(&mut random, &image);
         let answers = steps.len() / RECORD_BYTES * 2;
-        let name = format!("{number} cycle");
-        let case = BatchCase { name, image, steps, answers, result: 0, left: Vec::new(), given: Vec::new() };
-        by(Placing::Tightest, &case)
+        batch_case_of(format!("{number} cycle"), image, steps, answers)
     })
 }
 

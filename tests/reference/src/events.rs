@@ -1,6 +1,7 @@
 //! Lists of batches, and what such a list comes to under an implementation of `batch`. Records are kept as their bytes.
 
-use crate::plain::record::{NEW, RECORD_BYTES};
+use crate::plain::record::NEW;
+use crate::record::RECORD_BYTES;
 use crate::vectors::UNTOUCHED;
 
 pub(crate) const NO_ROOM: u16 = 9;

@@ -1,23 +1,23 @@
 //! The finish: what it keeps, the sweep, and the end of the cycle.
 
-use crate::image::{Image, Store};
-use crate::layout::{card_of, PLAYERS};
+use crate::image::{ImageOf, StoreOf};
+use crate::width::{Places, Width};
 
 /// The finish alone, on an image in a cycle that is undamaged but for Cover: its value.
-pub fn finish(image: &mut [u16]) -> u16 {
-    let mut store = Store::of(image).expect("an image of fitting length");
+pub fn finish<W: Width>(image: &mut [W]) -> W {
+    let mut store = StoreOf::of(image).expect("an image of fitting length");
     finish_store(&mut store)
 }
 
-pub fn finish_store(store: &mut Store) -> u16 {
+pub fn finish_store<W: Width>(store: &mut StoreOf<W>) -> W {
     let kept = kept(store.image());
     let freed = sweep(store, &kept);
     end_cycle(store);
-    freed as u16
+    W::of(freed)
 }
 
 /// By granule, whether an object that starts there is kept: "all marked objects and all that it finds".
-fn kept(image: Image) -> Vec<bool> {
+fn kept<W: Width>(image: ImageOf<W>) -> Vec<bool> {
     let mut kept: Vec<bool> = (0..image.granules()).map(|g| image.is_marked(g)).collect();
     let mut found: Vec<usize> = image.registers().collect();
     for g in marked_with_links_due(image) {
@@ -33,23 +33,23 @@ fn kept(image: Image) -> Vec<bool> {
     kept
 }
 
-fn links(image: Image<'_>, g: usize) -> impl Iterator<Item = usize> + '_ {
-    image.object(g).links.iter().map(|&link| usize::from(link))
+fn links<W: Width>(image: ImageOf<'_, W>, g: usize) -> impl Iterator<Item = usize> + '_ {
+    image.object(g).links.iter().map(|&link| link.number())
 }
 
 /// The marked objects that are "entered, in hand, on a dirty card or on a card in hand". The rule
 /// names objects: all their links are followed, also those before the next link or next granule.
-fn marked_with_links_due(image: Image) -> Vec<usize> {
+fn marked_with_links_due<W: Width>(image: ImageOf<W>) -> Vec<usize> {
     let mut due = vec![false; image.granules()];
     image.entered().for_each(|g| due[g] = true);
     image.tracers().filter_map(|t| t.hand).for_each(|(g, _)| due[g] = true);
     let mut card_due: Vec<bool> = (0..image.cards()).map(|c| image.is_dirty(c)).collect();
     image.tracers().filter_map(|t| t.card).for_each(|(c, _)| card_due[c] = true);
-    image.starts().filter(|&g| image.is_marked(g) && (due[g] || card_due[card_of(g)])).collect()
+    image.starts().filter(|&g| image.is_marked(g) && (due[g] || card_due[W::card_of(g)])).collect()
 }
 
 /// Frees what is not kept and lays the runs anew; the granules freed.
-fn sweep(store: &mut Store, kept: &[bool]) -> usize {
+fn sweep<W: Width>(store: &mut StoreOf<W>, kept: &[bool]) -> usize {
     let layout = store.layout;
     let objects: Vec<(usize, usize)> = store.image().objects().map(|o| (o.start, o.size)).collect();
     let mut freed = 0;
@@ -80,7 +80,7 @@ fn gaps(used: &[(usize, usize)], granules: usize) -> Vec<(usize, usize)> {
     gaps
 }
 
-fn lay_runs(store: &mut Store, runs: &[(usize, usize)]) {
+fn lay_runs<W: Width>(store: &mut StoreOf<W>, runs: &[(usize, usize)]) {
     let mut next = 0;
     for &(g, length) in runs.iter().rev() {
         store.set_run(g, length, next);
@@ -91,11 +91,11 @@ fn lay_runs(store: &mut Store, runs: &[(usize, usize)]) {
 
 /// "Cards, marks, packets, tracers, scanned and running become 0; owed cards stay." With the marks the counts, which lie behind the
 /// cards, become 0.
-fn end_cycle(store: &mut Store) {
+fn end_cycle<W: Width>(store: &mut StoreOf<W>) {
     let layout = store.layout;
     store.zero(layout.mark_bits(), layout.register(0, 0));
     store.zero(layout.packet(0), layout.player(0));
-    for p in 0..PLAYERS {
+    for p in 0..W::PLAYERS {
         store.set_scanned(p, false);
     }
     store.set_running(false);

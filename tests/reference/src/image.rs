@@ -1,21 +1,24 @@
-//! Reading and writing the parts of an image of fitting length.
+//! Reading and writing the parts of an image of fitting length, of either width.
 
-use crate::layout::{card_of, Layout, CARD_GRANULES, ENTRIES, GRANULE_WORDS, PACKETS, PLAYERS, REGISTERS, TRACERS};
+use crate::width::{Places, Width};
 
 /// An image to read. Nothing is promised of its words.
 #[derive(Clone, Copy)]
-pub struct Image<'a> {
-    pub words: &'a [u16],
-    pub layout: Layout,
+pub struct ImageOf<'a, W: Width> {
+    pub words: &'a [W],
+    pub layout: W::Layout,
 }
+
+/// An image of the narrow store.
+pub type Image<'a> = ImageOf<'a, u16>;
 
 /// An object of an image whose heap is sound.
 #[derive(Clone, Copy, Debug, PartialEq, Eq)]
-pub struct Object<'a> {
+pub struct Object<'a, W = u16> {
     pub start: usize,
     pub size: usize,
-    pub links: &'a [u16],
-    pub levels: &'a [u16],
+    pub links: &'a [W],
+    pub levels: &'a [W],
 }
 
 /// What a tracer holds.
@@ -29,13 +32,13 @@ pub struct Tracer {
     pub card: Option<(usize, usize)>,
 }
 
-impl<'a> Image<'a> {
-    pub fn of(words: &'a [u16]) -> Option<Image<'a>> {
-        Layout::of_length(words.len()).map(|layout| Image { words, layout })
+impl<'a, W: Width> ImageOf<'a, W> {
+    pub fn of(words: &'a [W]) -> Option<ImageOf<'a, W>> {
+        W::Layout::of_length(words.len()).map(|layout| ImageOf { words, layout })
     }
 
     pub fn word(self, at: usize) -> usize {
-        usize::from(self.words[at])
+        self.words[at].number()
     }
 
     pub fn granules(self) -> usize {
@@ -43,12 +46,12 @@ impl<'a> Image<'a> {
     }
 
     pub fn cards(self) -> usize {
-        self.layout.cards
+        self.layout.cards()
     }
 
-    /// "Bit j (worth 2 to the j) of word w stands for granule 16 × w + j."
+    /// "Bit j (worth 2 to the j) of word w stands for granule 16 × w + j", or 32 × w + j.
     fn bit(self, bits: usize, g: usize) -> bool {
-        self.words[bits + g / 16] >> (g % 16) & 1 == 1
+        self.word(bits + g / W::BITS) >> (g % W::BITS) & 1 == 1
     }
 
     pub fn is_start(self, g: usize) -> bool {
@@ -77,11 +80,11 @@ impl<'a> Image<'a> {
     }
 
     pub fn registers_of(self, player: usize) -> impl Iterator<Item = usize> + 'a {
-        (0..REGISTERS).map(move |r| self.register(player, r))
+        (0..W::REGISTERS).map(move |r| self.register(player, r))
     }
 
     pub fn registers(self) -> impl Iterator<Item = usize> + 'a {
-        (0..PLAYERS).flat_map(move |p| self.registers_of(p))
+        (0..W::PLAYERS).flat_map(move |p| self.registers_of(p))
     }
 
     pub fn count(self, packet: usize) -> usize {
@@ -89,18 +92,18 @@ impl<'a> Image<'a> {
     }
 
     /// The 30 entry words; those past the count are no entries.
-    pub fn entry_words(self, packet: usize) -> &'a [u16] {
+    pub fn entry_words(self, packet: usize) -> &'a [W] {
         let first = self.layout.packet(packet) + 2;
-        &self.words[first..first + ENTRIES]
+        &self.words[first..first + W::ENTRIES]
     }
 
-    pub fn entries(self, packet: usize) -> &'a [u16] {
+    pub fn entries(self, packet: usize) -> &'a [W] {
         &self.entry_words(packet)[..self.count(packet)]
     }
 
     /// All entries of all packets; the counts must be sound.
     pub fn entered(self) -> impl Iterator<Item = usize> + 'a {
-        (0..PACKETS).flat_map(move |n| self.entries(n)).map(|&e| usize::from(e))
+        (0..W::PACKETS).flat_map(move |n| self.entries(n)).map(|&e| e.number())
     }
 
     pub fn tracer(self, t: usize) -> Tracer {
@@ -114,7 +117,7 @@ impl<'a> Image<'a> {
     }
 
     pub fn tracers(self) -> impl Iterator<Item = Tracer> + 'a {
-        (0..TRACERS).map(move |t| self.tracer(t))
+        (0..W::TRACERS).map(move |t| self.tracer(t))
     }
 
     pub fn owed_card(self, player: usize) -> Option<usize> {
@@ -134,12 +137,12 @@ impl<'a> Image<'a> {
     }
 
     /// The object at a start of a sound heap.
-    pub fn object(self, start: usize) -> Object<'a> {
+    pub fn object(self, start: usize) -> Object<'a, W> {
         let first = self.layout.granule(start);
         let size = self.word(first);
         let links = first + 2;
         let levels = links + self.word(first + 1);
-        let end = first + GRANULE_WORDS * size;
+        let end = first + W::GRANULE_WORDS * size;
         Object { start, size, links: &self.words[links..levels], levels: &self.words[levels..end] }
     }
 
@@ -147,7 +150,7 @@ impl<'a> Image<'a> {
         (1..self.granules()).filter(move |&g| self.is_start(g))
     }
 
-    pub fn objects(self) -> impl Iterator<Item = Object<'a>> + 'a {
+    pub fn objects(self) -> impl Iterator<Item = Object<'a, W>> + 'a {
         self.starts().map(move |g| self.object(g))
     }
 
@@ -160,32 +163,32 @@ impl<'a> Image<'a> {
 }
 
 /// An image to write.
-pub struct Store<'a> {
-    pub words: &'a mut [u16],
-    pub layout: Layout,
+pub struct StoreOf<'a, W: Width> {
+    pub words: &'a mut [W],
+    pub layout: W::Layout,
 }
 
-fn small(value: usize) -> u16 {
-    u16::try_from(value).expect("a store's numbers fit in a word")
-}
+/// An image of the narrow store to write.
+pub type Store<'a> = StoreOf<'a, u16>;
 
-impl<'a> Store<'a> {
-    pub fn of(words: &'a mut [u16]) -> Option<Store<'a>> {
-        Layout::of_length(words.len()).map(|layout| Store { words, layout })
+impl<'a, W: Width> StoreOf<'a, W> {
+    pub fn of(words: &'a mut [W]) -> Option<StoreOf<'a, W>> {
+        W::Layout::of_length(words.len()).map(|layout| StoreOf { words, layout })
     }
 
-    pub fn image(&self) -> Image<'_> {
-        Image { words: self.words, layout: self.layout }
+    pub fn image(&self) -> ImageOf<'_, W> {
+        ImageOf { words: self.words, layout: self.layout }
     }
 
     pub fn set(&mut self, at: usize, value: usize) {
-        self.words[at] = small(value);
+        self.words[at] = W::of(value);
     }
 
     fn set_bit(&mut self, bits: usize, g: usize, on: bool) {
-        let mask = 1u16 << (g % 16);
-        let word = &mut self.words[bits + g / 16];
-        *word = if on { *word | mask } else { *word & !mask };
+        let mask = 1 << (g % W::BITS);
+        let at = bits + g / W::BITS;
+        let word = self.image().word(at);
+        self.set(at, if on { word | mask } else { word & !mask });
     }
 
     pub fn set_start(&mut self, g: usize, on: bool) {
@@ -200,14 +203,14 @@ impl<'a> Store<'a> {
     pub fn mark(&mut self, g: usize) {
         assert!(!self.image().is_marked(g));
         self.set_mark(g, true);
-        let c = card_of(g);
+        let c = W::card_of(g);
         self.set_card_count(c, self.image().card_count(c) + 1);
     }
 
     /// Makes every count the number of mark bits on its card.
     pub fn count_marks(&mut self) {
-        for c in 0..self.layout.cards {
-            let on_card = CARD_GRANULES * c..CARD_GRANULES * (c + 1);
+        for c in 0..self.layout.cards() {
+            let on_card = W::CARD_GRANULES * c..W::CARD_GRANULES * (c + 1);
             let count = on_card.filter(|&g| self.image().is_marked(g)).count();
             self.set_card_count(c, count);
         }
@@ -243,14 +246,14 @@ impl<'a> Store<'a> {
 
     pub fn append(&mut self, packet: usize, object: usize) {
         let count = self.image().count(packet);
-        assert!(count < ENTRIES);
+        assert!(count < W::ENTRIES);
         self.set(self.layout.packet(packet) + 2 + count, object);
         self.set(self.layout.packet(packet), count + 1);
     }
 
     pub fn pop(&mut self, packet: usize) -> usize {
         let last = self.image().count(packet) - 1;
-        let object = usize::from(self.image().entry_words(packet)[last]);
+        let object = self.image().entry_words(packet)[last].number();
         self.set(self.layout.packet(packet) + 2 + last, 0);
         self.set(self.layout.packet(packet), last);
         object
@@ -297,6 +300,6 @@ impl<'a> Store<'a> {
     }
 
     pub fn zero(&mut self, from: usize, to: usize) {
-        self.words[from..to].fill(0);
+        self.words[from..to].fill(W::default());
     }
 }

@@ -1,4 +1,9 @@
-//! Where the parts of an image lie, and the rule of its length.
+//! Where the parts of an image of the narrow store lie, and the rule of its length.
+
+use crate::random::Random;
+use crate::record::{RecordOf, RECORD_BYTES};
+pub use crate::width::Places;
+use crate::width::Width;
 
 pub const MOST_CARDS: usize = 512;
 pub const CARD_GRANULES: usize = 64;
@@ -9,6 +14,9 @@ pub const REGISTERS: usize = 16;
 pub const PACKETS: usize = 32;
 pub const ENTRIES: usize = 30;
 pub const TRACERS: usize = 8;
+
+/// "Bit j (worth 2 to the j) of word w stands for granule 16 × w + j."
+const BITS: usize = 16;
 
 const PACKET_WORDS: usize = 32;
 const TRACER_WORDS: usize = 8;
@@ -36,59 +44,97 @@ pub struct Layout {
     pub cards: usize,
 }
 
-impl Layout {
-    pub fn of_length(n: usize) -> Option<Layout> {
+impl Places for Layout {
+    fn of_cards(cards: usize) -> Layout {
+        Layout { cards }
+    }
+
+    fn of_length(n: usize) -> Option<Layout> {
         cards_of_length(n).map(|cards| Layout { cards })
     }
 
-    pub fn granules(self) -> usize {
+    fn cards(self) -> usize {
+        self.cards
+    }
+
+    fn granules(self) -> usize {
         CARD_GRANULES * self.cards
     }
 
-    pub fn granule(self, g: usize) -> usize {
+    fn granule(self, g: usize) -> usize {
         GRANULE_WORDS * g
     }
 
-    pub fn start_bits(self) -> usize {
+    fn start_bits(self) -> usize {
         GRANULE_WORDS * self.granules()
     }
 
-    pub fn mark_bits(self) -> usize {
-        self.start_bits() + self.granules() / 16
+    fn mark_bits(self) -> usize {
+        self.start_bits() + self.granules() / BITS
     }
 
-    pub fn card(self, c: usize) -> usize {
-        self.mark_bits() + self.granules() / 16 + c
+    fn card(self, c: usize) -> usize {
+        self.mark_bits() + self.granules() / BITS + c
     }
 
     /// Document 02, (ii): "one word per card with the number of marked objects on it, placed after the card words".
-    pub fn count(self, c: usize) -> usize {
+    fn count(self, c: usize) -> usize {
         self.card(self.cards) + c
     }
 
-    pub fn register(self, player: usize, r: usize) -> usize {
+    fn register(self, player: usize, r: usize) -> usize {
         self.count(self.cards) + REGISTERS * player + r
     }
 
-    pub fn packet(self, n: usize) -> usize {
+    fn packet(self, n: usize) -> usize {
         self.register(PLAYERS, 0) + PACKET_WORDS * n
     }
 
-    pub fn tracer(self, t: usize) -> usize {
+    fn tracer(self, t: usize) -> usize {
         self.packet(PACKETS) + TRACER_WORDS * t
     }
 
-    pub fn player(self, p: usize) -> usize {
+    fn player(self, p: usize) -> usize {
         self.tracer(TRACERS) + PLAYER_WORDS * p
     }
 
-    pub fn general(self) -> usize {
+    fn general(self) -> usize {
         self.player(PLAYERS)
     }
 
-    pub fn length(self) -> usize {
+    fn length(self) -> usize {
         self.general() + GENERAL_WORDS
     }
+}
+
+impl Width for u16 {
+    type Layout = Layout;
+
+    const MOST_CARDS: usize = MOST_CARDS;
+    const CARD_GRANULES: usize = CARD_GRANULES;
+    const GRANULE_WORDS: usize = GRANULE_WORDS;
+    const LARGEST_OBJECT: usize = LARGEST_OBJECT;
+    const PLAYERS: usize = PLAYERS;
+    const REGISTERS: usize = REGISTERS;
+    const PACKETS: usize = PACKETS;
+    const ENTRIES: usize = ENTRIES;
+    const TRACERS: usize = TRACERS;
+    const BITS: usize = BITS;
+    const RECORD_BYTES: usize = RECORD_BYTES;
+
+    fn cut(number: u64) -> u16 {
+        number as u16
+    }
+
+    fn record(bytes: &[u8]) -> RecordOf<u16> {
+        crate::record::of_bytes(bytes)
+    }
+
+    fn bytes(record: RecordOf<u16>) -> Vec<u8> {
+        crate::record::bytes_of(record)
+    }
+
+    fn stray(_: &mut Random, _: usize, _: &mut RecordOf<u16>) {}
 }
 
 #[cfg(test)]

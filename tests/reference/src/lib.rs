@@ -27,6 +27,8 @@ pub mod spoils;
 pub mod steps;
 mod tracing;
 pub mod vectors;
+pub mod wide;
+pub mod width;
 pub mod work;
 
 pub use demand::{players_and_sweeps, whole_list, Counts};

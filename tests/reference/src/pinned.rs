@@ -58,7 +58,7 @@ fn pinned(random: &mut Random, image: &mut [u16], count: usize, pace: Pace) -> V
 }
 
 /// Dues of the usable granules and of one more. They say 0 and 1, and with no other count do they say both.
-fn pins(image: Image) -> [[u8; RECORD_BYTES]; 2] {
+fn pins(image: Image) -> [Vec<u8>; 2] {
     let count = usable_granules(image) as u16;
     [count, count + 1].map(|wanted| Record::new(DUE, 0, wanted, 0, 0).to_bytes())
 }
@@ -112,7 +112,7 @@ fn refused_new(random: &mut Random, image: Image) -> Record {
         0 => Record { kind: random.weighted(&[(1, 0), (1, 16), (1, 17), (1, 129), (1, 255)]), ..right },
         1 => Record { who: off as u8, ..right },
         2 => Record { a: off, ..right },
-        3 | 4 => Record { who: player(random, image, true).unwrap_or(16), ..right },
+        3 | 4 => Record { who: player(random, image, true).unwrap_or(16) as u8, ..right },
         5 => Record { b: 0, c: 0, ..right },
         6 => Record { b: random.weighted(&[(3, 1025), (1, 2048), (1, 65_535)]), ..right },
         7 => Record { c: 4 * right.b - 1, ..right },
@@ -165,7 +165,7 @@ impl Shown {
     pub fn count(&mut self, list: &List) {
         let mut image = list.image.clone();
         let mut store = Store::of(&mut image).expect("a fitting length");
-        let records: Vec<[u8; RECORD_BYTES]> = records(&list.steps).map(Record::to_bytes).collect();
+        let records: Vec<Vec<u8>> = records(&list.steps).map(Record::to_bytes).collect();
         let begins_with_dues = records.starts_with(&pins(store.image()));
         for start in starts_of(store.image(), begins_with_dues) {
             *self.starts.entry(start).or_default() += 1;

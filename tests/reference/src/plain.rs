@@ -4,10 +4,12 @@
 use std::collections::BTreeMap;
 
 pub mod first;
+pub mod form;
 pub mod reading;
 pub mod record;
 
 use first::{First, FirstObject};
+use form::{Fields, Form};
 use record::{read, Act, Place};
 
 /// "An object of the image is known by its granule there, any other by its new's place in the list."
@@ -23,13 +25,13 @@ pub type Reference = Option<Name>;
 #[derive(Clone, Copy, Debug, PartialEq, Eq)]
 pub enum Value {
     Object(Reference),
-    Number(u16),
+    Number(u64),
 }
 
 #[derive(Clone, Debug, PartialEq, Eq)]
 struct PlainObject {
     links: Vec<Reference>,
-    levels: Vec<u16>,
+    levels: Vec<u64>,
 }
 
 #[derive(Clone, Debug, PartialEq, Eq)]
@@ -40,44 +42,44 @@ pub struct Plain {
     owing: [bool; 16],
 }
 
-fn named(word: u16) -> Reference {
-    (word != 0).then_some(Name::Granule(usize::from(word)))
+fn named(word: u64) -> Reference {
+    (word != 0).then_some(Name::Granule(word as usize))
 }
 
 impl Plain {
     /// The plain store that starts as an undamaged image.
-    pub fn of(words: &[u16]) -> Plain {
+    pub fn of<W: Form>(words: &[W]) -> Plain {
         let first = First::of(words);
-        let plain_object = |object: &FirstObject| PlainObject {
-            links: object.links.iter().map(|&word| named(word)).collect(),
-            levels: object.levels.to_vec(),
+        let plain_object = |object: &FirstObject<W>| PlainObject {
+            links: object.links.iter().map(|&word| named(word.into())).collect(),
+            levels: object.levels.iter().map(|&word| word.into()).collect(),
         };
         Plain {
             objects: first.objects().map(|o| (Name::Granule(o.granule), plain_object(&o))).collect(),
-            registers: std::array::from_fn(|p| std::array::from_fn(|r| named(first.register(p, r)))),
+            registers: std::array::from_fn(|p| std::array::from_fn(|r| named(first.register(p, r) as u64))),
             owing: std::array::from_fn(|p| first.owes(p)),
         }
     }
 
     /// A player's step at its place in the list: number and value.
-    pub fn step(&mut self, bytes: &[u8], place: usize) -> (u16, Value) {
-        match self.admitted(bytes) {
+    pub fn step(&mut self, fields: Fields, place: usize) -> (u16, Value) {
+        match self.admitted(fields) {
             Ok((player, act)) => (0, self.act(player, act, place)),
             Err(number) => (number, Value::Number(0)),
         }
     }
 
     /// The granules that a record needs, if it is a new that no number but 9 could refuse.
-    pub fn room_wanted(&self, bytes: &[u8]) -> Option<usize> {
-        match self.admitted(bytes) {
+    pub fn room_wanted(&self, fields: Fields) -> Option<usize> {
+        match self.admitted(fields) {
             Ok((_, Act::New { granules, .. })) => Some(granules),
             _ => None,
         }
     }
 
     /// "A step that numbers 3 to 8 or 11 refuse, read on this state, gets the lowest".
-    fn admitted(&self, bytes: &[u8]) -> Result<(usize, Act), u16> {
-        let (player, act) = read(bytes)?;
+    fn admitted(&self, fields: Fields) -> Result<(usize, Act), u16> {
+        let (player, act) = read(fields)?;
         if self.is_owing(player, act) {
             return Err(5);
         }

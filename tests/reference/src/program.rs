@@ -18,7 +18,7 @@ pub fn lines_by(placing: Placing, steps: &[u8]) -> String {
     if steps.len() > MOST_BYTES || !steps.len().is_multiple_of(RECORD_BYTES) {
         return "misfit\n".to_string();
     }
-    let mut answers = vec![0; steps.len() / RECORD_BYTES * 2];
+    let mut answers = vec![0u16; steps.len() / RECORD_BYTES * 2];
     assert_eq!(batch_by(placing, &mut fresh_image(CARDS), steps, &mut answers), 0);
     let answers = answers.chunks(2).zip(records(steps)).enumerate();
     answers.map(|(i, (answer, record))| format!("{} {} {} {}\n", i + 1, record.kind, answer[0], answer[1])).collect()

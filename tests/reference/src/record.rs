@@ -1,6 +1,6 @@
-//! Records of 8 bytes, and the refusals that a record alone decides.
+//! Records, the narrow store's of 8 bytes among them, and the refusals that a record alone decides.
 
-use crate::layout::{GRANULE_WORDS, LARGEST_OBJECT, PLAYERS, REGISTERS, TRACERS};
+use crate::width::Width;
 
 pub const RECORD_BYTES: usize = 8;
 
@@ -20,37 +20,59 @@ pub const FINISH: u8 = 13;
 pub const DUE: u8 = 14;
 pub const UNDIRTY: u8 = 15;
 
+/// A record whose fields are words of the store.
 #[derive(Clone, Copy, Debug, PartialEq, Eq)]
-pub struct Record {
+pub struct RecordOf<W> {
     pub kind: u8,
     /// The second byte: the player of kinds 1 to 8, the tracer of 10 to 12.
     pub who: u8,
-    pub a: u16,
-    pub b: u16,
-    pub c: u16,
+    /// The zero bytes of a wide record, "two zero bytes" behind the second. A narrow record has none.
+    pub zeros: [u8; 2],
+    pub a: W,
+    pub b: W,
+    pub c: W,
 }
+
+/// A record of the narrow store.
+pub type Record = RecordOf<u16>;
 
 /// The records of step bytes whose number is a multiple of 8.
 pub fn records(steps: &[u8]) -> impl Iterator<Item = Record> + '_ {
-    steps.chunks_exact(RECORD_BYTES).map(Record::from_bytes)
+    records_of(steps)
 }
 
-impl Record {
-    pub fn new(kind: u8, who: u8, a: u16, b: u16, c: u16) -> Record {
-        Record { kind, who, a, b, c }
+/// The records of step bytes that have no part record.
+pub fn records_of<W: Width>(steps: &[u8]) -> impl Iterator<Item = RecordOf<W>> + '_ {
+    steps.chunks_exact(W::RECORD_BYTES).map(W::record)
+}
+
+/// "kind, player or tracer, then a, b, c, 16 bits each, low byte first"
+pub(crate) fn of_bytes(bytes: &[u8]) -> Record {
+    let word = |i: usize| u16::from_le_bytes([bytes[i], bytes[i + 1]]);
+    Record { kind: bytes[0], who: bytes[1], zeros: [0; 2], a: word(2), b: word(4), c: word(6) }
+}
+
+pub(crate) fn bytes_of(record: Record) -> Vec<u8> {
+    let [a, b, c] = [record.a, record.b, record.c].map(u16::to_le_bytes);
+    [[record.kind, record.who], a, b, c].concat()
+}
+
+impl<W: Width> RecordOf<W> {
+    pub fn new(kind: u8, who: u8, a: W, b: W, c: W) -> RecordOf<W> {
+        RecordOf { kind, who, zeros: [0; 2], a, b, c }
     }
 
-    /// "kind, player or tracer, then a, b, c, 16 bits each, low byte first"
-    pub fn from_bytes(bytes: &[u8]) -> Record {
-        let word = |i: usize| u16::from_le_bytes([bytes[i], bytes[i + 1]]);
-        Record { kind: bytes[0], who: bytes[1], a: word(2), b: word(4), c: word(6) }
+    /// The same from numbers that are not words yet.
+    pub fn of(kind: u8, who: usize, a: usize, b: usize, c: usize) -> RecordOf<W> {
+        RecordOf::new(kind, who as u8, W::of(a), W::of(b), W::of(c))
     }
 
-    pub fn to_bytes(self) -> [u8; RECORD_BYTES] {
-        let [a0, a1] = self.a.to_le_bytes();
-        let [b0, b1] = self.b.to_le_bytes();
-        let [c0, c1] = self.c.to_le_bytes();
-        [self.kind, self.who, a0, a1, b0, b1, c0, c1]
+    pub fn from_bytes(bytes: &[u8]) -> RecordOf<W> {
+        W::record(bytes)
+    }
+
+    pub fn to_bytes(self) -> Vec<u8> {
+        W::bytes(self)
     }
 
     pub fn who(self) -> usize {
@@ -58,18 +80,18 @@ impl Record {
     }
 
     pub fn a(self) -> usize {
-        usize::from(self.a)
+        self.a.number()
     }
 
     pub fn b(self) -> usize {
-        usize::from(self.b)
+        self.b.number()
     }
 
     pub fn c(self) -> usize {
-        usize::from(self.c)
+        self.c.number()
     }
 
-    /// Number 3: "kind not 1 to 14, or an unnamed field not 0"; "kind 15 leaves number 3".
+    /// Number 3: "kind not 1 to 14, or an unnamed field not 0"; "kind 15 leaves number 3"; "3 also if a zero byte isn't 0".
     pub fn is_unknown(self) -> bool {
         let named = match self.kind {
             NEW | LOAD | STORE | HAND | WRITE => [true; 4],
@@ -80,16 +102,16 @@ impl Record {
             DUE | UNDIRTY => [false, true, false, false],
             _ => return true,
         };
-        let fields = [u16::from(self.who), self.a, self.b, self.c];
-        fields.iter().zip(named).any(|(&field, named)| !named && field != 0)
+        let fields = [self.who(), self.a(), self.b(), self.c()];
+        self.zeros != [0; 2] || fields.iter().zip(named).any(|(&field, named)| !named && field != 0)
     }
 
     /// Number 4: "player or register above 15, tracer above 7", and "if the card doesn't exist", of a store with so many cards. No
     /// link, level word or size counts.
     pub fn is_off_the_desk(self, cards: usize) -> bool {
         let who_beyond = match self.kind {
-            NEW..=WRITE => self.who() >= PLAYERS,
-            SCAN..=CLEAN => self.who() >= TRACERS,
+            NEW..=WRITE => self.who() >= W::PLAYERS,
+            SCAN..=CLEAN => self.who() >= W::TRACERS,
             _ => false,
         };
         let (players, registers): (&[usize], &[usize]) = match self.kind {
@@ -101,7 +123,10 @@ impl Record {
             _ => (&[], &[]),
         };
         let card_beyond = self.kind == UNDIRTY && self.a() >= cards;
-        who_beyond || card_beyond || players.iter().any(|&p| p >= PLAYERS) || registers.iter().any(|&r| r >= REGISTERS)
+        who_beyond
+            || card_beyond
+            || players.iter().any(|&p| p >= W::PLAYERS)
+            || registers.iter().any(|&r| r >= W::REGISTERS)
     }
 
     /// The players who must owe nothing (number 5): the acting one, and in hand the receiving one.
@@ -134,7 +159,7 @@ impl Record {
 
     /// Number 8: "new with b = 0, b over 1,024, or c over 4 × b − 2".
     pub fn is_bad_size(self) -> bool {
-        let size_fits = (1..=LARGEST_OBJECT).contains(&self.b());
-        self.kind == NEW && !(size_fits && self.c() <= GRANULE_WORDS * self.b() - 2)
+        let size_fits = (1..=W::LARGEST_OBJECT).contains(&self.b());
+        self.kind == NEW && !(size_fits && self.c() <= W::GRANULE_WORDS * self.b() - 2)
     }
 }

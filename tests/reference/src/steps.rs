@@ -1,15 +1,16 @@
 //! Making a fresh store, and running batches of steps.
 
 use crate::finish::finish_store;
-use crate::image::{Image, Store};
+use crate::image::{ImageOf, StoreOf};
 use crate::judge::judge;
 use crate::record::*;
 use crate::tracing::{can_clean, can_trace, clean, scan, trace};
+use crate::width::{Places, Width};
 
 /// Makes a fresh store of a slice of fitting length and gives 0, else gives 1 and writes nothing.
-pub fn fresh(image: &mut [u16]) -> u16 {
-    let Some(mut store) = Store::of(image) else { return 1 };
-    store.words.fill(0);
+pub fn fresh<W: Width>(image: &mut [W]) -> u16 {
+    let Some(mut store) = StoreOf::of(image) else { return 1 };
+    store.words.fill(W::default());
     let all_but_granule_0 = store.image().granules() - 1;
     store.set_run(1, all_but_granule_0, 0);
     store.set_first_run(1);
@@ -37,13 +38,13 @@ impl Placing {
 }
 
 /// Runs a batch. 1 and 2 refuse it whole and leave image and answers alone.
-pub fn batch(image: &mut [u16], steps: &[u8], answers: &mut [u16]) -> u16 {
+pub fn batch<W: Width>(image: &mut [W], steps: &[u8], answers: &mut [W]) -> u16 {
     batch_by(Placing::Tightest, image, steps, answers)
 }
 
 /// The same under either rule of placing.
-pub fn batch_by(placing: Placing, image: &mut [u16], steps: &[u8], answers: &mut [u16]) -> u16 {
-    let fits = steps.len().is_multiple_of(RECORD_BYTES) && answers.len() == steps.len() / RECORD_BYTES * 2;
+pub fn batch_by<W: Width>(placing: Placing, image: &mut [W], steps: &[u8], answers: &mut [W]) -> u16 {
+    let fits = steps.len().is_multiple_of(W::RECORD_BYTES) && answers.len() == steps.len() / W::RECORD_BYTES * 2;
     let judgement = judge(image);
     if judgement == 1 || !fits {
         return 1;
@@ -51,8 +52,8 @@ pub fn batch_by(placing: Placing, image: &mut [u16], steps: &[u8], answers: &mut
     if judgement != 0 {
         return judgement;
     }
-    let mut store = Store::of(image).expect("an undamaged image fits");
-    for (record, answer) in records(steps).zip(answers.chunks_exact_mut(2)) {
+    let mut store = StoreOf::of(image).expect("an undamaged image fits");
+    for (record, answer) in records_of(steps).zip(answers.chunks_exact_mut(2)) {
         let (number, value) = step_by(placing, &mut store, record);
         answer.copy_from_slice(&[number, value]);
     }
@@ -60,23 +61,23 @@ pub fn batch_by(placing: Placing, image: &mut [u16], steps: &[u8], answers: &mut
 }
 
 /// One step on an undamaged image: its number and value.
-pub fn step(store: &mut Store, record: Record) -> (u16, u16) {
+pub fn step<W: Width>(store: &mut StoreOf<W>, record: RecordOf<W>) -> (W, W) {
     step_by(Placing::Tightest, store, record)
 }
 
-pub fn step_by(placing: Placing, store: &mut Store, record: Record) -> (u16, u16) {
+pub fn step_by<W: Width>(placing: Placing, store: &mut StoreOf<W>, record: RecordOf<W>) -> (W, W) {
     match refusal(store.image(), record) {
-        0 => (0, act(placing, store, record)),
-        number => (number, 0),
+        0 => (W::default(), act(placing, store, record)),
+        number => (W::of(number), W::default()),
     }
 }
 
-type Applies = fn(Image, Record) -> bool;
+type Applies<W> = fn(ImageOf<W>, RecordOf<W>) -> bool;
 
 /// The lowest of the numbers 3 to 11 that applies, or 0.
 /// A later condition may rely on the earlier ones not applying.
-fn refusal(image: Image, record: Record) -> u16 {
-    let conditions: [(u16, Applies); 9] = [
+fn refusal<W: Width>(image: ImageOf<W>, record: RecordOf<W>) -> usize {
+    let conditions: [(usize, Applies<W>); 9] = [
         (3, |_, record| record.is_unknown()),
         (4, |image, record| record.is_off_the_desk(image.cards())),
         (5, is_owing),
@@ -90,26 +91,26 @@ fn refusal(image: Image, record: Record) -> u16 {
     conditions.iter().find(|(_, applies)| applies(image, record)).map_or(0, |&(number, _)| number)
 }
 
-fn is_owing(image: Image, record: Record) -> bool {
+fn is_owing<W: Width>(image: ImageOf<W>, record: RecordOf<W>) -> bool {
     record.players_to_owe_nothing().iter().any(|&p| image.owed_card(p).is_some())
 }
 
-fn has_no_object(image: Image, record: Record) -> bool {
+fn has_no_object<W: Width>(image: ImageOf<W>, record: RecordOf<W>) -> bool {
     record.object_register().is_some_and(|r| image.register(record.who(), r) == 0)
 }
 
-fn is_past_the_end(image: Image, record: Record) -> bool {
+fn is_past_the_end<W: Width>(image: ImageOf<W>, record: RecordOf<W>) -> bool {
     record.object_register().is_some_and(|r| {
         let object = image.object(image.register(record.who(), r));
         record.is_past_the_end(object.links.len(), object.levels.len())
     })
 }
 
-fn has_no_room(image: Image, record: Record) -> bool {
+fn has_no_room<W: Width>(image: ImageOf<W>, record: RecordOf<W>) -> bool {
     record.kind == NEW && image.runs().all(|(_, length)| length < record.b())
 }
 
-fn is_wrong_phase(image: Image, record: Record) -> bool {
+fn is_wrong_phase<W: Width>(image: ImageOf<W>, record: RecordOf<W>) -> bool {
     match record.kind {
         BEGIN => image.is_running(),
         SCAN..=FINISH | UNDIRTY => !image.is_running(),
@@ -117,7 +118,7 @@ fn is_wrong_phase(image: Image, record: Record) -> bool {
     }
 }
 
-fn has_nothing_to_do(image: Image, record: Record) -> bool {
+fn has_nothing_to_do<W: Width>(image: ImageOf<W>, record: RecordOf<W>) -> bool {
     match record.kind {
         BARRIER => image.owed_card(record.who()).is_none(),
         SCAN => image.is_scanned(record.a()),
@@ -130,7 +131,7 @@ fn has_nothing_to_do(image: Image, record: Record) -> bool {
 }
 
 /// What an accepted step does, and its value.
-fn act(placing: Placing, store: &mut Store, record: Record) -> u16 {
+fn act<W: Width>(placing: Placing, store: &mut StoreOf<W>, record: RecordOf<W>) -> W {
     match record.kind {
         NEW => return new(placing, store, record),
         LOAD => return load(store, record),
@@ -155,12 +156,12 @@ fn act(placing: Placing, store: &mut Store, record: Record) -> u16 {
         UNDIRTY => store.undirty(record.a()),
         _ => unreachable!("kinds beyond 15 are refused"),
     }
-    0
+    W::default()
 }
 
 /// "register a gets an object of b granules and c links, all else zero, at the start of" a run; "value its granule". A rest of the
 /// run stays in its place of the chain.
-fn new(placing: Placing, store: &mut Store, record: Record) -> u16 {
+fn new<W: Width>(placing: Placing, store: &mut StoreOf<W>, record: RecordOf<W>) -> W {
     let size = record.b();
     let runs: Vec<(usize, usize)> = store.image().runs().collect();
     let (g, length) = placing.run(runs.iter().copied(), size).expect("there is room");
@@ -179,49 +180,49 @@ fn new(placing: Placing, store: &mut Store, record: Record) -> u16 {
     }
     store.set_object(g, size, record.c());
     store.set_register(record.who(), record.a(), g);
-    g as u16
+    W::of(g)
 }
 
-fn load(store: &mut Store, record: Record) -> u16 {
+fn load<W: Width>(store: &mut StoreOf<W>, record: RecordOf<W>) -> W {
     let image = store.image();
     let link = image.object(image.register(record.who(), record.b())).links[record.c()];
-    store.set_register(record.who(), record.a(), usize::from(link));
+    store.set_register(record.who(), record.a(), link.number());
     link
 }
 
-fn store_link(store: &mut Store, record: Record) {
+fn store_link<W: Width>(store: &mut StoreOf<W>, record: RecordOf<W>) {
     let object = store.image().register(record.who(), record.a());
     let target = store.image().register(record.who(), record.c());
     store.set_link(object, record.b(), target);
     store.set_owed(record.who(), Some(crate::layout::card_of(object)));
 }
 
-fn barrier(store: &mut Store, player: usize) {
+fn barrier<W: Width>(store: &mut StoreOf<W>, player: usize) {
     let card = store.image().owed_card(player).expect("a barrier is owed");
     store.dirty(card);
     store.set_owed(player, None);
 }
 
 /// The place of the level word that read and write name.
-fn level_word(image: Image, record: Record) -> usize {
+fn level_word<W: Width>(image: ImageOf<W>, record: RecordOf<W>) -> usize {
     let object = image.object(image.register(record.who(), record.a()));
     image.layout.granule(object.start) + 2 + object.links.len() + record.b()
 }
 
 /// "cards become 0, the cycle runs": the marks are 0 outside a cycle, and so are the counts.
-fn begin(store: &mut Store) {
-    for c in 0..store.layout.cards {
+fn begin<W: Width>(store: &mut StoreOf<W>) {
+    for c in 0..store.layout.cards() {
         store.set_card(c, 0);
     }
     store.set_running(true);
 }
 
 /// Document 02, (i): "Step 14 gives 1 if the granules in such runs are fewer than a".
-fn due(image: Image, wanted: usize) -> u16 {
-    u16::from(usable_granules(image) < wanted)
+fn due<W: Width>(image: ImageOf<W>, wanted: usize) -> W {
+    W::of(usize::from(usable_granules(image) < wanted))
 }
 
 /// Document 02, (i): "only runs of 8 granules or more count".
-pub fn usable_granules(image: Image) -> usize {
+pub fn usable_granules<W: Width>(image: ImageOf<W>) -> usize {
     image.runs().map(|(_, length)| length).filter(|&length| length >= 8).sum()
 }

@@ -6,23 +6,29 @@ use std::fmt::LowerHex;
 use crate::layout::{cards_of_length, CARD_GRANULES};
 use crate::record::{records, DUE, UNDIRTY};
 use crate::report::scratch_words;
+use crate::width::Width;
 
 /// The word that answer space holds before a call.
 pub const UNTOUCHED: u16 = 0x5aa5;
 
+/// The same as a word of either width.
+pub fn untouched<W: Width>() -> W {
+    W::of(usize::from(UNTOUCHED))
+}
+
 /// The byte that the room for a map holds before a call.
 pub const UNTOUCHED_BYTE: u8 = 0xa5;
 
-/// A call of `batch` and what it must do.
+/// A call of `batch` and what it must do, of the narrow store unless another word is named.
 #[derive(Clone, Debug, PartialEq, Eq)]
-pub struct BatchCase {
+pub struct BatchCase<W = u16> {
     pub name: String,
-    pub image: Vec<u16>,
+    pub image: Vec<W>,
     pub steps: Vec<u8>,
     pub answers: usize,
     pub result: u16,
-    pub left: Vec<u16>,
-    pub given: Vec<u16>,
+    pub left: Vec<W>,
+    pub given: Vec<W>,
 }
 
 impl BatchCase {
@@ -106,8 +112,20 @@ pub enum Case {
     Report(ReportCase),
 }
 
+/// The lines of a case by their first word.
+type Block<'a> = BTreeMap<&'a str, &'a str>;
+
 pub fn parse(text: &str) -> Result<Vec<Case>, String> {
-    let mut blocks: Vec<BTreeMap<&str, &str>> = Vec::new();
+    parse_blocks(text, case_of)
+}
+
+/// The cases of a text of the wide store, which has none but of its `batch`.
+pub fn parse_wide(text: &str) -> Result<Vec<BatchCase<u32>>, String> {
+    parse_blocks(text, batch_of)
+}
+
+fn parse_blocks<T>(text: &str, of: fn(&Block) -> Result<T, String>) -> Result<Vec<T>, String> {
+    let mut blocks: Vec<Block> = Vec::new();
     for line in text.lines().map(str::trim).filter(|line| !line.is_empty()) {
         let (key, rest) = line.split_once(' ').unwrap_or((line, ""));
         if key == "case" {
@@ -118,7 +136,7 @@ pub fn parse(text: &str) -> Result<Vec<Case>, String> {
             return Err(format!("{key} twice in case {}", block["case"]));
         }
     }
-    blocks.iter().map(|block| case_of(block).map_err(|e| format!("case {}: {e}", block["case"]))).collect()
+    blocks.iter().map(|block| of(block).map_err(|e| format!("case {}: {e}", block["case"]))).collect()
 }
 
 /// The cases of a text that has none but of `batch`.
@@ -229,37 +247,55 @@ fn with_counts(image: &[u16]) -> Vec<u16> {
     [&image[..265 * k], &counts, &image[265 * k..]].concat()
 }
 
-fn case_of(block: &BTreeMap<&str, &str>) -> Result<Case, String> {
-    let field = |key: &str| block.get(key).copied().ok_or(format!("no line {key}"));
-    let number = |key: &str| field(key)?.parse::<u16>().map_err(|e| format!("{key}: {e}"));
-    let name = field("case")?.to_string();
+fn field<'a>(block: &Block<'a>, key: &str) -> Result<&'a str, String> {
+    block.get(key).copied().ok_or(format!("no line {key}"))
+}
+
+fn number(block: &Block, key: &str) -> Result<u16, String> {
+    field(block, key)?.parse().map_err(|e| format!("{key}: {e}"))
+}
+
+fn case_of(block: &Block) -> Result<Case, String> {
     if block.contains_key("report") {
-        let first = words(field("begin")?)?;
-        let second = words_or_same(field("finish")?, &first)?;
-        let scratch = words(field("scratch")?)?;
-        let after = words_or_same(field("after")?, &scratch)?;
-        let report = bytes(field("report")?)?;
-        return Ok(Case::Report(ReportCase { name, first, second, report, scratch, result: number("result")?, after }));
+        return report_of(block).map(Case::Report);
     }
-    let image = words(field("image")?)?;
+    let name = field(block, "case")?.to_string();
+    let image = words(field(block, "image")?)?;
     if block.contains_key("room") {
-        let room = usize::from(number("room")?);
-        let given = byte_runs(field("given")?)?;
-        return Ok(Case::Map(MapCase { name, image, room, result: number("result")?, given }));
+        let room = usize::from(number(block, "room")?);
+        let given = words(field(block, "given")?)?;
+        return Ok(Case::Map(MapCase { name, image, room, result: number(block, "result")?, given }));
     }
-    let left = words_or_same(field("left")?, &image)?;
     if block.contains_key("finish") {
-        let cover = number("cover")? == 1;
-        return Ok(Case::Finish(FinishCase { name, image, value: number("finish")?, left, cover }));
+        let left = words_or_same(field(block, "left")?, &image)?;
+        let cover = number(block, "cover")? == 1;
+        return Ok(Case::Finish(FinishCase { name, image, value: number(block, "finish")?, left, cover }));
     }
-    let answers = usize::from(number("answers")?);
-    let given = words(field("given")?)?;
-    let steps = bytes(field("steps")?)?;
-    let batch = BatchCase { name, image, steps, answers, result: number("result")?, left, given };
+    let batch = batch_of(block)?;
     match block.get("work") {
         Some(line) => cycle_of(batch, line),
         None => Ok(Case::Batch(batch)),
     }
+}
+
+fn report_of(block: &Block) -> Result<ReportCase, String> {
+    let name = field(block, "case")?.to_string();
+    let first = words(field(block, "begin")?)?;
+    let second = words_or_same(field(block, "finish")?, &first)?;
+    let scratch = words(field(block, "scratch")?)?;
+    let after = words_or_same(field(block, "after")?, &scratch)?;
+    let report = bytes(field(block, "report")?)?;
+    Ok(ReportCase { name, first, second, report, scratch, result: number(block, "result")?, after })
+}
+
+fn batch_of<W: Clone + TryFrom<u32>>(block: &Block) -> Result<BatchCase<W>, String> {
+    let name = field(block, "case")?.to_string();
+    let image = words(field(block, "image")?)?;
+    let left = words_or_same(field(block, "left")?, &image)?;
+    let answers = usize::from(number(block, "answers")?);
+    let given = words(field(block, "given")?)?;
+    let steps = bytes(field(block, "steps")?)?;
+    Ok(BatchCase { name, image, steps, answers, result: number(block, "result")?, left, given })
 }
 
 fn cycle_of(batch: BatchCase, line: &str) -> Result<Case, String> {
@@ -268,33 +304,28 @@ fn cycle_of(batch: BatchCase, line: &str) -> Result<Case, String> {
     Ok(Case::Cycle(CycleCase { batch, work: number(work)?, at_most: number(at_most)? }))
 }
 
-/// Words in hex, `v*n` for n equal ones in a row (n decimal), `-` for none.
-fn words(text: &str) -> Result<Vec<u16>, String> {
+/// Words in hex, or bytes, `v*n` for n equal ones in a row (n decimal), `-` for none.
+fn words<W: Clone + TryFrom<u32>>(text: &str) -> Result<Vec<W>, String> {
     let mut words = Vec::new();
     if text == "-" {
         return Ok(words);
     }
     for part in text.split_whitespace() {
         let (value, times) = part.split_once('*').unwrap_or((part, "1"));
-        let value = u16::from_str_radix(value, 16).map_err(|e| format!("{part}: {e}"))?;
+        let value = u32::from_str_radix(value, 16).map_err(|e| format!("{part}: {e}"))?;
+        let value = W::try_from(value).map_err(|_| format!("{part}: too large"))?;
         let times = times.parse::<usize>().map_err(|e| format!("{part}: {e}"))?;
         words.extend(std::iter::repeat_n(value, times));
     }
     Ok(words)
 }
 
-fn words_or_same(text: &str, others: &[u16]) -> Result<Vec<u16>, String> {
+fn words_or_same<W: Clone + TryFrom<u32>>(text: &str, others: &[W]) -> Result<Vec<W>, String> {
     if text == "same" {
         Ok(others.to_vec())
     } else {
         words(text)
     }
-}
-
-/// Bytes written as words are.
-fn byte_runs(text: &str) -> Result<Vec<u8>, String> {
-    let byte = |word| u8::try_from(word).map_err(|e| format!("{word:x}: {e}"));
-    words(text)?.into_iter().map(byte).collect()
 }
 
 /// Bytes in hex without spaces, `-` for none.
@@ -321,7 +352,8 @@ pub fn print(case: &Case) -> String {
     }
 }
 
-fn print_batch(case: &BatchCase) -> String {
+/// A case of `batch` of either width.
+pub fn print_batch<W: PartialEq + LowerHex>(case: &BatchCase<W>) -> String {
     let lines = [
         ("case", case.name.clone()),
         ("image", print_words(&case.image)),
@@ -381,7 +413,7 @@ fn print_bytes(bytes: &[u8]) -> String {
     bytes.iter().map(|byte| format!("{byte:02x}")).collect()
 }
 
-fn print_words_or_same(words: &[u16], others: &[u16]) -> String {
+fn print_words_or_same<W: PartialEq + LowerHex>(words: &[W], others: &[W]) -> String {
     if words == others {
         "same".to_string()
     } else {

@@ -4,7 +4,7 @@
 
 use crate::events::{Event, Events};
 use crate::layout::cards_of_length;
-use crate::plain::record::RECORD_BYTES;
+use crate::record::RECORD_BYTES;
 
 const BEGIN: u8 = 9;
 const TRACE: u8 = 11;

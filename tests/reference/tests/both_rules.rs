@@ -1,13 +1,12 @@
 //! Document 02, (v): "for the same list on the same image, kinds 1 to 8 get the same answers under both rules, read as in demand 3, up to
 //! the first new refused for room under one rule only." The check over lists that fill the store, and wrong stores that it must tell.
 
-mod common;
-
-use common::altered::*;
-use common::*;
+use crate::common::altered::*;
+use crate::common::*;
 use reference::both_rules::{both_rules, lists, some_lists, Compared, End, Shown};
 use reference::events::{events, Events, List};
 use reference::image::Image;
+use reference::layout::Places;
 use reference::made::fresh_image;
 use reference::{batch, batch_by, Placing};
 

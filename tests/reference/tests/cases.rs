@@ -1,8 +1,6 @@
 //! The documents' cases, and some that their rules decide.
 
-mod common;
-
-use common::*;
+use crate::common::*;
 use reference::image::Image;
 use reference::made::fresh_image;
 use reference::{batch, cards_of_length, fresh, judge, length};
@@ -20,7 +18,7 @@ fn new_on_one_card() {
 #[test]
 fn lengths() {
     for (words, result) in [(1648, 1), (1649, 1), (1650, 0), (1651, 1)] {
-        let mut image = vec![7; words];
+        let mut image = vec![7u16; words];
         assert_eq!(fresh(&mut image), result);
         assert_eq!(judge(&image), result);
         assert_eq!(batch(&mut image, &[], &mut []), result);
@@ -114,7 +112,7 @@ fn the_lowest_number_is_given() {
 
 #[test]
 fn empty_batch_judges_the_image() {
-    let mut image = fresh_image(1);
+    let mut image: Vec<u16> = fresh_image(1);
     assert_eq!(batch(&mut image, &[], &mut []), 0);
     image[0] = 1;
     assert_eq!(batch(&mut image, &[], &mut []), 2);
@@ -124,7 +122,7 @@ fn empty_batch_judges_the_image() {
 
 #[test]
 fn misfit_before_damage() {
-    let mut image = fresh_image(1);
+    let mut image: Vec<u16> = fresh_image(1);
     image[0] = 1;
     assert_eq!(batch(&mut image, &[9], &mut []), 1);
     assert_eq!(batch(&mut image, &[], &mut [5, 5]), 1);

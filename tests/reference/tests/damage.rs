@@ -1,19 +1,51 @@
-//! Damage of every line of "undamaged", one clause at a time, on one made image.
+//! Damage of every line of "undamaged", one clause at a time, on one made image, for both widths.
 
-use reference::image::{Store, Tracer};
+use reference::image::{StoreOf, Tracer};
 use reference::judge::{first_damage, Line};
-use reference::layout::{Layout, GRANULE_WORDS};
 use reference::made::{bare, fresh_image, idle, running, starved, uncovered_image, STARVED_CARDS};
 use reference::random::Random;
+use reference::record::{RecordOf, FINISH};
+use reference::width::{Places, Width};
 use reference::{batch, cover, finish, fresh, generate, judge, length, undamaged_but_cover};
 
-type Alter = fn(&mut Store);
+type Alter<W> = fn(&mut StoreOf<W>);
+
+/// A test for each of these, of the narrow store and of the wide one.
+macro_rules! for_both_widths {
+    ($($name:ident),* $(,)?) => {
+        mod narrow {
+            $(#[test] fn $name() { super::$name::<u16>() })*
+        }
+        mod wide {
+            $(#[test] fn $name() { super::$name::<u32>() })*
+        }
+    };
+}
+
+for_both_widths!(
+    the_image_is_sound,
+    words,
+    filling_by_objects,
+    filling_by_runs,
+    largest_object,
+    references,
+    marks,
+    counts,
+    a_count_on_the_first_granules_card,
+    counts_of_every_card,
+    hands,
+    idle_images,
+    cover_line,
+    finish_goes_by_object_where_cover_goes_by_link,
+    made_images_are_what_they_are_said_to_be,
+    spoiled_images,
+);
 
 /// Two cards: objects 1 (marked, entered), 3 (marked, entered), 4, 8 and 100 (marked, in hand), runs
 /// 5 to 7 and 9 to 99; tracer 2 holds packets 4 and 9, object 100 and card 0, tracer 5 packet 7.
-fn sound() -> Vec<u16> {
-    let mut words = vec![0; length(2)];
-    let mut store = Store::of(&mut words).unwrap();
+fn sound<W: Width>() -> Vec<W> {
+    let mut words = vec![W::default(); W::length(2)];
+    let mut store = StoreOf::of(&mut words).unwrap();
     let objects: [(usize, usize, &[usize]); 5] =
         [(1, 2, &[3, 4]), (3, 1, &[0]), (4, 1, &[1, 3]), (8, 1, &[]), (100, 28, &[1, 8, 0])];
     for (g, size, links) in objects {
@@ -38,14 +70,18 @@ fn sound() -> Vec<u16> {
     words
 }
 
-fn altered(image: Vec<u16>, alter: Alter) -> Vec<u16> {
+fn greatest<W: Width>() -> usize {
+    W::cut(u64::MAX).number()
+}
+
+fn altered<W: Width>(image: Vec<W>, alter: Alter<W>) -> Vec<W> {
     let mut image = image;
-    alter(&mut Store::of(&mut image).unwrap());
+    alter(&mut StoreOf::of(&mut image).unwrap());
     image
 }
 
 /// Each alteration damages the sound image in that line, and in none before it.
-fn assert_damage(line: Line, alterations: &[(&str, Alter)]) {
+fn assert_damage<W: Width>(line: Line, alterations: &[(&str, Alter<W>)]) {
     for (what, alter) in alterations {
         let image = altered(sound(), *alter);
         assert_eq!(first_damage(&image), Some(line), "{what}");
@@ -55,7 +91,7 @@ fn assert_damage(line: Line, alterations: &[(&str, Alter)]) {
     }
 }
 
-fn assert_sound(alterations: &[(&str, Alter)]) {
+fn assert_sound<W: Width>(alterations: &[(&str, Alter<W>)]) {
     for (what, alter) in alterations {
         let image = altered(sound(), *alter);
         assert_eq!(first_damage(&image), None, "{what}");
@@ -64,24 +100,22 @@ fn assert_sound(alterations: &[(&str, Alter)]) {
     }
 }
 
-#[test]
-fn the_image_is_sound() {
-    assert_sound(&[("nothing altered", |_| ())]);
+fn the_image_is_sound<W: Width>() {
+    assert_sound::<W>(&[("nothing altered", |_| ())]);
 }
 
-#[test]
-fn words() {
-    for at in 0..GRANULE_WORDS {
+fn words<W: Width>() {
+    for at in 0..W::GRANULE_WORDS {
         let mut image = sound();
-        image[at] = 1;
+        image[at] = W::of(1);
         assert_eq!(first_damage(&image), Some(Line::Words), "granule 0, word {at}");
     }
     for i in 2..8 {
         let mut image = sound();
-        image[Layout { cards: 2 }.general() + i] = 1;
+        image[W::Layout::of_cards(2).general() + i] = W::of(1);
         assert_eq!(first_damage(&image), Some(Line::Words), "general, word {i}");
     }
-    assert_damage(
+    assert_damage::<W>(
         Line::Words,
         &[
             ("card state 4", |s| s.set_card(1, 4)),
@@ -102,9 +136,8 @@ fn words() {
     );
 }
 
-#[test]
-fn filling_by_objects() {
-    assert_damage(
+fn filling_by_objects<W: Width>() {
+    assert_damage::<W>(
         Line::Filling,
         &[
             ("size 0", |s| s.set(s.layout.granule(8), 0)),
@@ -122,9 +155,8 @@ fn filling_by_objects() {
     );
 }
 
-#[test]
-fn filling_by_runs() {
-    assert_damage(
+fn filling_by_runs<W: Width>() {
+    assert_damage::<W>(
         Line::Filling,
         &[
             ("length 0", |s| s.set_run(5, 0, 9)),
@@ -156,11 +188,10 @@ fn filling_by_runs() {
 }
 
 /// Sizes over 1,024 need more granules than two cards have.
-#[test]
-fn largest_object() {
+fn largest_object<W: Width>() {
     for (size, judgement) in [(1024, 0), (1025, 2)] {
-        let mut image = fresh_image(17);
-        let mut store = Store::of(&mut image).unwrap();
+        let mut image: Vec<W> = fresh_image(17);
+        let mut store = StoreOf::of(&mut image).unwrap();
         store.set_run(1, 0, 0);
         store.set_object(1, size, 0);
         store.set_run(1 + size, 17 * 64 - 1 - size, 0);
@@ -169,29 +200,27 @@ fn largest_object() {
     }
 }
 
-#[test]
-fn references() {
-    assert_damage(
+fn references<W: Width>() {
+    assert_damage::<W>(
         Line::References,
         &[
             ("link inside an object", |s| s.set_link(4, 1, 2)),
             ("link to a run", |s| s.set_link(4, 1, 5)),
             ("link past the end", |s| s.set_link(4, 1, 128)),
-            ("link of an object with the greatest word", |s| s.set_link(4, 0, 65535)),
+            ("link of an object with the greatest word", |s| s.set_link(4, 0, greatest::<W>())),
             ("register inside an object", |s| s.set_register(15, 15, 101)),
             ("register past the end", |s| s.set_register(15, 15, 128)),
             ("owed card beyond the last", |s| s.set_owed(15, Some(2))),
         ],
     );
-    assert_sound(&[
+    assert_sound::<W>(&[
         ("the last card owed", |s| s.set_owed(15, Some(1))),
         ("two players owe one card", |s| s.set_owed(15, Some(0))),
     ]);
 }
 
-#[test]
-fn marks() {
-    assert_damage(
+fn marks<W: Width>() {
+    assert_damage::<W>(
         Line::Marks,
         &[
             ("mark of granule 0", |s| s.set_mark(0, true)),
@@ -208,16 +237,15 @@ fn marks() {
             ("packet held twice by one tracer", |s| s.set(s.layout.tracer(2), 10)),
         ],
     );
-    assert_sound(&[
+    assert_sound::<W>(&[
         ("empty packets held", |s| s.set_tracer(0, Tracer { input: Some(0), output: Some(31), ..Tracer::default() })),
         ("object with no way to it marked", |s| s.mark(4)),
     ]);
 }
 
 /// Card 0 has two marked objects, card 1 has one.
-#[test]
-fn counts() {
-    assert_damage(
+fn counts<W: Width>() {
+    assert_damage::<W>(
         Line::Counts,
         &[
             ("counts swapped", |s| {
@@ -235,18 +263,17 @@ fn counts() {
             ("objects counted, not marked ones", |s| s.set_card_count(0, 4)),
             ("mark not counted", |s| s.set_mark(8, true)),
             ("mark gone, still counted", |s| s.set_mark(100, false)),
-            ("the greatest word", |s| s.set_card_count(0, 65535)),
+            ("the greatest word", |s| s.set_card_count(0, greatest::<W>())),
         ],
     );
-    assert_sound(&[("another object marked and counted", |s| s.mark(4))]);
+    assert_sound::<W>(&[("another object marked and counted", |s| s.mark(4))]);
 }
 
 /// "An object's card is its first granule divided by 64": the marked object at 60 ends on the next card.
-#[test]
-fn a_count_on_the_first_granules_card() {
+fn a_count_on_the_first_granules_card<W: Width>() {
     for (counts, judgement) in [([1, 0], 0), ([0, 1], 2), ([1, 1], 2), ([0, 0], 2)] {
-        let mut image = fresh_image(2);
-        let mut store = Store::of(&mut image).unwrap();
+        let mut image: Vec<W> = fresh_image(2);
+        let mut store = StoreOf::of(&mut image).unwrap();
         store.set_object(60, 10, 0);
         store.set_run(1, 59, 70);
         store.set_run(70, 58, 0);
@@ -258,22 +285,23 @@ fn a_count_on_the_first_granules_card() {
 }
 
 /// The count of each card made wrong, and each two that differ swapped; a batch refuses such an image and leaves it alone.
-fn assert_counts_matter(image: &[u16]) {
-    let layout = Layout::of_length(image.len()).unwrap();
-    let assert_damaged = |image: Vec<u16>| {
+fn assert_counts_matter<W: Width>(image: &[W]) {
+    let layout = W::Layout::of_length(image.len()).unwrap();
+    let assert_damaged = |image: Vec<W>| {
         assert_eq!(first_damage(&image), Some(Line::Counts));
         assert!(!undamaged_but_cover(&image));
-        let (mut left, mut answers) = (image.clone(), [7, 7]);
-        assert_eq!(batch(&mut left, &[13, 0, 0, 0, 0, 0, 0, 0], &mut answers), 2);
-        assert!(left == image && answers == [7, 7]);
+        let (mut left, mut answers) = (image.clone(), [W::of(7); 2]);
+        assert_eq!(batch(&mut left, &RecordOf::<W>::of(FINISH, 0, 0, 0, 0).to_bytes(), &mut answers), 2);
+        assert!(left == image && answers == [W::of(7); 2]);
     };
-    for at in (0..layout.cards).map(|c| layout.count(c)) {
-        for wrong in [image[at].wrapping_add(1), image[at].wrapping_sub(1), image[at] | 1 << 15, 65535] {
+    for at in (0..layout.cards()).map(|c| layout.count(c)) {
+        let right: u64 = image[at].into();
+        for wrong in [right + 1, right.wrapping_sub(1), right | 1 << 15, right | 1 << (W::BITS - 1), u64::MAX] {
             let mut altered = image.to_vec();
-            altered[at] = wrong;
+            altered[at] = W::cut(wrong);
             assert_damaged(altered);
         }
-        for other in (0..layout.cards).map(|c| layout.count(c)).filter(|&other| image[other] != image[at]) {
+        for other in (0..layout.cards()).map(|c| layout.count(c)).filter(|&other| image[other] != image[at]) {
             let mut altered = image.to_vec();
             altered.swap(at, other);
             assert_damaged(altered);
@@ -281,35 +309,33 @@ fn assert_counts_matter(image: &[u16]) {
     }
 }
 
-#[test]
-fn counts_of_every_card() {
+fn counts_of_every_card<W: Width>() {
     let mut random = Random::new(13);
     for k in 1..=6 {
-        assert_counts_matter(&fresh_image(k));
+        assert_counts_matter::<W>(&fresh_image(k));
         for make in [running, bare, idle] {
-            let image = make(&mut random, k);
+            let image: Vec<W> = make(&mut random, k);
             assert_eq!(judge(&image), 0);
             assert_counts_matter(&image);
         }
     }
-    let mut large = running(&mut random, 512);
+    let mut large: Vec<W> = running(&mut random, 512);
     for c in [0, 1, 255, 256, 511] {
-        let mut store = Store::of(&mut large).unwrap();
+        let mut store = StoreOf::of(&mut large).unwrap();
         let right = store.image().card_count(c);
         store.set_card_count(c, right + 1);
         assert_eq!(judge(&large), 2, "card {c} of 512");
-        Store::of(&mut large).unwrap().set_card_count(c, right);
+        StoreOf::of(&mut large).unwrap().set_card_count(c, right);
         assert_eq!(judge(&large), 0);
     }
 }
 
-fn holding(s: &mut Store, hand: Option<(usize, usize)>, card: Option<(usize, usize)>) {
+fn holding<W: Width>(s: &mut StoreOf<W>, hand: Option<(usize, usize)>, card: Option<(usize, usize)>) {
     s.set_tracer(0, Tracer { hand, card, ..Tracer::default() });
 }
 
-#[test]
-fn hands() {
-    assert_damage(
+fn hands<W: Width>() {
+    assert_damage::<W>(
         Line::Hands,
         &[
             ("object in hand not marked", |s| holding(s, Some((4, 0)), None)),
@@ -332,7 +358,7 @@ fn hands() {
             ("next granule beyond the card", |s| holding(s, None, Some((0, 65)))),
         ],
     );
-    assert_sound(&[
+    assert_sound::<W>(&[
         ("object in two hands", |s| holding(s, Some((100, 2)), None)),
         ("object in hand and entered", |s| holding(s, Some((1, 1)), None)),
         ("card in two hands, just past its end", |s| holding(s, None, Some((0, 64)))),
@@ -346,12 +372,11 @@ fn hands() {
 }
 
 /// The sound image after its finish, with one word of a cycle set.
-#[test]
-fn idle_images() {
-    let mut idle = sound();
+fn idle_images<W: Width>() {
+    let mut idle: Vec<W> = sound();
     finish(&mut idle);
     assert_eq!(judge(&idle), 0);
-    let alterations: [(&str, Alter); 6] = [
+    let alterations: [(&str, Alter<W>); 6] = [
         ("a mark", |s| s.mark(1)),
         ("input held", |s| s.set(s.layout.tracer(7), 1)),
         ("output held", |s| s.set(s.layout.tracer(0) + 1, 32)),
@@ -368,18 +393,17 @@ fn idle_images() {
     for (what, alter) in alterations {
         assert_eq!(first_damage(&altered(idle.clone(), alter)), Some(Line::Idle), "{what}");
     }
-    assert_damage(Line::Idle, &[("the cycle taken away", |s| s.set_running(false))]);
+    assert_damage::<W>(Line::Idle, &[("the cycle taken away", |s| s.set_running(false))]);
     for state in 0..4 {
         let mut cards = idle.clone();
-        Store::of(&mut cards).unwrap().set_card(1, state);
+        StoreOf::of(&mut cards).unwrap().set_card(1, state);
         assert_eq!(judge(&cards), 0, "card state {state} with no cycle");
     }
 }
 
 /// Object 100 with its link 1 to 8, object 1 with its link 1 to 4, and what may cover them.
-#[test]
-fn cover_line() {
-    assert_damage(
+fn cover_line<W: Width>() {
+    assert_damage::<W>(
         Line::Cover,
         &[
             ("the only entry popped", |s| assert_eq!(s.pop(4), 1)),
@@ -410,7 +434,7 @@ fn cover_line() {
             }),
         ],
     );
-    assert_sound(&[
+    assert_sound::<W>(&[
         ("by the dirty card", |s| {
             s.pop(4);
             s.set_card(0, 3);
@@ -439,9 +463,8 @@ fn cover_line() {
 }
 
 /// "O marked, in hand at link 1 of 2, link 0 to an unmarked A": Cover fails, and the finish keeps A.
-#[test]
-fn finish_goes_by_object_where_cover_goes_by_link() {
-    let image = altered(sound(), |s| {
+fn finish_goes_by_object_where_cover_goes_by_link<W: Width>() {
+    let image: Vec<W> = altered(sound(), |s| {
         s.set_register(1, 2, 0);
         s.set_link(100, 0, 8);
         s.set_link(100, 1, 0);
@@ -449,16 +472,16 @@ fn finish_goes_by_object_where_cover_goes_by_link() {
     assert!(undamaged_but_cover(&image) && !cover(&image));
     let mut left = image.clone();
     // Object 8 is linked from object 100 only, and 4 from the entered object 1: nothing is freed.
-    assert_eq!(finish(&mut left), 0);
+    assert_eq!(finish(&mut left).number(), 0);
     let mut let_go = altered(image, |s| s.set_tracer(2, Tracer::default()));
-    assert_eq!(finish(&mut let_go), 1);
+    assert_eq!(finish(&mut let_go).number(), 1);
 }
 
 #[test]
 fn wrong_lengths() {
     for n in 0..3000 {
         let fits = n >= 1650 && (n - 1384) % 266 == 0;
-        let mut image = vec![9; n];
+        let mut image = vec![9u16; n];
         assert_eq!(judge(&image), if fits { 2 } else { 1 }, "{n} words");
         assert_eq!(fresh(&mut image), u16::from(!fits), "{n} words");
         let expected = if fits { 0 } else { 1 };
@@ -466,39 +489,37 @@ fn wrong_lengths() {
         assert!(fits || image.iter().all(|&w| w == 9));
     }
     for (n, judgement) in [(length(512), 0), (length(512) + 1, 1), (length(513), 1)] {
-        let mut image = vec![0; n];
+        let mut image = vec![0u16; n];
         assert_eq!((fresh(&mut image), judge(&image)), (judgement, judgement));
     }
 }
 
-#[test]
-fn made_images_are_what_they_are_said_to_be() {
+fn made_images_are_what_they_are_said_to_be<W: Width>() {
     let mut random = Random::new(11);
     for n in 0..400 {
         let k = random.from_to(1, 6);
-        assert_eq!(judge(&running(&mut random, k)), 0);
-        assert_eq!(judge(&bare(&mut random, k)), 0);
-        assert_eq!(judge(&idle(&mut random, k)), 0);
-        assert_eq!(first_damage(&uncovered_image(&mut random, k)), Some(Line::Cover));
+        assert_eq!(judge(&running::<W>(&mut random, k)), 0);
+        assert_eq!(judge(&bare::<W>(&mut random, k)), 0);
+        assert_eq!(judge(&idle::<W>(&mut random, k)), 0);
+        assert_eq!(first_damage(&uncovered_image::<W>(&mut random, k)), Some(Line::Cover));
         if n % 20 == 0 {
-            assert_eq!(judge(&starved(&mut random, STARVED_CARDS)), 0);
+            assert_eq!(judge(&starved::<W>(&mut random, STARVED_CARDS)), 0);
         }
     }
 }
 
 /// Judging reads any words at all; altered ones are found damaged in every line.
-#[test]
-fn spoiled_images() {
+fn spoiled_images<W: Width>() {
     let mut random = Random::new(12);
     let mut lines = std::collections::BTreeMap::new();
     for _ in 0..2000 {
         let k = random.from_to(1, 3);
-        let mut image = running(&mut random, k);
+        let mut image: Vec<W> = running(&mut random, k);
         for _ in 0..random.from_to(1, 3) {
             generate::spoil(&mut random, &mut image);
             *lines.entry(first_damage(&image)).or_insert(0) += 1;
         }
-        image.iter_mut().for_each(|word| *word = random.word() & random.word());
+        image.iter_mut().for_each(|word| *word = W::cut(random.bits() & random.bits()));
         assert_eq!(judge(&image), 2);
     }
     println!("{lines:?}");

@@ -1,10 +1,8 @@
 //! The cases that `draw` prints: they parse, repeat by seed and show every kind and number.
 
-mod common;
-
 use std::collections::{BTreeMap, BTreeSet};
 
-use common::*;
+use crate::common::*;
 use reference::cards_of_length;
 use reference::cases::maps;
 use reference::image::Image;

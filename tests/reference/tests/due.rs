@@ -1,8 +1,6 @@
 //! Due by document 02, (i): "only runs of 8 granules or more count. Step 14 gives 1 if the granules in such runs are fewer than a."
 
-mod common;
-
-use common::*;
+use crate::common::*;
 use reference::image::{Image, Store};
 use reference::made::fresh_image;
 use reference::steps::step_by;

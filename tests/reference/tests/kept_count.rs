@@ -1,9 +1,7 @@
 //! Document 02, (iv): "keep the count from step to step within a batch [..]; due answers from it without a walk." A count kept so answers as
 //! the walk does, over lists that tell each near way to keep it wrongly.
 
-mod common;
-
-use common::*;
+use crate::common::*;
 use reference::image::{Image, Store};
 use reference::pinned::{lists, run_taken, List, Shown};
 use reference::steps::step_by;

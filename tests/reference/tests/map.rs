@@ -1,13 +1,12 @@
 //! The service map, by document 02, (iii): lines by hand, signs granule by granule, and wrong maps that the cases tell from the right one.
 
-mod common;
-
 use std::collections::BTreeMap;
 
-use common::*;
+use crate::common::*;
 use reference::generate::{damage, wrong_rooms};
 use reference::image::Image;
 use reference::judge;
+use reference::layout::Places;
 use reference::made::{fresh_image, idle, running};
 use reference::map::{map_bytes, service_map, LINE_BYTES};
 use reference::random::Random;

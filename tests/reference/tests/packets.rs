@@ -1,8 +1,6 @@
 //! Which packet reach and trace take, and what happens where there is none.
 
-mod common;
-
-use common::*;
+use crate::common::*;
 use reference::image::{Image, Store, Tracer};
 use reference::layout::{card_of, length, PACKETS};
 

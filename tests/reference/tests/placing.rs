@@ -1,8 +1,6 @@
 //! Where a new goes, by document 02, (v): "the start of the shortest run that suffices, the lowest of equals".
 
-mod common;
-
-use common::*;
+use crate::common::*;
 use reference::cases::otherwise_by_lowest;
 use reference::image::{Image, Store};
 use reference::made::fresh_image;

@@ -1,12 +1,10 @@
 //! Sweep reports, by document 02, (vi) and (viii): stretches by hand, the reports of our own finishes, and wrong implementations that the
 //! cases tell from the right one.
 
-mod common;
-
 use std::collections::{BTreeMap, BTreeSet};
 use std::ops::Range;
 
-use common::*;
+use crate::common::*;
 use reference::demand::reached_by_chains;
 use reference::generate::batches;
 use reference::image::{Image, Store};

@@ -1,11 +1,9 @@
 //! Undirty and the counts, by document 02, (ii): "Step 15, undirty, names a card in a [..]; it turns state 1 to 0 and 3 to 2."
 
-mod common;
-
 use std::collections::BTreeMap;
 
-use common::altered::*;
-use common::*;
+use crate::common::altered::*;
+use crate::common::*;
 use reference::image::{Image, Store, Tracer};
 use reference::layout::length;
 use reference::made::fresh_image;

@@ -5,11 +5,14 @@ use std::collections::BTreeMap;
 use reference::both_rules::both_rules;
 use reference::cases::otherwise_by_lowest;
 use reference::events::events;
-use reference::record::{records, DUE, NEW, RECORD_BYTES};
+use reference::layout::{Layout, Places};
+use reference::record::{records_of, DUE, NEW, RECORD_BYTES};
+
 use reference::vectors::{
     parse, parse_batches, parse_cycles, parse_maps, parse_older, parse_older_batches, parse_older_reports,
-    parse_reports, print, BatchCase, Case, ReportCase, UNTOUCHED, UNTOUCHED_BYTE,
+    parse_reports, parse_wide, print, print_batch, untouched, BatchCase, Case, ReportCase, UNTOUCHED_BYTE,
 };
+use reference::width::Width;
 use reference::work::{at_most, Cycles, Work};
 use reference::{batch, batch_by, cards_of_length, cover, finish, judge_report, service_map};
 use reference::{undamaged_but_cover, Placing};
@@ -23,12 +26,13 @@ const TIGHT: &str = include_str!("../../vectors/document_02/05-v.txt");
 const REPORTS: &str = include_str!("../../vectors/document_02/06-vi.txt");
 const CYCLES: &str = include_str!("../../vectors/document_02/07-vii.txt");
 const REPORTS_ON_THE_RACK: &str = include_str!("../../vectors/document_02/08-viii.txt");
+const WIDE: &str = include_str!("../../vectors/document_02/09-ix.txt");
 const FINISHES: &str = include_str!("../../vectors/finishes.txt");
 
 /// The reference's answers and image for a case, whose result must be right.
-fn run(placing: Placing, case: &BatchCase) -> (Vec<u16>, Vec<u16>) {
+fn run<W: Width>(placing: Placing, case: &BatchCase<W>) -> (Vec<W>, Vec<W>) {
     let mut image = case.image.clone();
-    let mut answers = vec![UNTOUCHED; case.answers];
+    let mut answers = vec![untouched(); case.answers];
     assert_eq!(batch_by(placing, &mut image, &case.steps, &mut answers), case.result, "result of {}", case.name);
     if case.name.ends_with("loose") {
         assert!(undamaged_but_cover(&case.image), "{}", case.name);
@@ -53,7 +57,7 @@ fn batches() {
 }
 
 /// Image and answers are those of the case, to the last word.
-fn assert_as_given(placing: Placing, case: &BatchCase) {
+fn assert_as_given<W: Width>(placing: Placing, case: &BatchCase<W>) {
     let (answers, image) = run(placing, case);
     assert!(answers == case.given, "answers of {}: {answers:x?}, not {:x?}", case.name, case.given);
     assert!(image == case.left, "image of {}", case.name);
@@ -86,14 +90,14 @@ fn dues_in_batches() {
 }
 
 /// Cases by their result.
-fn results(cases: &[BatchCase]) -> [usize; 3] {
+fn results<W>(cases: &[BatchCase<W>]) -> [usize; 3] {
     [0, 1, 2].map(|result| cases.iter().filter(|case| case.result == result).count())
 }
 
 /// What is given for the records of that kind.
-fn answers_of(kind: u8, cases: &[BatchCase]) -> Vec<&[u16]> {
+fn answers_of<W: Width>(kind: u8, cases: &[BatchCase<W>]) -> Vec<&[W]> {
     let answered = cases.iter().filter(|case| case.result == 0);
-    let answers = answered.flat_map(|case| records(&case.steps).zip(case.given.chunks(2)));
+    let answers = answered.flat_map(|case| records_of::<W>(&case.steps).zip(case.given.chunks(2)));
     answers.filter(|(record, _)| record.kind == kind).map(|(_, answer)| answer).collect()
 }
 
@@ -125,6 +129,21 @@ fn older_vectors_by_the_tightest_run() {
         cases.iter().filter_map(otherwise_by_lowest).count()
     });
     assert_eq!(moved, [11, 30, 19, 31]);
+}
+
+/// Cases by their result, the records with a zero byte set, those with a field above 65,535, and the numbers that are given.
+#[test]
+fn wide() {
+    let cases = parse_wide(WIDE).unwrap();
+    cases.iter().for_each(|case| assert_as_given(Placing::Tightest, case));
+    let answered = || cases.iter().filter(|case| case.result == 0);
+    let records = || answered().flat_map(|case| records_of::<u32>(&case.steps));
+    let strays = records().filter(|record| record.zeros != [0; 2]).count();
+    let large = records().filter(|record| record.a.max(record.b).max(record.c) > 65_535).count();
+    let mut numbers = BTreeMap::new();
+    answered().flat_map(|case| case.given.chunks(2)).for_each(|answer| *numbers.entry(answer[0]).or_insert(0) += 1);
+    assert_eq!((cases.len(), results(&cases), strays, large), (70, [56, 7, 7], 9, 19));
+    assert_eq!(numbers, [(0, 722), (3, 35), (4, 25), (5, 33), (6, 31), (7, 4), (8, 2), (9, 5), (11, 82)].into());
 }
 
 /// Results, cards by their state and granules by their sign.
@@ -217,7 +236,7 @@ fn finishes() {
 fn a_finish_that_follows_all_is_caught() {
     let caught = parse_older(FINISHES).unwrap().0.into_iter().any(|case| {
         let Case::Finish(mut case) = case else { panic!("a case of finish") };
-        let cards = reference::layout::Layout::of_length(case.image.len()).unwrap();
+        let cards = Layout::of_length(case.image.len()).unwrap();
         case.image[cards.card(0)..cards.card(cards.cards)].fill(1);
         finish(&mut case.image) != case.value
     });
@@ -231,4 +250,7 @@ fn printing_and_parsing_agree() {
         let printed: String = cases.iter().map(print).collect();
         assert_eq!(parse(&printed).unwrap(), cases);
     }
+    let cases = parse_wide(WIDE).unwrap();
+    let printed: String = cases.iter().map(print_batch).collect();
+    assert_eq!(parse_wide(&printed).unwrap(), cases);
 }

@@ -1,9 +1,7 @@
 //! Document 02, (vii): how many trace and clean steps a cycle accepts. The count by hand, the worked examples, lists that reach what can be reached,
 //! and lists that make a cycle drag on.
 
-mod common;
-
-use common::*;
+use crate::common::*;
 use reference::cases::cycles;
 use reference::dragging::{lists, longest, sizes, worked_example, Shown};
 use reference::events::{events, Event, Events};

@@ -1,13 +1,12 @@
 //! Wrong stores that the count of document 02, (vii), must tell: lists that make a cycle drag on are run by each, and what comes of them, with the count,
 //! is all that is looked at. They judge nothing and go on with damaged images.
 
-mod common;
-
-use common::altered::*;
-use common::*;
+use crate::common::altered::*;
+use crate::common::*;
 use reference::dragging::some_lists;
 use reference::events::{events, List};
 use reference::image::{Image, Store, Tracer};
+use reference::layout::Places;
 use reference::steps::step as run_step;
 use reference::work::check_work;
 use reference::{players_and_sweeps, whole_list};

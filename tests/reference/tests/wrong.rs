@@ -1,11 +1,10 @@
 //! Wrong implementations of `batch`: the whole-list check must say what is wrong with each.
 
-mod common;
-
-use common::altered::*;
-use common::*;
+use crate::common::altered::*;
+use crate::common::*;
 use reference::generate::{batches, list, Pace};
 use reference::image::Image;
+use reference::layout::Places;
 use reference::made::{bare, fresh_image, idle, running};
 use reference::random::Random;
 use reference::steps::step_by;

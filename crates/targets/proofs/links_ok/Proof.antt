@@ -8,10 +8,10 @@ use Rattle.targets.proofs.links_ok.Statement.{statement}
 use Rattle.targets.proofs.links_ok.Tie as tie
 
 abbrev Inv-loop : tie.InvT-loop
-Inv-loop im k names g n ok₀ i₀ ok i = Checked n (linkOk (imageOf width k im) g) ok i
+Inv-loop im k table g n ok₀ i₀ ok i = Checked n (linkOk (imageOf width k im) g) ok i
 
 pub links-ok-spec : {M : Type 1} → statement M
 links-ok-spec =
     tie.close
-    (tie.spec Inv-loop (λ im k names g n ok₀ i₀ ok i. n - i) (λ c κs. search needs) (λ c κs. search needs) (λ c. search after-two)
+    (tie.spec Inv-loop (λ im k table g n ok₀ i₀ ok i. n - i) (λ c κs. search needs) (λ c κs. search needs) (λ c. search after-two)
     (λ c κs. search needs) (λ c. search needs) (λ c. search needs) (λ c. search checked-more) (λ c. search checked-end))

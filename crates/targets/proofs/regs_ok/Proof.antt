@@ -8,11 +8,11 @@ use Rattle.targets.proofs.regs_ok.Statement.{statement}
 use Rattle.targets.proofs.regs_ok.Tie as tie
 
 abbrev Inv-loop : tie.InvT-loop
-Inv-loop im k targets n ok₀ i₀ ok i = Checked n (regOk (imageOf width k im)) ok i
+Inv-loop im k table n ok₀ i₀ ok i = Checked n (regOk (imageOf width k im)) ok i
 
 pub regs-ok-spec : {M : Type 1} → statement M
 regs-ok-spec =
     tie.close
-    (tie.spec Inv-loop (λ im k targets n ok₀ i₀ ok i. n - i) (λ c κs. search needs) (λ c. checked-none) (λ c κs. search needs)
+    (tie.spec Inv-loop (λ im k table n ok₀ i₀ ok i. n - i) (λ c κs. search needs) (λ c. checked-none) (λ c κs. search needs)
     (λ c. search needs) (λ c. search needs) (λ c. search checked-more)
     (λ c. search checked-enough))

@@ -70,10 +70,10 @@ module _ (w : ℕ) where
   reaches-by k number x h = rw (any-number x h) refl
 
   module _ (s : Step) (n : Kind) where
-    -- 3, as one test of the kind and four fields
-    pub unnamed-by : unnamed s n ≡ some (is n unknown ∷ fields s (λ r x. eqb (bound w r) 0 && not (eqb x 0)) (rowOf n))
+    -- 3, as one test of the kind, the zero bytes and four fields
+    pub unnamed-by : unnamed s n ≡ some (is n unknown ∷ not (eqb (s .zeros) 0) ∷ fields s (λ r x. eqb (bound w r) 0 && not (eqb x 0)) (rowOf n))
     unfolding unnamed is fields some
-    unnamed-by = λ j. (is n unknown || some (fields s (λ r x. unused-by r j && not (eqb x 0)) (rowOf n)))
+    unnamed-by = λ j. (is n unknown || some (not (eqb (s .zeros) 0) ∷ fields s (λ r x. unused-by r j && not (eqb x 0)) (rowOf n)))
 
     -- 4, as two tests of four fields
     pub off-by : (k : ℕ) → ((i : ℕ) → i < 4 → fieldAt s i < 2 ^ w) → offDesk s k n ≡ (beyondLimit w s n || noCard k s n)
@@ -90,10 +90,19 @@ module _ (w : ℕ) where
 -- ---- what they say of a field where they do not apply
 
 module _ (s : Step) (n : Kind) where
-  pub field-zero : unnamed s n ≡ false → (i : ℕ) → i < 4 → roleAt n i ≡ unused → fieldAt s i ≡ 0
-  unfolding unnamed is
-  field-zero e i h z =
-      eqb-true _ _ (not-false _ (sym (ap (λ r. stray r (fieldAt s i)) z) ∙ no-test s n stray ((or-none (is n unknown) (some (fields s stray (rowOf n))) e) .1) i h))
+  module _ (e : unnamed s n ≡ false) where
+    none-set : (eqb (s .zeros) 0 ≡ true) × (some (fields s stray (rowOf n)) ≡ false)
+    unfolding unnamed is some
+    none-set =
+        let q = or-none (not (eqb (s .zeros) 0)) (some (fields s stray (rowOf n))) ((or-none (is n unknown) (some (not (eqb (s .zeros) 0) ∷ fields s stray (rowOf n))) e) .1) in
+        (not-false _ (q .0), q .1)
+
+    pub zeros-zero : s .zeros ≡ 0
+    zeros-zero = eqb-true _ _ (none-set .0)
+
+    pub field-zero : (i : ℕ) → i < 4 → roleAt n i ≡ unused → fieldAt s i ≡ 0
+    unfolding isUnused
+    field-zero i h z = eqb-true _ _ (not-false _ (sym (ap (λ r. stray r (fieldAt s i)) z) ∙ no-test s n stray (none-set .1) i h))
 
   pub field-below : (k : ℕ) → offDesk s k n ≡ false → (i : ℕ) → i < 4 → (l : ℕ) → limit k (roleAt n i) ≡ below l → fieldAt s i < l
   unfolding offDesk reaches

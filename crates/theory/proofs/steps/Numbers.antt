@@ -45,6 +45,7 @@ module _ (rule : Placing) (m : Image) (s : Step) (u : Undamaged m) (k : kindOf (
       refused-where rule m s 8 (not (hasRoom m (s .b)))
       (step-number rule m s k
       ∙ (rw (
+        f .zero-bytes,
         le-ltb 15 (s .who) (omega arith),
         le-ltb 15 (s .a) (omega arith),
         eq-eqb (owed m (s .who)) 0 (f .owes-none),
@@ -78,14 +79,14 @@ module _ (rule : Placing) (m : Image) (s : Step) where
   unfolding numbers-open first
   barrier-nothing k f =
       refused-where rule m s 10 (eqb (owed m (s .who)) 0)
-      (step-number rule m s k ∙ (rw (f .no-fields .0, f .no-fields .1, f .no-fields .2, le-ltb 15 (s .who) (omega arith))))
+      (step-number rule m s k ∙ (rw (f .zero-bytes, f .no-fields .0, f .no-fields .1, f .no-fields .2, le-ltb 15 (s .who) (omega arith))))
       (λ e. eqb-true _ _ e) (λ p. eq-eqb _ _ p)
 
   pub scan-nothing : kindOf (s .kind) ≡ scan → GoodScan m s → RefusedWhere rule m s 11 (scanned m (s .a) ≡ 1)
   unfolding numbers-open first
   scan-nothing k f =
       refused-where rule m s 10 (eqb (scanned m (s .a)) 1)
-      (step-number rule m s k ∙ (rw (f .no-fields .0, f .no-fields .1, le-ltb 7 (s .who) (omega arith), le-ltb 15 (s .a) (omega arith), f .in-cycle)))
+      (step-number rule m s k ∙ (rw (f .zero-bytes, f .no-fields .0, f .no-fields .1, le-ltb 7 (s .who) (omega arith), le-ltb 15 (s .a) (omega arith), f .in-cycle)))
       (λ e. eqb-true _ _ e) (λ p. eq-eqb _ _ p)
 
 -- ---- 11: "trace or clean where no line applies"
@@ -160,14 +161,14 @@ module _ (rule : Placing) (m : Image) (s : Step) (f : GoodTracer m s) where
   unfolding numbers-open first
   trace-nothing k =
       refused-where rule m s 10 (eqb (traceLine m (s .who)) 0)
-      (step-number rule m s k ∙ (rw (f .no-fields .0, f .no-fields .1, f .no-fields .2, le-ltb 7 (s .who) (omega arith), f .in-cycle)))
+      (step-number rule m s k ∙ (rw (f .zero-bytes, f .no-fields .0, f .no-fields .1, f .no-fields .2, le-ltb 7 (s .who) (omega arith), f .in-cycle)))
       (λ e. trace-none m (s .who) (eqb-true _ _ e)) (λ p. eq-eqb _ _ (none-trace m (s .who) p))
 
   pub clean-nothing : kindOf (s .kind) ≡ clean → RefusedWhere rule m s 11 (NoCleanLine m (s .who))
   unfolding numbers-open first
   clean-nothing k =
       refused-where rule m s 10 (eqb (cleanLine m (s .who)) 0)
-      (step-number rule m s k ∙ (rw (f .no-fields .0, f .no-fields .1, f .no-fields .2, le-ltb 7 (s .who) (omega arith), f .in-cycle)))
+      (step-number rule m s k ∙ (rw (f .zero-bytes, f .no-fields .0, f .no-fields .1, f .no-fields .2, le-ltb 7 (s .who) (omega arith), f .in-cycle)))
       (λ e. clean-none m (s .who) (eqb-true _ _ e)) (λ p. eq-eqb _ _ (none-clean m (s .who) p))
 
 -- ---- 11: "if the card isn't dirty or its count isn't 0"
@@ -185,7 +186,7 @@ module _ (rule : Placing) (m : Image) (s : Step) (u : Undamaged m) (f : GoodUndi
   undirty-nothing k =
       let counted : List Bool = not (eqb (cardCount m (s .a)) 0) ∷ [] in
       refused-where rule m s 10 (nothingToDo m s undirty)
-      (step-number rule m s k ∙ (rw (f .no-fields .0, f .no-fields .1, f .no-fields .2, lt-leb (m .k) (s .a) (f .card), f .in-cycle)))
+      (step-number rule m s k ∙ (rw (f .zero-bytes, f .no-fields .0, f .no-fields .1, f .no-fields .2, lt-leb (m .k) (s .a) (f .card), f .in-cycle)))
       (λ e. elim (some-use (not (dirty m (s .a))) counted e) [
         | inl q ↦ inl (not-true _ q)
         | inr q ↦ elim (some-use (not (eqb (cardCount m (s .a)) 0)) [] q) [ inl z ↦ inr (some-marked (eqb-false _ _ (not-true _ z))) | inr z ↦ some-nil z ]

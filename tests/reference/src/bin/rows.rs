@@ -1,13 +1,16 @@
-//! Reads cases in the vectors' format from standard input and prints each as theorems of antt: the model's definitions,
+//! Reads cases in the vectors' format from standard input, with `wide` behind the name those of the wide store, and prints each as theorems of antt: the model's definitions,
 //! computed by the checker, give what the case says. A batch that the lowest run would answer or leave otherwise is printed under that
-//! rule too, with what the second implementation does; of an accepted batch the trace and clean steps are counted as well.
+//! rule too, with what the second implementation does; of an accepted batch the trace and clean steps are counted as well. Of a wide case the image
+//! is judged besides, and a fresh store made of its words.
 
 use std::fmt::Display;
 use std::io::Read;
 
 use reference::cases::otherwise_by_lowest;
-use reference::vectors::{parse, BatchCase, Case, FinishCase, MapCase, ReportCase, UNTOUCHED, UNTOUCHED_BYTE};
+use reference::vectors::{parse, parse_wide, BatchCase, Case, FinishCase, MapCase, ReportCase};
+use reference::vectors::{UNTOUCHED, UNTOUCHED_BYTE};
 use reference::work::work_in;
+use reference::{fresh, judge};
 
 const HEAD: &str = "\
 use mathlib.Core.Path.{_≡_, refl}
@@ -15,6 +18,7 @@ use mathlib.Core.List.{List, [], _∷_, _++_}
 use Prim.Native.Nat.{ℕ}
 use lib.ListN.{replicate}
 use Rattle.model.specs.Mutate.{lowest, tightest}
+use Rattle.model.specs.Undamaged.{Made, freshAt, judgeAt}
 use Rattle.model.specs.Batch.{Batch, Finished, judgeOf, batchAt, batchOf, finishOf, events}
 use Rattle.model.specs.Bound.{workIn}
 use Rattle.model.specs.Map.{Mapped, mapOf}
@@ -30,8 +34,19 @@ runs (n ∷ v ∷ l) = replicate n v ++ runs l
 fn main() {
     let mut text = String::new();
     std::io::stdin().read_to_string(&mut text).expect("standard input is text");
-    let cases = parse(&text).expect("cases in the vectors' format");
     println!("{HEAD}");
+    match std::env::args().nth(1).as_deref() {
+        None => print_narrow(&text),
+        Some("wide") => print_wide(&text),
+        Some(_) => {
+            eprintln!("usage: rows [wide]");
+            std::process::exit(2);
+        }
+    }
+}
+
+fn print_narrow(text: &str) {
+    let cases = parse(text).expect("cases in the vectors' format");
     for (number, case) in cases.iter().enumerate() {
         match case {
             Case::Batch(case) => print_batch(number, case),
@@ -40,6 +55,20 @@ fn main() {
             Case::Map(case) => print_map(number, case),
             Case::Report(case) => print_report(number, case),
         }
+    }
+}
+
+fn print_wide(text: &str) {
+    let cases = parse_wide(text).expect("cases in the vectors' format");
+    for (number, case) in cases.iter().enumerate() {
+        print_batch_by("batchAt tightest 32", number, "batch", case);
+        let image = runs(&case.image);
+        let verdict = judge(&case.image).to_string();
+        print_theorem(number, "judged", &case.name, "ℕ", &format!("judgeAt 32 {image}"), &verdict);
+        let mut made = case.image.clone();
+        let result = fresh(&mut made);
+        let gives = format!("record {{ result = {result}; image = {} }}", runs(&made));
+        print_theorem(number, "fresh", &case.name, "Made", &format!("freshAt 32 {image}"), &gives);
     }
 }
 
@@ -55,7 +84,12 @@ fn print_batch(number: usize, case: &BatchCase) {
     }
 }
 
-fn print_batch_by(definition: &str, number: usize, what: &str, case: &BatchCase) {
+fn print_batch_by<W: Copy + Display + Into<u64> + PartialEq>(
+    definition: &str,
+    number: usize,
+    what: &str,
+    case: &BatchCase<W>,
+) {
     let call =
         format!("{definition} {} ({}) (replicate {} {UNTOUCHED})", runs(&case.image), list(&case.steps), case.answers);
     let gives =
@@ -94,7 +128,7 @@ fn list<T: Display>(items: &[T]) -> String {
 }
 
 /// Equal words or bytes in a row are written once, with their number before them.
-fn runs<T: Copy + PartialEq + Into<usize>>(items: &[T]) -> String {
-    let pairs: Vec<usize> = items.chunk_by(|a, b| a == b).flat_map(|run| [run.len(), run[0].into()]).collect();
+fn runs<T: Copy + PartialEq + Into<u64>>(items: &[T]) -> String {
+    let pairs: Vec<u64> = items.chunk_by(|a, b| a == b).flat_map(|run| [run.len() as u64, run[0].into()]).collect();
     format!("(runs ({}))", list(&pairs))
 }

@@ -3,6 +3,7 @@
 use std::collections::{BTreeMap, BTreeSet};
 
 use super::first::First;
+use super::form::Form;
 use super::record::{LOAD, NEW};
 use super::{Name, Reference, Value};
 
@@ -11,35 +12,34 @@ pub struct Reading {
     /// The granules at which objects start in the first image.
     first: BTreeSet<usize>,
     /// By value, the place of the last accepted new that had it.
-    last_new: BTreeMap<u16, usize>,
+    last_new: BTreeMap<usize, usize>,
 }
 
 impl Reading {
-    pub fn of(first_image: &[u16]) -> Reading {
+    pub fn of<W: Form>(first_image: &[W]) -> Reading {
         let first = First::of(first_image).objects().map(|object| object.granule).collect();
         Reading { first, last_new: BTreeMap::new() }
     }
 
-    /// The value of a player's record at its place in the list: "the value g of an accepted new or load is compared as the object [..].
+    /// The value of a player's record of that kind at its place in the list: "the value g of an accepted new or load is compared as the object [..].
     /// Other values, and all numbers, must be equal as they are."
-    pub fn value(&mut self, bytes: &[u8], place: usize, number: u16, value: u16) -> Result<Value, String> {
-        if (bytes[0], number) == (NEW, 0) {
+    pub fn value(&mut self, kind: u8, place: usize, number: usize, value: usize) -> Result<Value, String> {
+        if (kind, number) == (NEW, 0) {
             self.last_new.insert(value, place);
         }
-        match (bytes[0], number) {
+        match (kind, number) {
             (NEW | LOAD, 0) => self.object(value).map(Value::Object),
-            _ => Ok(Value::Number(value)),
+            _ => Ok(Value::Number(value as u64)),
         }
     }
 
     /// "the object of the last accepted new with value g, this one included, or, with none, the one starting at g in the first image;
     /// 0 as nil"
-    fn object(&self, g: u16) -> Result<Reference, String> {
-        let in_image = usize::from(g);
+    fn object(&self, g: usize) -> Result<Reference, String> {
         match self.last_new.get(&g) {
             _ if g == 0 => Ok(None),
             Some(&place) => Ok(Some(Name::Place(place))),
-            None if self.first.contains(&in_image) => Ok(Some(Name::Granule(in_image))),
+            None if self.first.contains(&g) => Ok(Some(Name::Granule(g))),
             None => Err(format!("no object was ever at {g}")),
         }
     }

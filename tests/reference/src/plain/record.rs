@@ -1,8 +1,7 @@
-//! A player's record as the plain store reads it. Read from the 8 bytes anew, and not by `crate::record`, which the real steps
-//! use: a mistake made there would else be made here too, and no list would show it.
+//! A player's record as the plain store reads it, from the fields that `form` reads from the bytes, and not by `crate::record`, which the real steps
+//! use.
 
-/// "records of 8 bytes with no header"
-pub const RECORD_BYTES: usize = 8;
+use super::form::Fields;
 
 pub const NEW: u8 = 1;
 pub const LOAD: u8 = 2;
@@ -17,7 +16,7 @@ pub enum Act {
     Hand { own: usize, receiver: usize, register: usize },
     Drop { register: usize },
     Read { from: usize, level: usize },
-    Write { into: usize, level: usize, word: u16 },
+    Write { into: usize, level: usize, word: u64 },
 }
 
 /// A place that an object must have.
@@ -32,11 +31,11 @@ pub fn is_of_a_player(bytes: &[u8]) -> bool {
     matches!(bytes[0], 1..=8)
 }
 
-/// The player and the act of a player's record, or the number that refuses it: "Fields not named are 0", else 3; "player or
+/// The player and the act of a player's record, or the number that refuses it: "Fields not named are 0", and "a zero byte", else 3; "player or
 /// register above 15", 4.
-pub fn read(bytes: &[u8]) -> Result<(usize, Act), u16> {
-    let player = usize::from(bytes[1]);
-    let act = named(bytes).ok_or(3u16)?;
+pub fn read(fields: Fields) -> Result<(usize, Act), u16> {
+    let player = fields.who;
+    let act = named(fields).filter(|_| !fields.is_stray).ok_or(3u16)?;
     let on_the_desk = player <= 15 && act.registers().iter().flatten().all(|&r| r <= 15);
     match act {
         Act::Hand { receiver, .. } if receiver > 15 => Err(4),
@@ -46,10 +45,8 @@ pub fn read(bytes: &[u8]) -> Result<(usize, Act), u16> {
 }
 
 /// The act of kinds 1 to 8, if every field that its line does not name is 0.
-fn named(bytes: &[u8]) -> Option<Act> {
-    let field = |low: usize| bytes[low] as u16 + 256 * bytes[low + 1] as u16;
-    let number = |low: usize| field(low) as usize;
-    match (bytes[0], number(2), number(4), number(6)) {
+fn named(fields: Fields) -> Option<Act> {
+    match (fields.kind, fields.a as usize, fields.b as usize, fields.c as usize) {
         (1, register, granules, links) => Some(Act::New { register, granules, links }),
         (2, into, from, link) => Some(Act::Load { into, from, link }),
         (3, into, link, what) => Some(Act::Store { into, link, what }),
@@ -57,7 +54,7 @@ fn named(bytes: &[u8]) -> Option<Act> {
         (5, own, receiver, register) => Some(Act::Hand { own, receiver, register }),
         (6, register, 0, 0) => Some(Act::Drop { register }),
         (7, from, level, 0) => Some(Act::Read { from, level }),
-        (8, into, level, _) => Some(Act::Write { into, level, word: field(6) }),
+        (8, into, level, _) => Some(Act::Write { into, level, word: fields.c }),
         _ => None,
     }
 }
@@ -97,7 +94,36 @@ impl Act {
 
 #[cfg(test)]
 mod tests {
+    use super::super::form::Form;
     use super::*;
+
+    fn read(bytes: &[u8]) -> Result<(usize, Act), u16> {
+        super::read(u16::fields(bytes))
+    }
+
+    /// The bytes of a record of 16, given in fours.
+    fn read_wide(fours: [[u8; 4]; 4]) -> Result<(usize, Act), u16> {
+        super::read(u32::fields(&fours.concat()))
+    }
+
+    #[test]
+    fn wide_fields_low_byte_first() {
+        let write = [[8, 2, 0, 0], [3, 0, 0, 0], [4, 1, 2, 3], [9, 8, 7, 0xf6]];
+        assert_eq!(read_wide(write), Ok((2, Act::Write { into: 3, level: 0x0302_0104, word: 0xf607_0809 })));
+        let new = [[1, 15, 0, 0], [15, 0, 0, 0], [0, 0, 1, 0], [0, 1, 0, 0]];
+        assert_eq!(read_wide(new), Ok((15, Act::New { register: 15, granules: 65_536, links: 256 })));
+    }
+
+    #[test]
+    fn wide_fields_are_compared_whole_and_zero_bytes_come_first() {
+        let register = [[6, 0, 0, 0], [0, 0, 1, 0], [0; 4], [0; 4]];
+        assert_eq!(read_wide(register), Err(4));
+        for place in [2, 3] {
+            let mut stray = register;
+            stray[0][place] = 1;
+            assert_eq!(read_wide(stray), Err(3));
+        }
+    }
 
     #[test]
     fn fields_low_byte_first() {

@@ -1,50 +1,53 @@
 //! Wrong implementations: a right step, and what it has done altered afterwards.
 
-use reference::image::{Image, Store};
+use reference::image::{ImageOf, Store, StoreOf};
+use reference::layout::Places;
 use reference::record::*;
 use reference::steps::step;
-use reference::{batch, judge, Record};
+use reference::width::Width;
+use reference::{batch, judge};
 
 /// What a step got and has done; a wrong implementation changes image or answer.
-pub struct Done<'a> {
-    pub got: &'a [u16],
-    pub record: Record,
-    pub image: &'a mut [u16],
-    pub answer: &'a mut [u16],
+pub struct Done<'a, W: Width = u16> {
+    pub got: &'a [W],
+    pub record: RecordOf<W>,
+    pub image: &'a mut [W],
+    pub answer: &'a mut [W],
 }
 
-impl Done<'_> {
+impl<W: Width> Done<'_, W> {
     pub fn is_accepted(&self, kind: u8) -> bool {
-        self.record.kind == kind && self.answer[0] == 0
+        self.record.kind == kind && self.answer[0] == W::default()
     }
 
-    pub fn store(&mut self) -> Store<'_> {
-        Store::of(self.image).unwrap()
+    pub fn store(&mut self) -> StoreOf<'_, W> {
+        StoreOf::of(self.image).unwrap()
     }
 
-    pub fn got(&self) -> Image<'_> {
-        Image::of(self.got).unwrap()
+    pub fn got(&self) -> ImageOf<'_, W> {
+        ImageOf::of(self.got).unwrap()
     }
 
     /// Answers a number and leaves the image as it was.
-    pub fn refuse(&mut self, number: u16) {
+    pub fn refuse(&mut self, number: W) {
         self.image.copy_from_slice(self.got);
-        self.answer.copy_from_slice(&[number, 0]);
+        self.answer.copy_from_slice(&[number, W::default()]);
     }
 }
 
 /// A batch that runs one record after the other and lets `alter` change what each has done.
-pub fn altered_batch(image: &mut [u16], steps: &[u8], answers: &mut [u16], alter: &impl Fn(&mut Done)) -> u16 {
-    if !steps.len().is_multiple_of(8) || answers.len() * 4 != steps.len() || judge(image) != 0 {
+pub fn altered_batch<W: Width>(image: &mut [W], steps: &[u8], answers: &mut [W], alter: &impl Fn(&mut Done<W>)) -> u16 {
+    let fits = steps.len().is_multiple_of(W::RECORD_BYTES) && answers.len() * W::RECORD_BYTES == 2 * steps.len();
+    if !fits || judge(image) != 0 {
         return batch(image, steps, answers);
     }
-    for (bytes, answer) in steps.chunks(8).zip(answers.chunks_mut(2)) {
+    for (bytes, answer) in steps.chunks(W::RECORD_BYTES).zip(answers.chunks_mut(2)) {
         let got = image.to_vec();
         if batch(image, bytes, answer) != 0 {
             // An earlier step has damaged the image; the check has the images between.
             return 2;
         }
-        alter(&mut Done { got: &got, record: Record::from_bytes(bytes), image, answer });
+        alter(&mut Done { got: &got, record: RecordOf::from_bytes(bytes), image, answer });
     }
     0
 }

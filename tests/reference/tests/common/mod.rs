@@ -3,13 +3,16 @@
 #![allow(dead_code)]
 
 pub mod altered;
+pub mod misread;
 
 use reference::batch;
 use reference::cases::{case, cycles, maps};
 use reference::made::fresh_image;
 use reference::random::Random;
 use reference::reports::reports;
-use reference::vectors::{BatchCase, Case, MapCase, ReportCase};
+use reference::vectors::{untouched, BatchCase, Case, MapCase, ReportCase};
+use reference::wide;
+use reference::width::Width;
 
 pub use reference::record::*;
 pub use reference::Record;
@@ -66,13 +69,13 @@ pub fn undirty(card: u16) -> Record {
     step(UNDIRTY, 0, card, 0, 0)
 }
 
-pub fn bytes(records: &[Record]) -> Vec<u8> {
+pub fn bytes<W: Width>(records: &[RecordOf<W>]) -> Vec<u8> {
     records.iter().flat_map(|r| r.to_bytes()).collect()
 }
 
 /// Runs a list in one accepted batch and gives the answers as number and value.
-pub fn run(image: &mut [u16], records: &[Record]) -> Vec<(u16, u16)> {
-    let mut answers = vec![0x5aa5; 2 * records.len()];
+pub fn run<W: Width>(image: &mut [W], records: &[RecordOf<W>]) -> Vec<(W, W)> {
+    let mut answers = vec![untouched(); 2 * records.len()];
     assert_eq!(batch(image, &bytes(records), &mut answers), 0);
     answers.chunks(2).map(|answer| (answer[0], answer[1])).collect()
 }
@@ -135,6 +138,12 @@ pub fn maps_of_the_gate() -> Vec<MapCase> {
 pub fn reports_of_the_gate() -> Vec<ReportCase> {
     let (seed, count) = seed_and_count();
     in_files(32, seed, 2 * count, reports)
+}
+
+/// The batches of the wide store that it computes, one for two of these cases.
+pub fn wide_cases_of_the_gate() -> Vec<BatchCase<u32>> {
+    let (seed, count) = seed_and_count();
+    in_files(10, seed, count.div_ceil(2), wide::cases::cases)
 }
 
 pub fn gate_cases(seed: u64, count: u64) -> Vec<Case> {

@@ -7,10 +7,10 @@ use Rattle.soundness.proofs.heap.walk.Statement.{statement}
 use Rattle.soundness.proofs.heap.walk.Tie as tie
 
 abbrev Inv-loop : tie.InvT-loop
-Inv-loop im k targets from first g₀ next₀ end₀ seen₀ g next end seen = HeapWalk width k im g next end seen
+Inv-loop im k table from first g₀ next₀ end₀ seen₀ g next end seen = HeapWalk width k im g next end seen
 
 abbrev μ-loop : tie.MeasureT-loop
-μ-loop im k targets from first g₀ next₀ end₀ seen₀ g next end seen = 64 * k - g
+μ-loop im k table from first g₀ next₀ end₀ seen₀ g next end seen = 64 * k - g
 
 loop-less : tie.Need-loop-less Inv-loop μ-loop
 loop-less c =
