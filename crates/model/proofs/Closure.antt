@@ -36,6 +36,7 @@ add_all_mono (g ∷ gs) s h e = add_all_mono gs (set s g true) h (set_mono s g h
 
 add_all_has : (gs : List ℕ) (s : List Bool) (a : ℕ) → Memᴰ a gs → a < length s → In (add_all gs s) a
 unfolding add_all
+add_all_has [] s a x'' h = elim x'' [ ]
 add_all_has (g ∷ gs) s a (Memᴰ.head e) h = add_all_mono gs (set s g true) a (rw e (get_or-set_same s g true false (omega arith)))
 add_all_has (g ∷ gs) s a (Memᴰ.tail m) h = add_all_has gs (set s g true) a m (omega (arith, length-set s g true))
 

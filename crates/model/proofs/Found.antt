@@ -34,6 +34,7 @@ non_nil_use a (suc g ∷ l) (Memᴰ.tail k) = let r = non_nil_use a l k in (Mem�
 
 pub non_nil_make : (a : ℕ) (l : List ℕ) → Mem a l → (a ≡ 0 → ⊥) → Mem a (non_nil l)
 unfolding non_nil
+non_nil_make a [] x'' nz = elim x'' [ ]
 non_nil_make a (zero ∷ l) (Memᴰ.head e) nz = absurd (nz e)
 non_nil_make a (zero ∷ l) (Memᴰ.tail h) nz = non_nil_make a l h nz
 non_nil_make a (suc g ∷ l) (Memᴰ.head e) nz = Memᴰ.head e
@@ -67,6 +68,7 @@ table_in (suc n) f (suc i) e = suc-le-suc (table_in n (λ j. f (suc j)) i e)
 -- members of a list by place_of
 pub place_of : (a : ℕ) (l : List ℕ) → Mem a l → (i : ℕ) × (i < length l) × (nth l i ≡ a)
 unfolding nth
+place_of a [] x' = elim x' [ ]
 place_of a (x ∷ l) (Memᴰ.head e) = (0, omega arith, sym e)
 place_of a (x ∷ l) (Memᴰ.tail h) = let r = place_of a l h in (suc r.0, suc-le-suc r.1, r.2)
 

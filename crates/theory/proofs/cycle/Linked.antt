@@ -41,6 +41,7 @@ module _ (rule : Placing) (Ok : Image → Type 0) (st : Steady rule Ok) where
   linked_ok (l_cons e g d p) o = linked_ok p (done_ok e (record { got_ok = subst Ok (sym g) o; is_step = d }))
 
   pub linked_fine : {m n : Image} {es : List Event} → Successive rule m es n → Ok m → (e : Event) → Memᴰ e es → Fine rule Ok e
+  linked_fine (l_nil {m = m}) o e x9 = elim x9 [ ]
   linked_fine (l_cons x g d p) o e (Memᴰ.head q) = subst (Fine rule Ok) (sym q) (record { got_ok = subst Ok (sym g) o; is_step = d })
   linked_fine (l_cons x g d p) o e (Memᴰ.tail k) = linked_fine p (done_ok x (record { got_ok = subst Ok (sym g) o; is_step = d })) e k
 

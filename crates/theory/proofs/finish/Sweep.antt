@@ -98,7 +98,7 @@ module _ (st keep : ℕ → Bool) (kept : (g : ℕ) → keep g ≡ true → st g
   sweep_ok {g} (suc n) (f_object s ws rest e o ba f) l =
       let r : Swept = sweep st keep n (g + s) rest in
       let len : 4 * s + length rest ≡ suc (length (ws ++ rest)) = omega (arith, length-append ws rest, o.long) in
-      let ok : SweptOk keep (g + s) (length rest) r = sweep_ok n f (omega (arith, o.long)) in
+      let ok : SweptOk keep (g + s) (length rest) r = sweep_ok {g = g + s} n f (omega (arith, o.long)) in
       rw (sweep_piece n g s ws rest o.long) (elim (bool_cases (keep g)) [
         | inl k ↦ rw (k, swept) (record {
           behind = rw add-zero (f_object s ws _ k o (λ h p q. not_kept h (ba h p q)) (swept_filled (g + s) (length rest) _ ok));
@@ -110,7 +110,7 @@ module _ (st keep : ℕ → Bool) (kept : (g : ℕ) → keep g ≡ true → st g
   sweep_ok {g} (suc n) (f_run m next rest e ba f) l =
       let len : 4 * suc m + length rest ≡ suc (length (run_tail m next ++ rest)) = omega (arith, length-append (run_tail m next) rest, length_run m next) in
       rw (sweep_piece n g (suc m) (run_tail m next) rest (length_run m next), not_kept g e, ← len)
-      (freed_ok g (suc m) (length rest) _ _ (omega arith) (not_kept g e) ba (sweep_ok n f (omega arith)))
+      (freed_ok g (suc m) (length rest) _ _ (omega arith) (not_kept g e) ba (sweep_ok {g = g + suc m} n f (omega arith)))
 
   -- ---- word i of a kept object at h stays
 
@@ -134,7 +134,7 @@ module _ (st keep : ℕ → Bool) (kept : (g : ℕ) → keep g ≡ true → st g
             let here : nth ((s ∷ ws) ++ rest) (4 * (h - g)) ≡ s = ap (nth ((s ∷ ws) ++ rest)) z ∙ nth_head s (ws ++ rest) in
             rw (kg, swept) (stays_here g s h i _ _ (s ∷ ws) rest _ lo x (omega arith))
         | no y ↦
-            let ih = sweep_stays n f (omega arith) h i (omega arith) (omega arith) k (omega (arith, head_behind g s h (s ∷ ws) rest lo (omega arith))) in
+            let ih = sweep_stays {g = g + s} n f (omega arith) h i (omega arith) (omega arith) k (omega (arith, head_behind g s h (s ∷ ws) rest lo (omega arith))) in
             elim (bool_cases (keep g)) [
               | inl b ↦ rw (b, swept) (stays_kept g s h i _ _ (s ∷ ws) rest _ lo (omega arith) ih)
               | inr b ↦ rw (b, swept) (stays_freed g s h i _ (s ∷ ws) rest _ lo (omega arith) ih)
@@ -146,6 +146,6 @@ module _ (st keep : ℕ → Bool) (kept : (g : ℕ) → keep g ≡ true → st g
       rw (sweep_piece n g (suc m) (run_tail m next) rest lr, not_kept g t) (elim (dec_lt h (g + suc m)) [
         | yes y ↦ let x : h ≡ g = in_piece g (suc m) h ba p y k in false≢ (sym t ∙ (rw x at (kept h k)))
         | no y ↦
-            let ih = sweep_stays n f (omega arith) h i (omega arith) (omega arith) k (omega (arith, head_behind g (suc m) h (run_words m next) rest lr (omega arith))) in
+            let ih = sweep_stays {g = g + suc m} n f (omega arith) h i (omega arith) (omega arith) k (omega (arith, head_behind g (suc m) h (run_words m next) rest lr (omega arith))) in
             stays_freed g (suc m) h i _ (run_words m next) rest _ lr (omega arith) ih
       ])

@@ -91,7 +91,7 @@ module _ (st keep : ℕ → Bool) (kept : (g : ℕ) → keep g ≡ true → st g
   freed_count {g} (suc n) f_end a q l = let x : e ≡ g = omega arith in rw x (omega arith)
   freed_count {g} (suc n) (f_object s ws rest t o ba f) a q l =
       let j : length (ws ++ rest) ≡ length ws + length rest = length-append ws rest in
-      let ih = freed_count n f (reads_behind st rd e g s (s ∷ ws) rest o.long a) (omega arith) (omega arith) in
+      let ih = freed_count {g = g + s} n f (reads_behind st rd e g s (s ∷ ws) rest o.long a) (omega arith) (omega arith) in
       let w : rd g 0 ≡ s = front st rd e g 0 ((s ∷ ws) ++ rest) a ∙ nth_head s (ws ++ rest) in
       let all_past : sum_below (sizes st rd) (g + s) ≡ sum_below (sizes st rd) g + s = omega (arith, total_past st rd g s (omega arith) ba, sizes_yes st rd g t) in
       let kept-past = total_past keep rd g s (omega arith) (bare_kept g s ba) in
@@ -103,7 +103,7 @@ module _ (st keep : ℕ → Bool) (kept : (g : ℕ) → keep g ≡ true → st g
   freed_count {g} (suc n) (f_run i next rest t ba f) a q l =
       let r : suc (length (run_tail i next)) ≡ 4 * suc i = length_run i next in
       let j : length (run_tail i next ++ rest) ≡ length (run_tail i next) + length rest = length-append (run_tail i next) rest in
-      let ih = freed_count n f (reads_behind st rd e g (suc i) (run_words i next) rest r a) (omega arith) (omega arith) in
+      let ih = freed_count {g = g + suc i} n f (reads_behind st rd e g (suc i) (run_words i next) rest r a) (omega arith) (omega arith) in
       let no : keep g ≡ false = not_kept st keep kept g t in
       let all_past = total_past st rd g (suc i) (omega arith) ba in
       let kept-past = total_past keep rd g (suc i) (omega arith) (bare_kept g (suc i) ba) in

@@ -68,7 +68,7 @@ module _ (m : Image) where
 
   pub all_runs : granules_in_runs 0 m ≡ free_granules m
   unfolding granules_in_runs if_long free_granules free_from
-  all_runs = ap (λ v. sum_runs v m (granules m) (first_run m)) (fun_ext (λ n. rw (le-leb 0 n (omega arith))))
+  all_runs = ap (λ v. sum_runs v m (granules m) (first_run m)) (fun_ext (λ n. ap (λ b. cond b n 0) (le-leb 0 n (omega arith))))
 
   -- the chain has just the granules that are in no object, but granule 0
   pub free_outside : HeapFilled m → HeapSized m → free_granules m + 1 ≡ granules_outside m

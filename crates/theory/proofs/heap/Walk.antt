@@ -81,10 +81,10 @@ fill_make zero f l = absurd (omega arith)
 fill_make (suc n) f_end l = unfold fill in refl
 fill_make {st} {g} {next = next} {run = b} (suc n) (f_object s ws rest q o ba f) l =
     fill_piece st n g s (ws ++ rest) next b true q (object-ok st g s ws rest next b o ba)
-    (rw (drop_at (s ∷ ws) rest (4 * s) o.long) (fill_make n f (omega (arith, length-append ws rest))))
+    (rw (drop_at (s ∷ ws) rest (4 * s) o.long) (fill_make {g = g + s} n f (omega (arith, length-append ws rest))))
 fill_make {st} {g} (suc n) (f_run m next rest q ba f) l =
     fill_piece st n g (suc m) (run_tail m next ++ rest) g false false q (run-ok st g m rest next ba)
-    (rw (drop_at (run_words m next) rest (4 * suc m) (length_run m next), run_head m next rest) (fill_make n f (omega (arith, length-append (run_tail m next) rest, length_run m next))))
+    (rw (drop_at (run_words m next) rest (4 * suc m) (length_run m next), run_head m next rest) (fill_make {g = g + suc m} n f (omega (arith, length-append (run_tail m next) rest, length_run m next))))
 
 -- ---- of an image
 

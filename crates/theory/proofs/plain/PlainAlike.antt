@@ -50,7 +50,7 @@ module _ (m : Image) (s : Step) (q : PlainStore) (name : ℕ → Object) (i : �
   -- a register of a player on the desk
   pub in_register : (r : ℕ) → s.who < 16 → r < 16 → holding q s r ≡ name (object m s r)
   unfolding holding object
-  in_register r hp hr = S.same_Reg s.who r hp hr
+  in_register r hp hr = S.same_reg s.who r hp hr
 
   pub held_chain : (r : ℕ) → s.who < 16 → r < 16 → (object m s r ≡ 0 → ⊥) → Chain m (object m s r)
   unfolding object
