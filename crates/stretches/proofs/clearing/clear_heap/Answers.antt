@@ -1,0 +1,6 @@
+use borrow.Author.Rules.{rules}
+use Rattle.image_laws.proofs.Clearing.{zero_heap}
+use Rattle.stretches.proofs.clearing.clear_heap.Goals as goal
+
+pub returns : goal.returns
+returns c = search zero_heap
