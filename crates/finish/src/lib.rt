@@ -15,7 +15,7 @@ use runs_laws::Free;
 pub mod step; // step.rt: kind 13, the finish as a step
 
 // The value, granules freed, by which the free granules grow; and all of these.
-#[derive(Drop)]
+#[derive(Clone, Copy)]
 pub struct Freed {
     pub value: Word,
     pub free: Free,

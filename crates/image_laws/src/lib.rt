@@ -1,13 +1,13 @@
 // The laws of words, sections and bits for a width left open.
 // The number of cards of a store, or that no store has that length.
-#[derive(Drop)]
+#[derive(Clone, Copy)]
 pub enum Extent {
     Cards(usize),
     Misfit,
 }
 
 // What a call comes to.
-#[derive(Drop)]
+#[derive(Clone, Copy)]
 pub enum Verdict {
     Accepted,
     Misfit,

@@ -7,7 +7,7 @@ ghost use Rattle.request_laws.specs.Request.{requested, InRange};
 use image::layout::RECORD;
 use request_laws::Request;
 
-#[derive(Drop)]
+#[derive(Clone, Copy)]
 pub struct Reader<'a> {
     pub bytes: &'a [u8],
     pub at: usize,

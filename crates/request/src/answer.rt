@@ -4,7 +4,7 @@ ghost use Rattle.request.specs.Answer.{number_of, value_of};
 
 use image::layout::Word;
 
-#[derive(Drop)]
+#[derive(Clone, Copy)]
 pub enum Answer {
     Done(Word),
     Unknown,

@@ -1,6 +1,6 @@
 // What the kinds share whatever the width: a request, what numbers 3 to 5 say of it, and the laws of a step by its number.
 // The fields of a step's record.
-#[derive(Drop)]
+#[derive(Clone, Copy)]
 pub struct Request {
     pub kind: usize,
     pub who: usize,
@@ -11,7 +11,7 @@ pub struct Request {
 }
 
 // What numbers 3 to 5 say of a request.
-#[derive(Drop)]
+#[derive(Clone, Copy)]
 pub enum Admission {
     Unknown,
     OffDesk,

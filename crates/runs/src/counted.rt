@@ -2,7 +2,7 @@
 use request::answer::Answer;
 use runs_laws::Free;
 
-#[derive(Drop)]
+#[derive(Clone, Copy)]
 pub struct Counted {
     pub answer: Answer,
     pub free: Free,

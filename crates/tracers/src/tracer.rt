@@ -6,7 +6,7 @@ ghost use Rattle.tracers.specs.Plain.{tracer_of};
 
 use image::layout::Word;
 
-#[derive(Drop)]
+#[derive(Clone, Copy)]
 pub struct Tracer {
     pub input: Word,
     pub output: Word,

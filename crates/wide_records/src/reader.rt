@@ -7,7 +7,7 @@ ghost use Rattle.request_laws.specs.Request.{requested, InRange};
 use request_laws::Request;
 use wide_image::layout::RECORD;
 
-#[derive(Drop)]
+#[derive(Clone, Copy)]
 pub struct Reader<'a> {
     pub bytes: &'a [u8],
     pub at: usize,

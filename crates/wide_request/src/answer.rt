@@ -4,7 +4,7 @@ ghost use Rattle.wide_request.specs.Answer.{number_of, value_of};
 
 use wide_image::layout::Word;
 
-#[derive(Drop)]
+#[derive(Clone, Copy)]
 pub enum Answer {
     Done(Word),
     Unknown,

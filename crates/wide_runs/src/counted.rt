@@ -2,7 +2,7 @@
 use runs_laws::Free;
 use wide_request::answer::Answer;
 
-#[derive(Drop)]
+#[derive(Clone, Copy)]
 pub struct Counted {
     pub answer: Answer,
     pub free: Free,

@@ -10,7 +10,7 @@ use runs_laws::Free;
 use wide_image::layout::Word;
 
 // The first granule of the lowest kept object so far, and the free granules behind it.
-#[derive(Drop)]
+#[derive(Clone, Copy)]
 pub struct Edge {
     pub start: usize,
     pub free: Free,

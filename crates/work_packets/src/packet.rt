@@ -10,7 +10,7 @@ ghost use Rattle.work_packets.specs.Plain.{packet_of};
 
 use image::layout::{PACKETS, PER_CARD, Word};
 
-#[derive(Drop)]
+#[derive(Clone, Copy)]
 pub struct Packet {
     pub count: usize,
     pub entries: [Word; 30],

@@ -171,7 +171,7 @@ module _ (G : ℕ) (m old : Image) (H : List ℕ) (lH : length H ≡ 4 * G) (hg 
       let lo : suc (length ws) ≡ 4 * s = o.long in
       subst (Good g next) (sym (sweep_piece (is_start m) (marked m) kept n g s ws rest o.long))
       (good_piece g s next next ws rest (sweep (is_start m) (marked m) n (g + s) rest) ba ew o.long (omega arith)
-      (fold n f (omega arith) (omega arith) (omega arith) (words_behind H g s ws rest ew o.long)) (marked m g) refl
+      (fold {g = g + s} n f (omega arith) (omega arith) (omega arith) (words_behind H g s ws rest ew o.long)) (marked m g) refl
       (object_counts g s next (s ∷ ws) (sweep (is_start m) (marked m) n (g + s) rest) (marked m g) t))
   fold {g} (suc n) (f_run j next rest t ba f) h l e ew =
       let la : length (run_tail j next ++ rest) ≡ length (run_tail j next) + length rest = length-append (run_tail j next) rest in
@@ -179,7 +179,7 @@ module _ (G : ℕ) (m old : Image) (H : List ℕ) (lH : length H ≡ 4 * G) (hg 
       let u : marked m g ≡ false = not_kept (is_start m) (marked m) kept g t in
       subst (Good g g) (sym (sweep_piece (is_start m) (marked m) kept n g (suc j) (run_tail j next) rest (length_run j next) ∙ ap (λ (b : Bool). swept (is_start m) g (suc j) (run_words j next) b (sweep (is_start m) (marked m) n (g + suc j) rest)) u))
       (good_piece g (suc j) g next (run_tail j next) rest (sweep (is_start m) (marked m) n (g + suc j) rest) ba ew (length_run j next) (omega arith)
-      (fold n f (omega arith) (omega arith) (omega arith) (words_behind H g (suc j) (run_tail j next) rest ew (length_run j next))) false u
+      (fold {g = g + suc j} n f (omega arith) (omega arith) (omega arith) (words_behind H g (suc j) (run_tail j next) rest ew (length_run j next))) false u
       (run_counts g j next rest (run_words j next) (sweep (is_start m) (marked m) n (g + suc j) rest) t h (omega arith) ew))
 
 -- ---- the whole sweep
