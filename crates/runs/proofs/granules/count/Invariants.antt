@@ -1,0 +1,14 @@
+use Rattle.image.specs.Layout.{width}
+use Rattle.runs_laws.proofs.Chain.{chain_measure}
+use Rattle.runs_laws.proofs.Granules.{CountingFree, free_first, free_end, free_in, free_less, free_next}
+use Rattle.runs_laws.proofs.Sound.{sound_linked}
+use Rattle.model.specs.Image.{granules, image_of, image}
+use native.Mathlib.Omega.{arith}
+use borrow.Author.Rules.{rules}
+use Rattle.runs.proofs.granules.count.Given as goal
+
+abbrev pub invariant-loop-g : goal.invariant-loop-g
+invariant-loop-g l = CountingFree (image_of width l.k l.im) l.f l.g
+
+abbrev pub decreases-loop-g : goal.decreases-loop-g
+decreases-loop-g l = chain_measure (granules (image_of width l.k l.im)) l.g

@@ -1,0 +1,12 @@
+use mathlib.Core.Path.{◌≡◌}
+use Prim.Native.Nat.{◌-◌, ◌≤◌}
+use borrow.Author.Rules.{rules}
+use lib.ListN.{length, take, length-set}
+use Rattle.tracers_laws.proofs.Copy.{alike_more, alike_done}
+use Rattle.work_packets.proofs.packet.thirty.Given as goal
+
+abbrev pub invariant-loop-j : goal.invariant-loop-j
+invariant-loop-j l = (l.j ≤ 30) × (take l.j l.e ≡ take l.j l.s) × (length l.e ≡ 30)
+
+abbrev pub decreases-loop-j : goal.decreases-loop-j
+decreases-loop-j l = 30 - l.j
