@@ -1,4 +1,6 @@
 // Granules told by bits: those of the image that a word may name, and sets in tables that are lent.
+#![tactic(auto)]
+
 ghost use Rattle.std.specs.Prelude.{◌≡◌, not, ◌&&◌, ◌||◌, ◌/◌, ◌<◌, min, eqb, leb, ltb, length, replicate};
 ghost use Rattle.model.specs.Base.{bit, set_bit};
 ghost use Rattle.model.specs.Image.{image_of, is_start, marked};

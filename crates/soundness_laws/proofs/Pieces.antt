@@ -7,7 +7,7 @@ use native.Mathlib.Omega.{arith}
 use lib.Dec.{eqb, leb}
 use lib.ListN.{length, take, drop, length-drop}
 use lib.Seq.{drop-cons}
-use borrow.Author.Tests.{leb-true, le-leb, not-true, not-false}
+use borrow.Author.Tests.{leb-true, le-leb}
 use Rattle.model.specs.Base.{nth, all, every, zeroes}
 use Rattle.model.specs.Image.{word, is_start, image_of}
 use Rattle.model.specs.Undamaged.{bare, piece}
@@ -126,16 +126,16 @@ module _ (w k : ℕ) (l : List ℕ) (z : Sized w k l) (g : ℕ) (hg : g < 64 * k
         (every_cons _ _ (bare_nowhere g s) (every_cons _ _ h.0 (every_cons _ _ h.1 (every_cons _ _ (tail_zero s h.2 h.3 ∙ a.1) every_nil)))))))
 
     -- the same words, where a run has few
-    pub run_short : (b : Bool) → not (run_head_ok k g next run s) ≡ false → b ≡ zeroes (take (4 * s - 2) (drop (4 * g + 2) (image_of w k l).heap)) → b ≡ run_ok (image_of w k l) g next run
-    run_short b h q = rw (run_is, not-false (run_head_ok k g next run s) h) q
+    pub run_short : (b : Bool) → run_head_ok k g next run s ≡ true → b ≡ zeroes (take (4 * s - 2) (drop (4 * g + 2) (image_of w k l).heap)) → b ≡ run_ok (image_of w k l) g next run
+    run_short b h q = rw (run_is, h) q
 
-    pub run_fits : not (run_head_ok k g next run s) ≡ false → (1 ≤ s) × (g + s ≤ 64 * k)
-    run_fits h = let r = run_use k g next run s (not-false _ h) in (r.2, r.3)
+    pub run_fits : run_head_ok k g next run s ≡ true → (1 ≤ s) × (g + s ≤ 64 * k)
+    run_fits h = let r = run_use k g next run s h in (r.2, r.3)
 
-    pub run_no : not (run_head_ok k g next run s) ≡ true → false ≡ run_ok (image_of w k l) g next run
-    run_no h = rw (run_is, not-true (run_head_ok k g next run s) h)
+    pub run_no : run_head_ok k g next run s ≡ false → false ≡ run_ok (image_of w k l) g next run
+    run_no h = rw (run_is, h)
 
-    pub run_yes : (b : Bool) → not (run_head_ok k g next run s) ≡ false → b ≡ zeroes (take (4 * g + 4 * s - (4 * g + 2)) (drop (4 * g + 2) (image_of w k l).heap)) → b ≡ run_ok (image_of w k l) g next run
+    pub run_yes : (b : Bool) → run_head_ok k g next run s ≡ true → b ≡ zeroes (take (4 * g + 4 * s - (4 * g + 2)) (drop (4 * g + 2) (image_of w k l).heap)) → b ≡ run_ok (image_of w k l) g next run
     run_yes b h q =
         let n : 4 * g + 4 * s - (4 * g + 2) ≡ 4 * s - 2 = omega arith in
         run_short b h (rw n at q)

@@ -7,7 +7,7 @@ use Rattle.map_signs.proofs.signs.furthest.Statement.{statement}
 use Rattle.map_signs.proofs.signs.furthest.Tie as tie
 
 mul-own : tie.Need-overflow-mul-own
-mul-own c = record { fits = omega (arith, own_most c.before.before.args.start (c.before.before.args.g + c.word.result), c.word.type-inv, c.before.before.requires.0.high) }
+mul-own c = record { fits = omega (arith, own_most c.before.before.args.start (c.before.before.args.g + c.word.result), c.word.type_inv, c.before.before.requires.0.high) }
 
 pub furthest-spec : {M : Type 1} → statement M
 unfolding size

@@ -15,10 +15,10 @@ abbrev decreases-loop : tie.decreases-loop
 decreases-loop im k c x₀ i₀ x i = 64 / width - i
 
 add-x : tie.Need-overflow-add-x invariant-loop decreases-loop
-add-x c = record { fits = joined_fits _ _ _ _ _ _ _ _ c.before.before.loop.invariant (omega arith) c.mark_word.ensures refl (omega (arith, c.mark_word.type-inv)) (omega arith) }
+add-x c = record { fits = joined_fits _ _ _ _ _ _ _ _ c.before.before.loop.invariant (omega arith) c.mark_word.ensures refl (omega (arith, c.mark_word.type_inv)) (omega arith) }
 
 loop-again : tie.Need-loop-preserved invariant-loop decreases-loop
-loop-again c = joined_more _ _ _ _ _ _ _ _ c.before.before.loop.invariant (omega arith) c.mark_word.ensures refl (omega (arith, c.mark_word.type-inv)) (omega arith)
+loop-again c = joined_more _ _ _ _ _ _ _ _ c.before.before.loop.invariant (omega arith) c.mark_word.ensures refl (omega (arith, c.mark_word.type_inv)) (omega arith)
 
 pub mark-bits-spec : {M : Type 1} → statement M
 mark-bits-spec =

@@ -17,7 +17,7 @@ abbrev decreases-loop : tie.decreases-loop
 decreases-loop im k bad₀ i₀ bad i = 64 * k / width - i
 
 loop-again : tie.Need-loop-preserved invariant-loop decreases-loop
-loop-again c = g_more _ _ _ _ _ c.before.before.before.loop.invariant (omega arith) (mark_word width _ _ _ _ _ c.before.mark_word.ensures c.start_word.ensures (omega (arith, c.before.mark_word.type-inv)) (omega (arith, c.start_word.type-inv)))
+loop-again c = g_more _ _ _ _ _ c.before.before.before.loop.invariant (omega arith) (mark_word width _ _ _ _ _ c.before.mark_word.ensures c.start_word.ensures (omega (arith, c.before.mark_word.type_inv)) (omega (arith, c.start_word.type_inv)))
 
 pub marks-ok-spec : {M : Type 1} → statement M
 marks-ok-spec =

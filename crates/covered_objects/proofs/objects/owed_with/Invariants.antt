@@ -1,0 +1,13 @@
+use Prim.Native.Nat.{◌-◌}
+use borrow.Author.Rules.{rules}
+use Rattle.model.specs.Image.{image_of}
+use Rattle.image.specs.Layout.{width}
+use Rattle.soundness_laws.proofs.Checks.{Sought, sought_none, sought_more, sought_end}
+use Rattle.judge_laws.specs.Order.{owes_holding}
+use Rattle.covered_objects.proofs.objects.owed_with.Given as goal
+
+abbrev pub invariant-loop-i : goal.invariant-loop-i
+invariant-loop-i l = Sought 16 (owes_holding (image_of width l.k l.im) l.g l.a) l.found l.i
+
+abbrev pub decreases-loop-i : goal.decreases-loop-i
+decreases-loop-i l = 16 - l.i

@@ -1,0 +1,16 @@
+use Prim.Native.Nat.{◌-◌}
+use borrow.Author.Rules.{rules}
+use Rattle.model.specs.Image.{image_of}
+use Rattle.model.specs.Undamaged.{count_ok}
+use Rattle.image.specs.Layout.{width}
+use Rattle.soundness_laws.proofs.Checks.{Checked, checked_none, checked_more, checked_end}
+use Rattle.cycle_sections.proofs.counts.counts_ok.Goals as goal
+
+pub loop-c-init : goal.loop-c-init
+loop-c-init c = checked_none
+
+pub loop-c-preserved : goal.loop-c-preserved
+loop-c-preserved c = search checked_more
+
+pub returns : goal.returns
+returns c = search checked_end

@@ -1,0 +1,7 @@
+use borrow.Author.Rules.{rules}
+use Rattle.finish_marking_laws.proofs.seeds.Opening.{open_word}
+use native.Mathlib.Omega.{arith}
+use Rattle.opened_cards.proofs.opening.open_word.Goals as goal
+
+pub returns : goal.returns
+returns c = open_word _ _ _ B.before.before.before.before.before.requires.0 _ _ _ _ (omega arith) c.mark_word.ensures c.start_word-s.ensures (omega arith) _ c.set_start_word.ensures

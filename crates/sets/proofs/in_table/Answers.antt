@@ -1,0 +1,6 @@
+use borrow.Author.Rules.{rules}
+use Rattle.soundness_laws.proofs.Sets.{table_bit}
+use Rattle.sets.proofs.in_table.Goals as goal
+
+pub returns : goal.returns
+returns c = search table_bit

@@ -1,0 +1,13 @@
+use Rattle.model.specs.Undamaged.{tracer_ok}
+use Prim.Native.Nat.{◌-◌}
+use borrow.Author.Rules.{rules}
+use Rattle.model.specs.Image.{image_of}
+use Rattle.image.specs.Layout.{width}
+use Rattle.soundness_laws.proofs.Checks.{Checked, checked_none, checked_more, checked_end}
+use Rattle.short_sections.proofs.hands.tracers_ok.Given as goal
+
+abbrev pub invariant-loop-i : goal.invariant-loop-i
+invariant-loop-i l = Checked 8 (tracer_ok (image_of width l.k l.im)) l.ok l.i
+
+abbrev pub decreases-loop-i : goal.decreases-loop-i
+decreases-loop-i l = 8 - l.i

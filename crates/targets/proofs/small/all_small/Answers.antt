@@ -1,0 +1,16 @@
+use Rattle.model.specs.Image.{image_of}
+use Rattle.image.specs.Layout.{width}
+use Rattle.soundness_laws.specs.Small.{small_at}
+use Rattle.soundness_laws.proofs.Checks.{CheckedFrom, from_none, from_more, from_end}
+use Prim.Native.Nat.{◌-◌}
+use borrow.Author.Rules.{rules}
+use Rattle.targets.proofs.small.all_small.Goals as goal
+
+pub loop-g-init : goal.loop-g-init
+loop-g-init c = search from_none
+
+pub loop-g-preserved : goal.loop-g-preserved
+loop-g-preserved c = search from_more
+
+pub returns : goal.returns
+returns c = search from_end
