@@ -21,10 +21,10 @@ pub one_more-seen-requires : goal.one_more-seen-requires
 one_more-seen-requires c = w_small _ _ _ c.requires.sized _ _ _ _ c.loop-g.invariant
 
 pub loop-g-smaller : goal.loop-g-smaller
-loop-g-smaller c = w_less _ _ _ c.requires.sized _ _ _ _ c.loop-g.invariant c.loop-g-test.true _ c.piece_ok.ensures c.if-not-piece_ok.false _ c.word.ensures
+loop-g-smaller c = w_less _ _ _ c.requires.sized _ _ _ _ c.loop-g.invariant c.loop-g-test.true _ c.piece_ok.ensures (search rules) _ c.word.ensures
 
 pub loop-g-preserved : goal.loop-g-preserved
-loop-g-preserved c = w_more _ _ _ c.requires.sized _ _ _ _ c.loop-g.invariant c.loop-g-test.true _ c.piece_ok.ensures c.if-not-piece_ok.false _ _ _ _ _ _ c.is_start-object.ensures c.object_links.ensures c.if-not-object_links.false c.one_more-seen.ensures c.next_run-next.ensures c.word.ensures c.run_end-end.ensures
+loop-g-preserved c = w_more _ _ _ c.requires.sized _ _ _ _ c.loop-g.invariant c.loop-g-test.true _ c.piece_ok.ensures (search rules) _ _ _ _ _ _ c.is_start-object.ensures c.object_links.ensures (search rules) c.one_more-seen.ensures c.next_run-next.ensures c.word.ensures c.run_end-end.ensures
 
 pub returns : goal.returns
 returns c = search w_end

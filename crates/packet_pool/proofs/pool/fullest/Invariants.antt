@@ -1,0 +1,14 @@
+use borrow.Author.Rules.{rules}
+use Rattle.collector_laws.specs.Pool.{choice}
+use Rattle.collector_laws.proofs.Pool.{unheld, greater, choice_more, in_pool, fullest_choice}
+use Rattle.model.specs.Image.{count, image_of}
+use Rattle.image.specs.Layout.{width}
+use Prim.Native.Nat.{◌-◌, ◌≤◌}
+use mathlib.Core.Path.{◌≡◌, refl}
+use Rattle.packet_pool.proofs.pool.fullest.Given as goal
+
+abbrev pub invariant-loop-p : goal.invariant-loop-p
+invariant-loop-p l = (l.p ≤ 32) × (l.c ≡ choice greater (count (image_of width l.k l.im)) (unheld (image_of width l.k l.im)) 0 l.p)
+
+abbrev pub decreases-loop-p : goal.decreases-loop-p
+decreases-loop-p l = 32 - l.p

@@ -1,0 +1,14 @@
+use Rattle.model.specs.Image.{image_of}
+use Rattle.image.specs.Layout.{width}
+use Rattle.collector_laws.specs.Pool.{held_set}
+use Rattle.collector_laws.proofs.Pool.{held_more, held_all, input_few, output_few}
+use Prim.Native.Nat.{◌-◌, ◌≤◌}
+use mathlib.Core.Path.{◌≡◌}
+use borrow.Author.Rules.{rules}
+use Rattle.packet_pool.proofs.pool.held_packets.Given as goal
+
+abbrev pub invariant-loop-t : goal.invariant-loop-t
+invariant-loop-t l = (l.t ≤ 8) × (l.s ≡ held_set (image_of width l.k l.im) l.t)
+
+abbrev pub decreases-loop-t : goal.decreases-loop-t
+decreases-loop-t l = 8 - l.t
