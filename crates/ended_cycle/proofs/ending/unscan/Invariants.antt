@@ -10,7 +10,7 @@ use borrow.Author.Rules.{rules}
 use Rattle.ended_cycle.proofs.ending.unscan.Given as goal
 
 abbrev pub invariant-loop-p : goal.invariant-loop-p
-invariant-loop-p l = Looped width l.k 16 (λ m l.p. m ≡ with_players (image_of width l.k l.initial.im) (scanned_off_to (image_of width l.k l.initial.im).players l.p)) l.initial.im l.im l.p
+invariant-loop-p l = Looped width l.k 16 (λ m p. m ≡ with_players (image_of width l.k l.initial.im) (scanned_off_to (image_of width l.k l.initial.im).players p)) l.initial.im l.im l.p
 
 abbrev pub decreases-loop-p : goal.decreases-loop-p
 decreases-loop-p l = 16 - l.p

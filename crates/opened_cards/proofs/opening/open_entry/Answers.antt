@@ -6,7 +6,7 @@ pub returns-then-i-lt2 : goal.returns-then-i-lt2
 returns-then-i-lt2 c = search entry_none
 
 pub open_one-requires : goal.open_one-requires
-open_one-requires c = record { sized = search rules; a_bound = rw c.packet_word-a.ensures (c.before.before.before.before.before.requires.1.1 c.if1.false) }
+open_one-requires c = record { sized = search rules; a_bound = rw c.packet_word-a.ensures (c.requires.i_bound_2 c.if-i-lt2.false) }
 
 pub returns : goal.returns
 returns c = search entry_one

@@ -4,4 +4,4 @@ use native.Mathlib.Omega.{arith}
 use Rattle.opened_cards.proofs.opening.open_word.Goals as goal
 
 pub returns : goal.returns
-returns c = open_word _ _ _ B.before.before.before.before.before.requires.0 _ _ _ _ (omega arith) c.mark_word.ensures c.start_word-s.ensures (omega arith) _ c.set_start_word.ensures
+returns c = open_word _ _ _ c.requires.sized _ _ _ _ (omega arith) c.mark_word-m.ensures c.start_word-s.ensures (omega arith) _ c.set_start_word.ensures

@@ -22,3 +22,7 @@ loop-t-preserved c = (search rules, search held_more)
 pub returns : goal.returns
 unfolding held_set
 returns c = search held_all
+
+pub loop-t-init : goal.loop-t-init
+unfolding held_set
+loop-t-init c = search rules

@@ -10,4 +10,4 @@ returns-then-e-h c = record { im_after = search keep_next; start_value = (refl, 
 pub returns : goal.returns
 returns c =
     let G = c.close_gap-n in
-    record { im_after = keep_behind _ _ _ _ c.if-e-h.false _ c.word-size.ensures _ G.ensures.0 _ G.ensures.1 _ c.grow.ensures; start_value = (refl, within_grown _ _ _ _ (search rules) (omega arith) _ (omega arith) _ G.ensures.1 _ c.grow.ensures) }
+    record { im_after = keep_behind _ _ _ _ c.if-e-h.false _ c.word-size.ensures _ G.ensures.im_after _ G.ensures.value _ c.grow.ensures; start_value = (refl, within_grown _ _ _ _ (search rules) (omega arith) _ (omega arith) _ G.ensures.value _ c.grow.ensures) }
