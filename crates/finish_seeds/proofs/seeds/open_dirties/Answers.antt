@@ -1,0 +1,25 @@
+use Rattle.model.specs.Image.{image_of}
+use Rattle.image.specs.Layout.{width}
+use Rattle.image_laws.specs.Digits.{mark_bit}
+use Rattle.image_laws.proofs.Loops.{looped_end}
+use Rattle.finish_marking_laws.specs.Seeds.{DirtyAt}
+use Rattle.finish_marking_laws.proofs.seeds.Bared.{dirty_as, Opening, opening_none, opening_more}
+use Prim.Native.Nat.{◌-◌}
+use native.Mathlib.Omega.{arith}
+use borrow.Author.Rules.{rules}
+use Rattle.finish_seeds.proofs.seeds.open_dirties.Goals as goal
+
+pub loop-c-init : goal.loop-c-init
+loop-c-init c = opening_none c.requires
+
+pub open_dirty-requires : goal.open_dirty-requires
+open_dirty-requires c = record { sized = c.loop-c.invariant.sized; c_lt_k = omega arith }
+
+pub loop-c-preserved : goal.loop-c-preserved
+loop-c-preserved c = let L = c.loop-c in opening_more L.invariant (omega arith) (search rules) (dirty_as L.invariant.state c.open_dirty.ensures)
+
+pub shape_of-im : goal.shape_of-im
+shape_of-im c = c.loop-c.invariant.same
+
+pub returns : goal.returns
+returns c = looped_end c.loop-c.invariant (omega arith)

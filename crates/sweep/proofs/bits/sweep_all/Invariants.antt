@@ -1,0 +1,12 @@
+use Rattle.image.specs.Layout.{width}
+use Rattle.finish_laws.proofs.gaps.Code.{within_grown}
+use Rattle.finish_laws.proofs.gaps.Bits.{Sweeping, sweeping_none, sweeping_word, sweeping_more, sweeping_end}
+use native.Mathlib.Omega.{arith}
+use borrow.Author.Rules.{rules}
+use Rattle.sweep.proofs.bits.sweep_all.Given as goal
+
+abbrev pub invariant-loop-i : goal.invariant-loop-i
+invariant-loop-i l = Sweeping width l.k l.initial.im l.im l.s.start l.s.free l.i
+
+abbrev pub decreases-loop-i : goal.decreases-loop-i
+decreases-loop-i l = l.i

@@ -1,0 +1,6 @@
+use borrow.Author.Rules.{rules}
+use Rattle.image_laws.proofs.Cards.{card_cleaned}
+use Rattle.undirty.proofs.undirty_card.Goals as goal
+
+pub returns : goal.returns
+returns c = search card_cleaned
