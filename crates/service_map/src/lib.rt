@@ -1,4 +1,6 @@
 // The map for the service sheet: the store printed into lent bytes, a line for each card.
+#![tactic(auto)]
+
 ghost use Rattle.std.specs.Prelude.{◌≡◌};
 ghost use Rattle.model.specs.Map.{map_at};
 ghost use Rattle.image.specs.Layout.{width};

@@ -14,4 +14,4 @@ advance-requires c = record { sized = search rules; t_bound = (search rules, sea
 pub returns : goal.returns
 returns c =
     let R = c.requires in
-    hand_traced _ _ _ R.0 _ R.1.0 R.1.1 _ c.read_tracer-x.ensures _ c.reach_link.ensures _ c.word-n.ensures _ c.advance.ensures
+    hand_traced _ _ _ R.lines _ R.t_bound.0 R.t_bound.1 _ c.read_tracer-x.ensures _ c.reach_link.ensures _ c.word-n.ensures _ c.advance.ensures

@@ -1,0 +1,6 @@
+use borrow.Author.Rules.{rules}
+use Rattle.collector_laws.proofs.Cleaning.{card-taken}
+use Rattle.card_cleaning.proofs.cleaning.take_card.Goals as goal
+
+pub returns : goal.returns
+returns c = search card-taken

@@ -1,0 +1,16 @@
+use Prim.Native.Nat.{◌*◌, ◌-◌}
+use borrow.Author.Rules.{rules}
+use Rattle.service_map_laws.proofs.Lines.{HeadingTo, heading_none, heading_more, heading_end}
+use Rattle.map_lines.proofs.lines.write_heading.Goals as goal
+
+pub loop-j-init : goal.loop-j-init
+loop-j-init c = search heading_none
+
+pub loop-j-preserved : goal.loop-j-preserved
+loop-j-preserved c = search heading_more
+
+pub shape_of-out : goal.shape_of-out
+shape_of-out c = c.loop-j.invariant.same
+
+pub returns : goal.returns
+returns c = search heading_end

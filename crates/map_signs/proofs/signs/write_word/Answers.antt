@@ -1,0 +1,20 @@
+use Prim.Native.Nat.{◌*◌, ◌-◌}
+use borrow.Author.Rules.{rules}
+use Rattle.model.specs.Image.{image_of}
+use Rattle.image.specs.Layout.{width}
+use Rattle.service_map_laws.proofs.Signs.{SignsTo, signs_none, sign_by_bits, signs_carried, signs_end}
+use Rattle.map_signs.proofs.signs.write_word.Goals as goal
+
+pub loop-j-init : goal.loop-j-init
+loop-j-init c = search signs_none
+
+pub loop-j-preserved : goal.loop-j-preserved
+loop-j-preserved c =
+    sign_by_bits _ _ _ _ c.loop-j.invariant _ _ c.start_word-starts.ensures c.mark_word-marks.ensures _ _ _ _
+    (search rules) c.has_bit-start.ensures c.has_bit-mark.ensures c.furthest-last.ensures c.sign.ensures
+
+pub shape_of-out : goal.shape_of-out
+shape_of-out c = c.loop-j.invariant.signs.same
+
+pub returns : goal.returns
+returns c = record { value = signs_carried c.loop-j.invariant (search rules); out_after = signs_end c.loop-j.invariant (search rules) }

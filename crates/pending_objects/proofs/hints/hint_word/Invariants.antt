@@ -1,0 +1,15 @@
+use Rattle.search_laws.proofs.hints.Refill.{Hinting, hinting_none, hinting_more, hinting_full, hinting_end}
+use Rattle.model.specs.Base.{put}
+use Rattle.image.specs.Layout.{width}
+use Prim.Native.Nat.{◌-◌}
+use mathlib.Core.Path.{◌≡◌, refl}
+use native.Mathlib.Omega.{arith}
+use borrow.Author.Rules.{rules}
+use lib.ListN.{length}
+use Rattle.pending_objects.proofs.hints.hint_word.Given as goal
+
+abbrev pub invariant-loop-x : goal.invariant-loop-x
+invariant-loop-x l = Hinting width l.i l.word l.initial.hints l.n l.hints l.x l.h × (length l.hints ≡ length l.initial.hints)
+
+abbrev pub decreases-loop-x : goal.decreases-loop-x
+decreases-loop-x l = length l.initial.hints - l.h

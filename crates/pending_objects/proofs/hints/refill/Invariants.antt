@@ -1,0 +1,15 @@
+use Rattle.search_laws.proofs.hints.Refill.{HintsUpto, refill_none, refill_more, refill_full, refill_end}
+use Rattle.model.specs.Base.{nth}
+use Rattle.image.specs.Layout.{width}
+use Prim.Native.Nat.{◌-◌, ◌<◌}
+use mathlib.Core.Path.{◌≡◌, refl}
+use native.Mathlib.Omega.{arith}
+use borrow.Author.Rules.{rules}
+use lib.ListN.{length}
+use Rattle.pending_objects.proofs.hints.refill.Given as goal
+
+abbrev pub invariant-loop-i : goal.invariant-loop-i
+invariant-loop-i l = HintsUpto width l.k l.s l.p l.hints l.n l.i × (l.n < length l.initial.hints) × (length l.hints ≡ length l.initial.hints)
+
+abbrev pub decreases-loop-i : goal.decreases-loop-i
+decreases-loop-i l = l.p - l.i
