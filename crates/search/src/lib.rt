@@ -1,5 +1,6 @@
 // What chains from registers reach, found in two bit planes of a lent scratch.
 #![tactic(auto)]
+
 ghost use Rattle.std.specs.Prelude.{◌≡◌, ◌*◌, ◌/◌, length};
 ghost use Rattle.model.specs.Image.{image_of};
 ghost use Rattle.theory.specs.Lines.{Sound};

@@ -1,0 +1,23 @@
+use mathlib.Core.Path.{◌≡◌, refl}
+use Prim.Native.Nat.{◌+◌, ◌-◌}
+use native.Mathlib.Omega.{arith}
+use borrow.Author.Rules.{rules}
+use Rattle.model.specs.Image.{image_of}
+use Rattle.image.specs.Layout.{width}
+use Rattle.report_laws.proofs.Stretch.{Walking, walking_none, walking_out, walking_more, walking_some, walking_end}
+use Rattle.report_stretches.proofs.stretch.is_whole.Goals as goal
+
+pub loop-g-init : goal.loop-g-init
+loop-g-init c = (search walking_none, refl)
+
+pub returns-then-not-is_start : goal.returns-then-not-is_start
+returns-then-not-is_start c = search walking_out
+
+pub loop-g-smaller : goal.loop-g-smaller
+loop-g-smaller c = omega (arith, walking_some _ _ _ c.requires.sound _ _ _ _ c.loop-g.invariant.0 _ c.is_start.ensures c.if-not-is_start.false _ c.word.ensures)
+
+pub loop-g-preserved : goal.loop-g-preserved
+loop-g-preserved c = search walking_more
+
+pub returns : goal.returns
+returns c = search walking_end
