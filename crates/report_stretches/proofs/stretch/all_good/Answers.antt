@@ -18,7 +18,7 @@ pub is_good-requires : goal.is_good-requires
 is_good-requires c = record { sized = c.requires.sized; sound = c.requires.sound; i_in_bounds = omega (arith, c.requires.c_in_bounds, c.loop-i-test.true); low_value = c.loop-i.invariant.1 }
 
 pub returns-then-not-is_good : goal.returns-then-not-is_good
-returns-then-not-is_good c = checked_stop _ _ _ c.loop-i-test.true (sym c.is_good.ensures ∙ not-true _ c.if-not-is_good.true)
+returns-then-not-is_good c = checked_stop _ _ _ c.loop-i-test.true (sym c.is_good.ensures ∙ c.if-not-is_good.true)
 
 pub loop-i-preserved : goal.loop-i-preserved
 loop-i-preserved c = (

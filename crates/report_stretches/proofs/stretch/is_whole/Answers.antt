@@ -14,7 +14,7 @@ pub returns-then-not-is_start : goal.returns-then-not-is_start
 returns-then-not-is_start c = search walking_out
 
 pub loop-g-smaller : goal.loop-g-smaller
-loop-g-smaller c = omega (arith, walking_some _ _ _ c.requires.sound _ _ _ _ c.loop-g.invariant.0 _ c.is_start.ensures c.if-not-is_start.false _ c.word.ensures)
+loop-g-smaller c = omega (arith, walking_some _ _ _ c.requires.sound _ _ _ _ c.loop-g.invariant.0 _ c.is_start.ensures (search rules) _ c.word.ensures)
 
 pub loop-g-preserved : goal.loop-g-preserved
 loop-g-preserved c = search walking_more

@@ -6,11 +6,11 @@ use native.Mathlib.Omega.{arith}
 use Rattle.search.proofs.follow.pass.Goals as goal
 
 pub overflow_cast-g : goal.overflow_cast-g
-overflow_cast-g c = omega (arith, c.slice_known-3-1.given (c.args.n - 1))
+overflow_cast-g c = omega (arith, c.type_inv.hints (c.args.n - 1))
 
 pub settle-h-requires : goal.settle-h-requires
 unfolding nth
-settle-h-requires c = let P = c.requires in record { sized = c.requires.sized; sound = c.requires.sound; search = P.0; g_bound = (P.1.1.here, P.1.1.is_pending); n_in_bounds = omega (arith, P.1.0) }
+settle-h-requires c = record { sized = c.requires.sized; sound = c.requires.sound; search = c.requires.search; g_bound = (c.requires.last_pending.here, c.requires.last_pending.is_pending); n_in_bounds = omega (arith, c.requires.le_n) }
 
 pub drain-requires : goal.drain-requires
 drain-requires c = record { sized = c.requires.sized; sound = c.requires.sound; search = c.settle-h.ensures.goes.search; n_in_bounds = omega (arith, c.settle-h.ensures.upper_bound) }

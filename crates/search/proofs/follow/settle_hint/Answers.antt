@@ -7,7 +7,7 @@ use native.Mathlib.Omega.{arith}
 use Rattle.search.proofs.follow.settle_hint.Goals as goal
 
 pub overflow_cast-g : goal.overflow_cast-g
-overflow_cast-g c = omega (arith, c.slice_known-3-1.given (c.args.n - 1))
+overflow_cast-g c = omega (arith, c.type_inv.hints (c.args.n - 1))
 
 pub returns-then-k-g : goal.returns-then-k-g
 returns-then-k-g c = record { goes = search goes_none; result_bound = omega arith; upper_bound = omega arith }
