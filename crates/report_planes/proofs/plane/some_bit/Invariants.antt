@@ -1,0 +1,15 @@
+use Rattle.model.specs.Base.{bit}
+use Rattle.image.specs.Layout.{width}
+use Rattle.soundness_laws.proofs.Checks.{Sought, sought_none, sought_more, sought_end}
+use Prim.Native.Nat.{◌+◌, ◌-◌}
+use borrow.Author.Rules.{rules}
+use Rattle.report_planes.proofs.plane.some_bit.Reads as reads
+use Rattle.report_planes.proofs.plane.some_bit.Lts as lts
+use Rattle.sets.proofs.in_set.Reads as in-set-reads
+use Rattle.report_planes.proofs.plane.some_bit.Given as goal
+
+abbrev pub invariant-loop-j : goal.invariant-loop-j
+invariant-loop-j l = Sought l.n (λ i. bit width l.s (l.a + i)) l.found l.j
+
+abbrev pub decreases-loop-j : goal.decreases-loop-j
+decreases-loop-j l = l.n - l.j
