@@ -1,4 +1,4 @@
-//! Links the static library that `rt staticlib show_store` writes.
+//! Links the static library that `tools/staticlib` builds.
 
 fn main() {
     let top = std::path::Path::new(env!("CARGO_MANIFEST_DIR")).join("../../target/staticlib");

@@ -12,45 +12,35 @@ ghost use Rattle.service_map_laws.specs.Mapped.{mapped_of};
 ghost use Rattle.show_store_laws.specs.Run.{batched};
 
 // "Making one overwrites a slice of fitting length and gives 0, else gives 1 and writes nothing."
-#[unsafe(no_mangle)]
-pub extern "C" fn fresh(image: &mut [u16]) -> u16
+pub fn fresh(image: &mut [u16]) -> u16
     ensures { made_of result image.new ≡ fresh_of image.old }
 {
     fresh::fresh(image)
 }
 
 // "Judging gives 0, 1 or 2 and writes nothing."
-#[unsafe(no_mangle)]
-pub extern "C" fn judge(image: &[u16]) -> u16
+pub fn judge(image: &[u16]) -> u16
     ensures { result ≡ judge_of image.now }
 {
     judge::judge(image)
 }
 
 // "1 and 2 refuse the call, are its result (0 otherwise) and leave image and answers alone"
-#[unsafe(no_mangle)]
-pub extern "C" fn batch(image: &mut [u16], steps: &[u8], answers: &mut [u16]) -> u16
+pub fn batch(image: &mut [u16], steps: &[u8], answers: &mut [u16]) -> u16
     ensures { batched result image.new answers.new ≡ batch_of image.old steps.now answers.old }
 {
     batch::batch(image, steps, answers)
 }
 
 // "A lent output of another length than 73 bytes a line, or a bad image, leaves it unwritten. Checks: 1 and 2, as for a batch."
-#[unsafe(no_mangle)]
-pub extern "C" fn service_map(image: &[u16], output: &mut [u8]) -> u16
+pub fn service_map(image: &[u16], output: &mut [u8]) -> u16
     ensures { mapped_of result output.new ≡ map_of image.now output.old }
 {
     service_map::service_map(image, output)
 }
 
 // "Given the image at the begin, the image just before the finish and such a report, say whether it is acceptable."
-#[unsafe(no_mangle)]
-pub extern "C" fn judge_report(
-    first: &[u16],
-    second: &[u16],
-    report: &[u8],
-    scratch: &mut [u16],
-) -> u16
+pub fn judge_report(first: &[u16], second: &[u16], report: &[u8], scratch: &mut [u16]) -> u16
     ensures { reported_of result scratch.new ≡ report_of first.now second.now report.now scratch.old }
 {
     report::judge_report(first, second, report, scratch)
@@ -58,22 +48,19 @@ pub extern "C" fn judge_report(
 
 // ---- the wide store: "Add a wide store of 32-bit words, to be made, judged and run in batches, no more"
 
-#[unsafe(no_mangle)]
-pub extern "C" fn wide_fresh(image: &mut [u32]) -> u16
+pub fn wide_fresh(image: &mut [u32]) -> u16
     ensures { made_of result image.new ≡ fresh_at 32 image.old }
 {
     wide_fresh::fresh(image)
 }
 
-#[unsafe(no_mangle)]
-pub extern "C" fn wide_judge(image: &[u32]) -> u16
+pub fn wide_judge(image: &[u32]) -> u16
     ensures { result ≡ judge_at 32 image.now }
 {
     wide_judge::judge(image)
 }
 
-#[unsafe(no_mangle)]
-pub extern "C" fn wide_batch(image: &mut [u32], steps: &[u8], answers: &mut [u32]) -> u16
+pub fn wide_batch(image: &mut [u32], steps: &[u8], answers: &mut [u32]) -> u16
     ensures { batched result image.new answers.new ≡ batch_at tightest 32 image.old steps.now answers.old }
 {
     wide_batch::batch(image, steps, answers)

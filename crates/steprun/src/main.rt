@@ -1,11 +1,14 @@
 // Reads step records from standard input, runs them on a fresh store of 16 cards and prints a line per step.
+#![tactic(auto)]
+
 ghost use Rattle.std.specs.Prelude.{◌+◌, ◌*◌, ◌≤◌, ◌<◌, length};
 
-// A number and the byte behind it.
-fn print_number(n: u64, behind: u8) {
-    io::print_decimal(1, n);
-    let end = [behind];
-    io::write_all(1, &end);
+use std::io;
+use std::io::Read;
+
+// A number and the character behind it.
+fn print_number(rt: &impl Print, n: u64, behind: char) -> io::Result<()> {
+    print!(rt; "{n}{behind}")
 }
 
 fn of_byte(x: u8) -> u64 {
@@ -17,21 +20,22 @@ fn of_word(x: u16) -> u64 {
 }
 
 // The line of step i: place from 1, kind, number, value.
-fn print_line(steps: &[u8], answers: &[u16], i: usize)
+fn print_line(rt: &impl Print, steps: &[u8], answers: &[u16], i: usize) -> io::Result<()>
     requires { (8 * i < length steps.now) × (2 * i + 1 < length answers.now) × (i < 1024) }
 {
-    print_number((i + 1) as u64, b' ');
-    print_number(of_byte(steps[8 * i]), b' ');
-    print_number(of_word(answers[2 * i]), b' ');
-    print_number(of_word(answers[2 * i + 1]), b'\n');
+    print_number(rt, (i + 1) as u64, ' ')?;
+    print_number(rt, of_byte(steps[8 * i]), ' ')?;
+    print_number(rt, of_word(answers[2 * i]), ' ')?;
+    print_number(rt, of_word(answers[2 * i + 1]), '\n')
 }
 
-fn print_lines(steps: &[u8], answers: &[u16], n: usize)
+fn print_lines(rt: &impl Print, steps: &[u8], answers: &[u16], n: usize) -> io::Result<()>
     requires { (8 * n ≤ length steps.now) × (2 * n ≤ length answers.now) × (n ≤ 1024) }
 {
     for i in 0..n {
-        print_line(steps, answers, i);
+        print_line(rt, steps, answers, i)?;
     }
+    Ok(())
 }
 
 // Runs n records on a fresh store of 16 cards.
@@ -42,26 +46,25 @@ fn run(steps: &[u8], answers: &mut [u16]) {
 }
 
 // Runs n records and prints their lines; the answers go into the lent space.
-fn report(steps: &[u8], space: &mut [u16], n: usize)
+fn report(rt: &impl Print, steps: &[u8], space: &mut [u16], n: usize) -> io::Result<()>
     requires { (8 * n ≤ length steps.now) × (2 * n ≤ length space.old) × (n ≤ 1024) }
 {
     let words = 2 * n;
     run(steps, &mut space[..words]);
-    print_lines(steps, space, n);
+    print_lines(rt, steps, space, n)
 }
 
-fn main() {
+fn main(rt: HostRuntime) -> io::Result<()> {
     // One byte more than is taken, to see that there is more.
-    let mut input = [0u8; 8193];
-    let read = io::read_full(0, &mut input);
+    let mut input = Vec::new(rt.alloc());
+    rt.stdin().take(8193).read_to_end(&mut input)?;
+    let read = input.len();
     if 8192 < read {
-        io::write_all(1, b"misfit\n");
-        return;
+        return println!(rt; "misfit");
     }
     if read % 8 != 0 {
-        io::write_all(1, b"misfit\n");
-        return;
+        return println!(rt; "misfit");
     }
     let mut space = [0u16; 2048];
-    report(&input[..read], &mut space, read / 8);
+    report(&rt, &input, &mut space, read / 8)
 }

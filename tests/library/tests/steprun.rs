@@ -17,11 +17,11 @@ fn top() -> PathBuf {
 
 /// What the program prints for these bytes on standard input.
 fn printed(steps: &[u8]) -> String {
-    let mut program = Command::new(top().join("target/bin/steprun"))
+    let mut program = Command::new(top().join("crates/steprun/out/steprun"))
         .stdin(Stdio::piped())
         .stdout(Stdio::piped())
         .spawn()
-        .expect("target/bin/steprun, which rt check builds");
+        .expect("crates/steprun/out/steprun, which rt ci builds, and rt run in its folder");
     // The program may stop reading before the end of a long input.
     let _ = program.stdin.take().expect("a pipe").write_all(steps);
     let output = program.wait_with_output().expect("the program ends");

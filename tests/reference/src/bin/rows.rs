@@ -13,17 +13,15 @@ use reference::work::work_in;
 use reference::{fresh, judge};
 
 const HEAD: &str = "\
-use mathlib.Core.Path.{_≡_, refl}
-use mathlib.Core.List.{List, [], _∷_, _++_}
-use Prim.Native.Nat.{ℕ}
-use lib.ListN.{replicate}
-use Rattle·model.specs.Mutate.{lowest, tightest}
-use Rattle·model.specs.Undamaged.{Made, freshAt, judgeAt}
-use Rattle·model.specs.Batch.{Batch, Finished, judgeOf, batchAt, batchOf, finishOf, events}
-use Rattle·model.specs.Bound.{workIn}
-use Rattle·model.specs.Map.{Mapped, mapOf}
-use Rattle·model.specs.Report.{Reported, reportOf}
-use Rattle·model.specs.Open.{model-open}
+use mathlib.Core.Path.{◌≡◌, refl}
+use Rattle.std.specs.Prelude.{ℕ, List, [], ◌∷◌, ◌++◌, replicate}
+use Rattle.model.specs.Mutate.{lowest, tightest}
+use Rattle.model.specs.Undamaged.{Made, fresh_at, judge_at}
+use Rattle.model.specs.Batch.{Batch, Finished, judge_of, batch_at, batch_of, finish_of, events}
+use Rattle.model.specs.Bound.{work_in}
+use Rattle.model.specs.Map.{Mapped, map_of}
+use Rattle.model.specs.Report.{Reported, report_of}
+use Rattle.model.specs.Open.{model_open}
 
 runs : List ℕ → List ℕ
 runs [] = []
@@ -61,25 +59,25 @@ fn print_narrow(text: &str) {
 fn print_wide(text: &str) {
     let cases = parse_wide(text).expect("cases in the vectors' format");
     for (number, case) in cases.iter().enumerate() {
-        print_batch_by("batchAt tightest 32", number, "batch", case);
+        print_batch_by("batch_at tightest 32", number, "batch", case);
         let image = runs(&case.image);
         let verdict = judge(&case.image).to_string();
-        print_theorem(number, "judged", &case.name, "ℕ", &format!("judgeAt 32 {image}"), &verdict);
+        print_theorem(number, "judged", &case.name, "ℕ", &format!("judge_at 32 {image}"), &verdict);
         let mut made = case.image.clone();
         let result = fresh(&mut made);
         let gives = format!("record {{ result = {result}; image = {} }}", runs(&made));
-        print_theorem(number, "fresh", &case.name, "Made", &format!("freshAt 32 {image}"), &gives);
+        print_theorem(number, "fresh", &case.name, "Made", &format!("fresh_at 32 {image}"), &gives);
     }
 }
 
 fn print_batch(number: usize, case: &BatchCase) {
-    print_batch_by("batchOf", number, "batch", case);
+    print_batch_by("batch_of", number, "batch", case);
     if let Some(case) = otherwise_by_lowest(case) {
-        print_batch_by("batchAt lowest 16", number, "lowest", &case);
+        print_batch_by("batch_at lowest 16", number, "lowest", &case);
     }
     if case.result == 0 {
         let work = work_in(&case.steps, &case.given).accepted();
-        let call = format!("workIn (events tightest 16 {} ({}))", runs(&case.image), list(&case.steps));
+        let call = format!("work_in (events tightest 16 {} ({}))", runs(&case.image), list(&case.steps));
         print_theorem(number, "work", &case.name, "ℕ", &call, &work.to_string());
     }
 }
@@ -100,27 +98,27 @@ fn print_batch_by<W: Copy + Display + Into<u64> + PartialEq>(
 fn print_finish(number: usize, case: &FinishCase) {
     let image = runs(&case.image);
     let gives = format!("record {{ value = {}; image = {} }}", case.value, runs(&case.left));
-    print_theorem(number, "finish", &case.name, "Finished", &format!("finishOf {image}"), &gives);
+    print_theorem(number, "finish", &case.name, "Finished", &format!("finish_of {image}"), &gives);
     let verdict = if case.cover { "0" } else { "2" };
-    print_theorem(number, "judged", &case.name, "ℕ", &format!("judgeOf {image}"), verdict);
+    print_theorem(number, "judged", &case.name, "ℕ", &format!("judge_of {image}"), verdict);
 }
 
 fn print_map(number: usize, case: &MapCase) {
-    let call = format!("mapOf {} (replicate {} {UNTOUCHED_BYTE})", runs(&case.image), case.room);
+    let call = format!("map_of {} (replicate {} {UNTOUCHED_BYTE})", runs(&case.image), case.room);
     let gives = format!("record {{ result = {}; output = {} }}", case.result, runs(&case.given));
     print_theorem(number, "map", &case.name, "Mapped", &call, &gives);
 }
 
 fn print_report(number: usize, case: &ReportCase) {
     let [first, second, scratch] = [&case.first, &case.second, &case.scratch].map(|words| runs(words));
-    let call = format!("reportOf {first} {second} {} {scratch}", runs(&case.report));
+    let call = format!("report_of {first} {second} {} {scratch}", runs(&case.report));
     let gives = format!("record {{ result = {}; scratch = {} }}", case.result, runs(&case.after));
     print_theorem(number, "report", &case.name, "Reported", &call, &gives);
 }
 
 fn print_theorem(number: usize, what: &str, name: &str, kind: &str, call: &str, gives: &str) {
-    println!("-- case {name}\n{what}-{number} : _≡_ {{A = {kind}}} ({call}) ({gives})");
-    println!("unfolding model-open runs\n{what}-{number} = refl\n");
+    println!("-- case {name}\n{what}_{number} : ◌≡◌ {{A = {kind}}} ({call}) ({gives})");
+    println!("unfolding model_open runs\n{what}_{number} = refl\n");
 }
 
 fn list<T: Display>(items: &[T]) -> String {

@@ -1,0 +1,81 @@
+// What C calls: the eight functions of show_store, each under its own name and with its clauses (include/show_store.h declares them).
+#![tactic(auto)]
+
+ghost use Rattle.std.specs.Prelude.{◌≡◌};
+ghost use Rattle.model.specs.Batch.{fresh_of, judge_of, batch_of, batch_at};
+ghost use Rattle.model.specs.Map.{map_of};
+ghost use Rattle.model.specs.Mutate.{tightest};
+ghost use Rattle.model.specs.Report.{report_of};
+ghost use Rattle.model.specs.Undamaged.{fresh_at, judge_at};
+ghost use Rattle.image_laws.specs.Fresh.{made_of};
+ghost use Rattle.report_laws.specs.Reported.{reported_of};
+ghost use Rattle.service_map_laws.specs.Mapped.{mapped_of};
+ghost use Rattle.show_store_laws.specs.Run.{batched};
+
+// "Making one overwrites a slice of fitting length and gives 0, else gives 1 and writes nothing."
+#[unsafe(no_mangle)]
+pub extern "C" fn fresh(image: &mut [u16]) -> u16
+    ensures { made_of result image.new ≡ fresh_of image.old }
+{
+    show_store::fresh(image)
+}
+
+// "Judging gives 0, 1 or 2 and writes nothing."
+#[unsafe(no_mangle)]
+pub extern "C" fn judge(image: &[u16]) -> u16
+    ensures { result ≡ judge_of image.now }
+{
+    show_store::judge(image)
+}
+
+// "1 and 2 refuse the call, are its result (0 otherwise) and leave image and answers alone"
+#[unsafe(no_mangle)]
+pub extern "C" fn batch(image: &mut [u16], steps: &[u8], answers: &mut [u16]) -> u16
+    ensures { batched result image.new answers.new ≡ batch_of image.old steps.now answers.old }
+{
+    show_store::batch(image, steps, answers)
+}
+
+// "A lent output of another length than 73 bytes a line, or a bad image, leaves it unwritten. Checks: 1 and 2, as for a batch."
+#[unsafe(no_mangle)]
+pub extern "C" fn service_map(image: &[u16], output: &mut [u8]) -> u16
+    ensures { mapped_of result output.new ≡ map_of image.now output.old }
+{
+    show_store::service_map(image, output)
+}
+
+// "Given the image at the begin, the image just before the finish and such a report, say whether it is acceptable."
+#[unsafe(no_mangle)]
+pub extern "C" fn judge_report(
+    first: &[u16],
+    second: &[u16],
+    report: &[u8],
+    scratch: &mut [u16],
+) -> u16
+    ensures { reported_of result scratch.new ≡ report_of first.now second.now report.now scratch.old }
+{
+    show_store::judge_report(first, second, report, scratch)
+}
+
+// ---- the wide store: "Add a wide store of 32-bit words, to be made, judged and run in batches, no more"
+
+#[unsafe(no_mangle)]
+pub extern "C" fn wide_fresh(image: &mut [u32]) -> u16
+    ensures { made_of result image.new ≡ fresh_at 32 image.old }
+{
+    show_store::wide_fresh(image)
+}
+
+#[unsafe(no_mangle)]
+pub extern "C" fn wide_judge(image: &[u32]) -> u16
+    ensures { result ≡ judge_at 32 image.now }
+{
+    show_store::wide_judge(image)
+}
+
+#[unsafe(no_mangle)]
+pub extern "C" fn wide_batch(image: &mut [u32], steps: &[u8], answers: &mut [u32]) -> u16
+    ensures { batched result image.new answers.new ≡ batch_at tightest 32 image.old steps.now answers.old }
+{
+    show_store::wide_batch(image, steps, answers)
+}
