@@ -1,4 +1,6 @@
 // An older desk's sweep report, judged.
+#![tactic(auto)]
+
 ghost use Rattle.std.specs.Prelude.{◌≡◌, not};
 ghost use Rattle.model.specs.Report.{either_damaged, report_at};
 ghost use Rattle.image_laws.specs.Sized.{Sized};
