@@ -17,7 +17,9 @@ USE = re.compile(r"^\s*(?:pub |ghost )?use (\S+?)(?:\.\{([^}]*)\})?;?\s*$", re.M
 # own lemmas that would be spelled as a word of the library that stands beside them
 LIBRARY = {"bit_and", "put_mid"}
 # fields that are spelled as a definition, in files where it is not
-FIELDS = {"no_output", "same_word"}
+FIELDS = {"no_output", "same_word", "in_cycle"}
+# constructors that are declared several to a line, and names that are only bound
+BOUND = {"handOver", "dropReg", "isDue", "anyPhase", "noCycle", "inCycle", "levelAt", "dueBy", "byHand", "byInput", "byPool", "byOutput", "byCard", "byDirty"}
 STRING = re.compile(r'"(?:[^"\\\n]|\\.)*"')
 
 
@@ -67,12 +69,12 @@ def main(argv):
         texts.update({os.path.join(folder, n): read(os.path.join(folder, n)) for n in sorted(os.listdir(folder)) if n.endswith(".edit")})
     declared = set()
     for path, text in texts.items():
-        if path.endswith(".antt") and not path.endswith("/Proof.antt"):
+        if path.endswith(".antt") and not path.endswith(("/Proof.antt", "/Answers.antt", "/Invariants.antt")):
             for line in uncommented(text).splitlines():
                 m = DECLARED.match(line)
                 if m and m[1][0].islower():
                     declared.add(m[1])
-    turned = {n: snake(n) for n in declared if snake(n) != n}
+    turned = {n: snake(n) for n in declared | BOUND if snake(n) != n}
     # Of names that fall together the definition takes the underscores, and a lemma or a field keeps or gets back its dashes.
     plain = [new for new in turned.values()]
     dashed = {o for o, n in turned.items() if "-" in o and (n in declared or plain.count(n) > 1 or n in LIBRARY)}

@@ -9,7 +9,7 @@ use lib.Dec.{eqb}
 use lib.ListN.{get_or-eq_default}
 use borrow.Author.Tests.{eqb-true, ne_eqb}
 use Rattle.model.specs.Base.{all}
-use Rattle.model.specs.Records.{Kind, new, load, store, barrier, handOver, dropReg, read, write, begin, scan, trace, clean, finish, isDue, undirty, unknown, kind_of}
+use Rattle.model.specs.Records.{Kind, new, load, store, barrier, hand_over, drop_reg, read, write, begin, scan, trace, clean, finish, is_due, undirty, unknown, kind_of}
 use Rattle.model.specs.Rows.{row_of, is}
 use Rattle.model.proofs.Laws.{all_use}
 
@@ -19,8 +19,8 @@ kind_code new = refl
 kind_code load = refl
 kind_code store = refl
 kind_code barrier = refl
-kind_code handOver = refl
-kind_code dropReg = refl
+kind_code hand_over = refl
+kind_code drop_reg = refl
 kind_code read = refl
 kind_code write = refl
 kind_code begin = refl
@@ -28,7 +28,7 @@ kind_code scan = refl
 kind_code trace = refl
 kind_code clean = refl
 kind_code finish = refl
-kind_code isDue = refl
+kind_code is_due = refl
 kind_code undirty = refl
 kind_code unknown = refl
 
@@ -46,7 +46,7 @@ kind_known x l h = ne_eqb (row_of (kind_of x)).code 0 (λ e. omega (arith, code_
 
 pub kind_unknown : (x : ℕ) → 16 ≤ x → kind_of x ≡ unknown
 unfolding kind_of
-kind_unknown x h = get_or-eq_default (unknown ∷ new ∷ load ∷ store ∷ barrier ∷ handOver ∷ dropReg ∷ read ∷ write ∷ begin ∷ scan ∷ trace ∷ clean ∷ finish ∷ isDue ∷ undirty ∷ []) unknown h
+kind_unknown x h = get_or-eq_default (unknown ∷ new ∷ load ∷ store ∷ barrier ∷ hand_over ∷ drop_reg ∷ read ∷ write ∷ begin ∷ scan ∷ trace ∷ clean ∷ finish ∷ is_due ∷ undirty ∷ []) unknown h
 
 -- only one number is a known kind's
 pub kind_number : (x : ℕ) (n : Kind) → kind_of x ≡ n → ((row_of n).code ≡ 0 → ⊥) → x ≡ (row_of n).code

@@ -5,7 +5,7 @@ use Prim.Native.Nat.{ℕ, zero, suc, ◌*◌, ◌-◌}
 use Rattle.std.proofs.Math.Dec.{leb}
 use Rattle.model.specs.Base.{some, first}
 use Rattle.model.specs.Image.{Image, size, links, link, level, reg, owed}
-use Rattle.model.specs.Records.{Step, Kind, new, load, store, barrier, handOver, dropReg, read, write, kind_of}
+use Rattle.model.specs.Records.{Step, Kind, new, load, store, barrier, hand_over, drop_reg, read, write, kind_of}
 use Rattle.model.specs.Rows.{row_of, is, for_kind, is_player, fields, at_target}
 use Rattle.model.specs.Steps.{Event, unnamed, off_desk, bad_size}
 
@@ -137,8 +137,8 @@ module _ (q : PlainStore) (s : Step) where
       ∷ (load, plain_accept (put_reg q s.who s.a o) (as_object o))
       ∷ (store, plain_accept (put_owing (put_link q (holding s.a) s.b (holding s.c)) s.who true) (as_is 0))
       ∷ (barrier, plain_accept (put_owing q s.who false) (as_is 0))
-      ∷ (handOver, plain_accept (put_reg q s.b s.c (holding s.a)) (as_is 0))
-      ∷ (dropReg, plain_accept (put_reg q s.who s.a (old 0)) (as_is 0))
+      ∷ (hand_over, plain_accept (put_reg q s.b s.c (holding s.a)) (as_is 0))
+      ∷ (drop_reg, plain_accept (put_reg q s.who s.a (old 0)) (as_is 0))
       ∷ (read, plain_accept q (as_is (q.level_of (holding s.a) s.b)))
       ∷ (write, plain_accept (put_level q (holding s.a) s.b s.c) (as_is 0))
       ∷ [])

@@ -40,10 +40,10 @@ records w bs = table (length bs / record_bytes w) (λ i. step_of w (take (record
 
 -- Document 01's kinds 1 to 14 in order, and document 02's kind 15; `handOver` is its "hand", `dropReg` its "drop", `isDue` its "due".
 pub data Kind : Type 0 where
-  new load store barrier handOver dropReg read write begin scan trace clean finish isDue undirty unknown : Kind
+  new load store barrier hand_over drop_reg read write begin scan trace clean finish is_due undirty unknown : Kind
 
 unfoldable pub kind_of : ℕ → Kind
-kind_of n = get_or (unknown ∷ new ∷ load ∷ store ∷ barrier ∷ handOver ∷ dropReg ∷ read ∷ write ∷ begin ∷ scan ∷ trace ∷ clean ∷ finish ∷ isDue ∷ undirty ∷ []) n unknown
+kind_of n = get_or (unknown ∷ new ∷ load ∷ store ∷ barrier ∷ hand_over ∷ drop_reg ∷ read ∷ write ∷ begin ∷ scan ∷ trace ∷ clean ∷ finish ∷ is_due ∷ undirty ∷ []) n unknown
 
 -- opens all of these
 unfoldable pub records_open : ℕ

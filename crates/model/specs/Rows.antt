@@ -1,7 +1,7 @@
 -- The kinds, a kind_row for each: what its fields are, and what it asks for. A kind more is a kind_row here, and a line in `actBy`.
 use Rattle.std.specs.Prelude.{Bool, true, List, [], ◌∷◌, ℕ, leb, eqb}
 use Rattle.std.proofs.Math.Bool.{false}
-use Rattle.model.specs.Records.{Step, Kind, new, load, store, barrier, handOver, dropReg, read, write, begin, scan, trace, clean, finish, isDue, undirty, unknown}
+use Rattle.model.specs.Records.{Step, Kind, new, load, store, barrier, hand_over, drop_reg, read, write, begin, scan, trace, clean, finish, is_due, undirty, unknown}
 
 -- ---- the table
 
@@ -15,10 +15,10 @@ pub data Field : Type 0 where
 -- the link or level word that a kind goes to: the field that is the object's register, and the field that says which word
 pub data Target : Type 0 where
   nowhere : Target
-  link_at levelAt : Field → Field → Target
+  link_at level_at : Field → Field → Target
 
 pub data Phase : Type 0 where
-  anyPhase noCycle inCycle : Phase
+  any_phase no_cycle in_cycle : Phase
 
 -- the kind's number, or 0; the roles of its fields; whether its players must owe nothing; where it goes; in which phase
 pub record KindRow : Type 0 where
@@ -36,23 +36,23 @@ kind_row n w a b c u p h = record { code = n; who = w; a = a; b = b; c = c; unow
 
 unfoldable pub row_of : Kind → KindRow
 unfolding kind_row
-row_of new = kind_row 1 player register number number true nowhere anyPhase
-row_of load = kind_row 2 player register register number true (link_at in_b in_c) anyPhase
-row_of store = kind_row 3 player register number register true (link_at in_a in_b) anyPhase
-row_of barrier = kind_row 4 player unused unused unused false nowhere anyPhase
-row_of handOver = kind_row 5 player register player register true nowhere anyPhase
-row_of dropReg = kind_row 6 player register unused unused true nowhere anyPhase
-row_of read = kind_row 7 player register number unused true (levelAt in_a in_b) anyPhase
-row_of write = kind_row 8 player register number number true (levelAt in_a in_b) anyPhase
-row_of begin = kind_row 9 unused unused unused unused false nowhere noCycle
-row_of scan = kind_row 10 tracer player unused unused false nowhere inCycle
-row_of trace = kind_row 11 tracer unused unused unused false nowhere inCycle
-row_of clean = kind_row 12 tracer unused unused unused false nowhere inCycle
-row_of finish = kind_row 13 unused unused unused unused false nowhere inCycle
-row_of isDue = kind_row 14 unused number unused unused false nowhere anyPhase
+row_of new = kind_row 1 player register number number true nowhere any_phase
+row_of load = kind_row 2 player register register number true (link_at in_b in_c) any_phase
+row_of store = kind_row 3 player register number register true (link_at in_a in_b) any_phase
+row_of barrier = kind_row 4 player unused unused unused false nowhere any_phase
+row_of hand_over = kind_row 5 player register player register true nowhere any_phase
+row_of drop_reg = kind_row 6 player register unused unused true nowhere any_phase
+row_of read = kind_row 7 player register number unused true (level_at in_a in_b) any_phase
+row_of write = kind_row 8 player register number number true (level_at in_a in_b) any_phase
+row_of begin = kind_row 9 unused unused unused unused false nowhere no_cycle
+row_of scan = kind_row 10 tracer player unused unused false nowhere in_cycle
+row_of trace = kind_row 11 tracer unused unused unused false nowhere in_cycle
+row_of clean = kind_row 12 tracer unused unused unused false nowhere in_cycle
+row_of finish = kind_row 13 unused unused unused unused false nowhere in_cycle
+row_of is_due = kind_row 14 unused number unused unused false nowhere any_phase
 -- document 02, (ii): "Step 15, undirty, names a card in a, with its second byte 0"
-row_of undirty = kind_row 15 unused card unused unused false nowhere inCycle
-row_of unknown = kind_row 0 number number number number false nowhere anyPhase
+row_of undirty = kind_row 15 unused card unused unused false nowhere in_cycle
+row_of unknown = kind_row 0 number number number number false nowhere any_phase
 
 -- ---- one kind and another
 
@@ -119,7 +119,7 @@ module _ (s : Step) where
   unfolding field_of
   at_target l v nowhere = false
   at_target l v (link_at r i) = l (field_of r) (field_of i)
-  at_target l v (levelAt r i) = v (field_of r) (field_of i)
+  at_target l v (level_at r i) = v (field_of r) (field_of i)
 
 -- opens all of these
 unfoldable pub rows_open : ℕ

@@ -5,8 +5,8 @@ use Prim.Native.Nat.{ℕ, zero, suc, ◌+◌, ◌*◌, ◌-◌, ◌/◌}
 use Rattle.std.proofs.Math.Dec.{leb, ltb, eqb}
 use Rattle.model.specs.Base.{some, first}
 use Rattle.model.specs.Image.{Image, links, link, levels, level, reg, owed, scanned, running, dirty, card_count, set_word, set_reg, set_owed, dirty_card, undirty_card}
-use Rattle.model.specs.Records.{Step, Kind, new, load, store, barrier, handOver, dropReg, read, write, begin, scan, trace, clean, finish, isDue, undirty, unknown, kind_of}
-use Rattle.model.specs.Rows.{Phase, anyPhase, noCycle, inCycle, row_of, is, for_kind, is_unused, is_player, limit, reaches, fields, at_target, rows_open}
+use Rattle.model.specs.Records.{Step, Kind, new, load, store, barrier, hand_over, drop_reg, read, write, begin, scan, trace, clean, finish, is_due, undirty, unknown, kind_of}
+use Rattle.model.specs.Rows.{Phase, any_phase, no_cycle, in_cycle, row_of, is, for_kind, is_unused, is_player, limit, reaches, fields, at_target, rows_open}
 use Rattle.model.specs.Mutate.{Placing, room_for, has_room, new_object, usable_granules}
 use Rattle.model.specs.Collect.{begin_cycle, scan_player, trace_line, trace_step, clean_line, clean_step}
 use Rattle.model.specs.Finish.{Finish, finish_step}
@@ -79,9 +79,9 @@ module _ (m : Image) (s : Step) where
 
   -- 10 wrong phase: "begin in a cycle; 10 to 13 outside one"; kind 15 "10 outside a cycle"
   unfoldable pub out_of : Phase → Bool
-  out_of anyPhase = false
-  out_of noCycle = eqb (running m) 1
-  out_of inCycle = eqb (running m) 0
+  out_of any_phase = false
+  out_of no_cycle = eqb (running m) 1
+  out_of in_cycle = eqb (running m) 0
 
   unfoldable pub wrong_phase : Kind → Bool
   unfolding row_of out_of
@@ -126,7 +126,7 @@ finish_done f = accept f.image f.value
 -- by a rule of placing, and by any rule of kind 14: what due says of an image and a. Only a new goes by the first (`placing-rule` of the theory),
 -- and only kind 14 by the second (`due-rule`).
 module _ (rule : Placing) (m : Image) (s : Step) where
-  module _ (dueBy : Image → ℕ → ℕ) where
+  module _ (due_by : Image → ℕ → ℕ) where
     unfoldable pub act_by : Kind → Done
     -- "new: register a gets an object of b granules and c links, all else zero, at the start of" the run that the rule takes; "value its granule"
     act_by new = accept (new_object rule m s.who s.a s.b s.c) (room_for rule m s.b).run
@@ -137,9 +137,9 @@ module _ (rule : Placing) (m : Image) (s : Step) where
     -- "barrier: the owed card turns dirty and the player owes nothing"
     act_by barrier = accept (set_owed (dirty_card m (owed m s.who - 1)) s.who 0) 0
     -- "hand: player b's register c gets a copy of own register a"
-    act_by handOver = accept (set_reg m s.b s.c (object m s s.a)) 0
+    act_by hand_over = accept (set_reg m s.b s.c (object m s s.a)) 0
     -- "drop: register a becomes nil"
-    act_by dropReg = accept (set_reg m s.who s.a 0) 0
+    act_by drop_reg = accept (set_reg m s.who s.a 0) 0
     -- "read: level word b of the object in a"
     act_by read = accept m (level m (object m s s.a) s.b)
     -- "write: c into that word"
@@ -149,7 +149,7 @@ module _ (rule : Placing) (m : Image) (s : Step) where
     act_by trace = accept (trace_step m s.who) 0
     act_by clean = accept (clean_step m s.who) 0
     act_by finish = finish_done (finish_step m)
-    act_by isDue = accept m (dueBy m s.a)
+    act_by is_due = accept m (due_by m s.a)
     -- document 02, (ii): "Step 15, undirty, names a card in a [..]; it turns state 1 to 0 and 3 to 2"
     act_by undirty = accept (undirty_card m s.a) 0
     act_by unknown = accept m 0

@@ -3,7 +3,7 @@ use mathlib.Core.Path.{◌≡◌, refl}
 use Prim.Native.Nat.{ℕ, ◌<◌}
 use borrow.Author.Tests.{lt-leb, eq-eqb}
 use Rattle.model.specs.Image.{Image, owed}
-use Rattle.model.specs.Records.{new, load, store, barrier, handOver, dropReg, read, write, kind_of}
+use Rattle.model.specs.Records.{new, load, store, barrier, hand_over, drop_reg, read, write, kind_of}
 use Rattle.model.specs.Steps.{numbers_open}
 use Rattle.request_laws.specs.Answer.{asked}
 use Rattle.request_laws.specs.Passed.{Passed}
@@ -12,7 +12,7 @@ pub barrier_passed : (m : Image) (p : ℕ) → p < 16 → Passed m (asked 4 p 0 
 unfolding asked kind_of numbers_open
 barrier_passed m p h = record { is_kind = refl; named = refl; on_desk = rw (lt-leb 16 p h); none_owed = refl }
 
-pub hand_passed : (m : Image) (p a q b : ℕ) → (p < 16) × (a < 16) × (q < 16) × (b < 16) → (owed m p ≡ 0) × (owed m q ≡ 0) → Passed m (asked 5 p a q b) handOver
+pub hand_passed : (m : Image) (p a q b : ℕ) → (p < 16) × (a < 16) × (q < 16) × (b < 16) → (owed m p ≡ 0) × (owed m q ≡ 0) → Passed m (asked 5 p a q b) hand_over
 unfolding asked kind_of numbers_open
 hand_passed m p a q b h z = record {
   is_kind = refl;
@@ -35,7 +35,7 @@ module _ (m : Image) (p a : ℕ) (z : owed m p ≡ 0) where
     unfolding asked kind_of numbers_open
     new_passed b c = record { is_kind = refl; named = refl; on_desk = rw (lt-leb 16 p h.0, lt-leb 16 a h.1); none_owed = rw (eq-eqb (owed m p) 0 z) }
 
-    pub drop_passed : Passed m (asked 6 p a 0 0) dropReg
+    pub drop_passed : Passed m (asked 6 p a 0 0) drop_reg
     unfolding asked kind_of numbers_open
     drop_passed = record { is_kind = refl; named = refl; on_desk = rw (lt-leb 16 p h.0, lt-leb 16 a h.1); none_owed = rw (eq-eqb (owed m p) 0 z) }
 

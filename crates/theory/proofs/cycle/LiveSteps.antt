@@ -8,7 +8,7 @@ use lib.Dec.{ltb}
 use lib.ListN.{take, drop, length-take}
 use borrow.Author.Tests.{eqb-false, leb-false}
 use Rattle.model.specs.Image.{Image, is_start, size, links, levels, reg, hand, next_link, set_word, set_owed, with_players, dirty_card, set_state, with_cards}
-use Rattle.model.specs.Records.{Step, Kind, new, load, store, barrier, handOver, dropReg, read, write, begin, scan, trace, clean, finish, isDue, undirty, unknown}
+use Rattle.model.specs.Records.{Step, Kind, new, load, store, barrier, hand_over, drop_reg, read, write, begin, scan, trace, clean, finish, is_due, undirty, unknown}
 use Rattle.model.specs.Mutate.{Placing}
 use Rattle.model.specs.Steps.{off_desk, object, no_object, past_end, refusal, accept, act, step}
 use Rattle.model.proofs.Laws.{some_false}
@@ -65,8 +65,8 @@ module _ (rule : Placing) (m : Image) (s : Step) (f : Facts m) where
       carries_silent m (set_word m g (2 + s.b) (object m s s.c)) _ _ _ _ _
       (set_word_carries m f.laid g s.b (object m s s.c) st (omega (arith, l, (f.laid.inside g st).0)) (λ k. held s.c (d 0) (d 3)))
   act_carries np barrier e nf = carries_silent m m _ _ _ _ _ (carries_refl m)
-  act_carries np handOver e nf = let d = some_false _ (line m s handOver e 1) in set_reg_carries m s.b s.c _ (held s.a (d 0) (d 1))
-  act_carries np dropReg e nf = set_reg_carries m s.who s.a 0 (λ z. absurd (z refl))
+  act_carries np hand_over e nf = let d = some_false _ (line m s hand_over e 1) in set_reg_carries m s.b s.c _ (held s.a (d 0) (d 1))
+  act_carries np drop_reg e nf = set_reg_carries m s.who s.a 0 (λ z. absurd (z refl))
   act_carries np read e nf = carries_refl m
   act_carries np write e nf =
       let d = some_false _ (line m s write e 1) in
@@ -81,7 +81,7 @@ module _ (rule : Placing) (m : Image) (s : Step) (f : Facts m) where
   act_carries np trace e nf = quiet_carries m _ (quiet_trace m s.who (next_source m f s.who (not_above 7 s.who (some_false _ (line m s trace e 1) 0))))
   act_carries np clean e nf = quiet_carries m _ (quiet_clean m s.who (next_source m f s.who (not_above 7 s.who (some_false _ (line m s clean e 1) 0))))
   act_carries np finish e nf = absurd (nf refl)
-  act_carries np isDue e nf = carries_refl m
+  act_carries np is_due e nf = carries_refl m
   act_carries np undirty e nf = quiet_carries m _ (quiet_undirty m s.a)
   act_carries np unknown e nf = carries_refl m
 

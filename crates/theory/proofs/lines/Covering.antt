@@ -14,7 +14,7 @@ use Rattle.model.specs.Image.{Image, is_dirty, granules, word, marked, links, li
 use Rattle.model.specs.Collect.{pop, put_hand, take_object, put_card, take_card}
 use Rattle.model.proofs.Laws.{false≢, bool_cases, nth_put_same, nth_put_other}
 use Rattle.theory.specs.Cover.{Coming, Covered, Cover, on_dirty, on_entry, on_hand, on_card, owes_by, to_nil, to_marked, is_coming, is_owed}
-use Rattle.theory.specs.Lines.{entry_in, PacketsOk, NilOr, Marked}
+use Rattle.theory.specs.Lines.{entry_in, PacketsOk, NilOr}
 use Rattle.theory.proofs.lines.Packets.{popped, pop_on}
 use Rattle.theory.proofs.lines.Sections.{two, two_off, two_is}
 

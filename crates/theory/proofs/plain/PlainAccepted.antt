@@ -7,7 +7,7 @@ use native.Mathlib.Omega.{arith}
 use lib.Dec.{eqb}
 use borrow.Author.Tests.{eqb-false, ne_eqb, leb-false}
 use Rattle.model.specs.Image.{Image, word, links, link, reg, owed, with_heap, with_cards, set_word, set_state, dirty_card}
-use Rattle.model.specs.Records.{Step, Kind, new, load, store, barrier, handOver, dropReg, read, write, begin, scan, trace, clean, finish, isDue, undirty, unknown, kind_of}
+use Rattle.model.specs.Records.{Step, Kind, new, load, store, barrier, hand_over, drop_reg, read, write, begin, scan, trace, clean, finish, is_due, undirty, unknown, kind_of}
 use Rattle.model.specs.Rows.{is}
 use Rattle.model.specs.Mutate.{Placing}
 use Rattle.model.specs.Steps.{off_desk, object, no_object, past_end, refusal, accept, act, outcome}
@@ -103,15 +103,15 @@ module _ (rule : Placing) (m : Image) (f : Facts m) (s : Step) (q : PlainStore) 
       number_reply barrier k refl refl _ 0 _ 0 refl
       (same_set_owed m₁ f.players_length s.who 0 (not_above 15 s.who (d 0)) name q
       (same_kept m f m₁ (record { kept_reg = λ p r. refl; kept_owed = λ p. refl; kept_word = λ g j c l. refl }) name q S))
-  accepted_alike o handOver e z k =
-      let d = some_false _ (admitted m s handOver z).on_desk in
+  accepted_alike o hand_over e z k =
+      let d = some_false _ (admitted m s hand_over z).on_desk in
       let hp : s.who < 16 = not_above 15 s.who (d 0) in
       let ha : s.a < 16 = not_above 15 s.a (d 1) in
-      number_reply handOver k refl refl _ 0 _ 0 refl
+      number_reply hand_over k refl refl _ 0 _ 0 refl
       (rw (in_reg s.a hp ha) (same_set_reg m f s.b s.c (object m s s.a) (not_above 15 s.b (d 2)) (not_above 15 s.c (d 3)) name q S (reach_of s.a hp ha)))
-  accepted_alike o dropReg e z k =
-      let d = some_false _ (admitted m s dropReg z).on_desk in
-      number_reply dropReg k refl refl _ 0 _ 0 refl
+  accepted_alike o drop_reg e z k =
+      let d = some_false _ (admitted m s drop_reg z).on_desk in
+      number_reply drop_reg k refl refl _ 0 _ 0 refl
       (rw (← ns.name_nil) (same_set_reg m f s.who s.a 0 (not_above 15 s.who (d 0)) (not_above 15 s.a (d 1)) name q S (λ nz. absurd (nz refl))))
   accepted_alike o read e z k =
       let a = admitted m s read z in
@@ -135,7 +135,7 @@ module _ (rule : Placing) (m : Image) (f : Facts m) (s : Step) (q : PlainStore) 
   accepted_alike o trace e z k = false≢ e
   accepted_alike o clean e z k = false≢ e
   accepted_alike o finish e z k = false≢ e
-  accepted_alike o isDue e z k = false≢ e
+  accepted_alike o is_due e z k = false≢ e
   accepted_alike o undirty e z k = false≢ e
   accepted_alike o unknown e z k = false≢ e
 

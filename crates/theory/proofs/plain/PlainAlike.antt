@@ -8,7 +8,7 @@ use lib.ListN.{get_or}
 use borrow.Author.Tests.{eqb-false, leb-false}
 use Rattle.model.specs.Base.{some, first}
 use Rattle.model.specs.Image.{Image, links, levels}
-use Rattle.model.specs.Records.{Step, Kind, new, load, store, barrier, handOver, dropReg, read, write, begin, scan, trace, clean, finish, isDue, undirty, unknown}
+use Rattle.model.specs.Records.{Step, Kind, new, load, store, barrier, hand_over, drop_reg, read, write, begin, scan, trace, clean, finish, is_due, undirty, unknown}
 use Rattle.model.specs.Mutate.{has_room}
 use Rattle.model.specs.Rows.{Role, unused, player, tracer, register, card, number, row_of, is, is_player, limit, reaches, fields}
 use Rattle.model.specs.Steps.{unnamed, off_desk, bad_size, object, owes, owing, no_object, past_end, no_room, wrong_phase, nothing_to_do, refusal}
@@ -114,8 +114,8 @@ module _ (m : Image) (s : Step) (q : PlainStore) (name : ℕ → Object) (i : �
     end_line = λ d o. refl;
     nothing_line = λ d. sym (not-not _) ∙ ap not (owes_alike s.who (not_above 15 s.who (some_false _ d 0)));
   }
-  lines_of handOver e = bare_lines _ _ _ (owing_alike handOver)
-  lines_of dropReg e = bare_lines _ _ _ (owing_alike dropReg)
+  lines_of hand_over e = bare_lines _ _ _ (owing_alike hand_over)
+  lines_of drop_reg e = bare_lines _ _ _ (owing_alike drop_reg)
   lines_of read e = object_lines _ _ _ s.a s.b (levels m) (plain_levels q s) (owing_alike read) (λ d. (not_above 15 s.who (some_false _ d 0), not_above 15 s.a (some_false _ d 1))) (levels_alike s.a)
   lines_of write e = object_lines _ _ _ s.a s.b (levels m) (plain_levels q s) (owing_alike write) (λ d. (not_above 15 s.who (some_false _ d 0), not_above 15 s.a (some_false _ d 1))) (levels_alike s.a)
   lines_of begin e = false≢ e
@@ -123,7 +123,7 @@ module _ (m : Image) (s : Step) (q : PlainStore) (name : ℕ → Object) (i : �
   lines_of trace e = false≢ e
   lines_of clean e = false≢ e
   lines_of finish e = false≢ e
-  lines_of isDue e = false≢ e
+  lines_of is_due e = false≢ e
   lines_of undirty e = false≢ e
   lines_of unknown e = false≢ e
 

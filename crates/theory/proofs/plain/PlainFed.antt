@@ -7,7 +7,7 @@ use native.Mathlib.Omega.{arith}
 use lib.Dec.{eqb}
 use borrow.Author.Tests.{eqb-true, eqb-false, ne_eqb, not-true, not-false}
 use Rattle.model.specs.Image.{Image, reg, owed}
-use Rattle.model.specs.Records.{Step, Kind, new, load, store, barrier, handOver, dropReg, read, write, begin, scan, trace, clean, finish, isDue, undirty, unknown, kind_of}
+use Rattle.model.specs.Records.{Step, Kind, new, load, store, barrier, hand_over, drop_reg, read, write, begin, scan, trace, clean, finish, is_due, undirty, unknown, kind_of}
 use Rattle.model.specs.Finish.{finish_with, finish_step}
 use Rattle.model.specs.Rows.{is}
 use Rattle.model.specs.Mutate.{Placing}
@@ -60,8 +60,8 @@ module _ (rule : Placing) (m : Image) (s : Step) (stays : refusal m s finish ≡
   unfed_act load e z = false≢ (sym e)
   unfed_act store e z = false≢ (sym e)
   unfed_act barrier e z = false≢ (sym e)
-  unfed_act handOver e z = false≢ (sym e)
-  unfed_act dropReg e z = false≢ (sym e)
+  unfed_act hand_over e z = false≢ (sym e)
+  unfed_act drop_reg e z = false≢ (sym e)
   unfed_act read e z = false≢ (sym e)
   unfed_act write e z = false≢ (sym e)
   unfed_act begin e z = quiet_kept m _ (quiet_begin m)
@@ -69,7 +69,7 @@ module _ (rule : Placing) (m : Image) (s : Step) (stays : refusal m s finish ≡
   unfed_act trace e z = quiet_kept m _ (quiet_trace m s.who (λ h nz. tt))
   unfed_act clean e z = quiet_kept m _ (quiet_clean m s.who (λ h nz. tt))
   unfed_act finish e z = record { kept_reg = λ p r. refl; kept_owed = λ p. off_owed m.players p; kept_word = stays z }
-  unfed_act isDue e z = quiet_kept m _ (quiet_refl m)
+  unfed_act is_due e z = quiet_kept m _ (quiet_refl m)
   unfed_act undirty e z = quiet_kept m _ (quiet_undirty m s.a)
   unfed_act unknown e z = quiet_kept m _ (quiet_refl m)
 

@@ -117,16 +117,16 @@ pub clean_cases : (P : ℕ → Image → Type 0) (m : Image) (t : ℕ) → P 0 m
     → (hand_card m t ≡ 0 → (lowest_dirty m ≡ 0 → ⊥) → P 3 (take_card m t (lowest_dirty m - 1)))
     → P (clean_line m t) (clean_step m t)
 unfolding clean_step clean_line first
-clean_cases P m t idle byHand byCard byDirty = go (not (eqb (hand m t) 0)) refl (not (eqb (hand_card m t) 0)) refl (not (eqb (lowest_dirty m) 0)) refl
+clean_cases P m t idle by_hand by_card by_dirty = go (not (eqb (hand m t) 0)) refl (not (eqb (hand_card m t) 0)) refl (not (eqb (lowest_dirty m) 0)) refl
   where
     lines : Bool → Bool → Bool → ℕ
     lines a b c = first 1 (a ∷ b ∷ c ∷ [])
 
     go : (a : Bool) → not (eqb (hand m t) 0) ≡ a → (b : Bool) → not (eqb (hand_card m t) 0) ≡ b → (c : Bool) → not (eqb (lowest_dirty m) 0) ≡ c
         → P (lines a b c) (get_or (m ∷ trace_hand m t ∷ clean_card m t ∷ take_card m t (lowest_dirty m - 1) ∷ []) (lines a b c) m)
-    go true x b y c z = byHand (eqb-false _ _ (not-true _ x))
-    go false x true y c z = byCard (eqb-true _ _ (not-false _ x)) (eqb-false _ _ (not-true _ y))
-    go false x false y true z = byDirty (eqb-true _ _ (not-false _ y)) (eqb-false _ _ (not-true _ z))
+    go true x b y c z = by_hand (eqb-false _ _ (not-true _ x))
+    go false x true y c z = by_card (eqb-true _ _ (not-false _ x)) (eqb-false _ _ (not-true _ y))
+    go false x false y true z = by_dirty (eqb-true _ _ (not-false _ y)) (eqb-false _ _ (not-true _ z))
     go false x false y false z = idle
 
 pub clean_does : (m : Image) → Lines m → Cover m → (t : ℕ) → t < 8 → StepStays m (clean_step m t)

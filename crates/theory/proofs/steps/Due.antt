@@ -4,7 +4,7 @@ use mathlib.Core.Bool.{cond}
 use Prim.Native.Nat.{ℕ, zero, suc}
 use lib.Dec.{ltb}
 use Rattle.model.specs.Image.{Image}
-use Rattle.model.specs.Records.{Step, Kind, new, load, store, barrier, handOver, dropReg, read, write, begin, scan, trace, clean, finish, isDue, undirty, unknown, kind_of}
+use Rattle.model.specs.Records.{Step, Kind, new, load, store, barrier, hand_over, drop_reg, read, write, begin, scan, trace, clean, finish, is_due, undirty, unknown, kind_of}
 use Rattle.model.specs.Mutate.{Placing, usable_run, usable_granules}
 use Rattle.model.specs.Steps.{Done, refusal, accept, finish_done, due_value, act_by, outcome_by, step_by, act, step}
 use Rattle.theory.specs.Lines.{Undamaged}
@@ -19,7 +19,7 @@ alike n d = record { same_image = refl; same_number = refl; same_value = λ othe
 
 module _ (rule : Placing) (m : Image) (s : Step) where
   -- "1 if the granules in such runs are fewer than a", without the chain: a run is a maximal stretch of unused granules
-  pub due-value : Undamaged m → kind_of s.kind ≡ isDue → (step rule m s).number ≡ 0 → (step rule m s).value ≡ cond (ltb (granules_in_stretches usable_run m) s.a) 1 0
+  pub due-value : Undamaged m → kind_of s.kind ≡ is_due → (step rule m s).number ≡ 0 → (step rule m s).value ≡ cond (ltb (granules_in_stretches usable_run m) s.a) 1 0
   unfolding act accept due_value usable_granules
   due-value u k e =
       ap (λ d. d.value) (accepted rule m s k (sym (step_number rule m s k) ∙ e))
@@ -32,8 +32,8 @@ module _ (rule : Placing) (m : Image) (s : Step) where
     acts_alike load = alike load _
     acts_alike store = alike store _
     acts_alike barrier = alike barrier _
-    acts_alike handOver = alike handOver _
-    acts_alike dropReg = alike dropReg _
+    acts_alike hand_over = alike hand_over _
+    acts_alike drop_reg = alike drop_reg _
     acts_alike read = alike read _
     acts_alike write = alike write _
     acts_alike begin = alike begin _
@@ -41,7 +41,7 @@ module _ (rule : Placing) (m : Image) (s : Step) where
     acts_alike trace = alike trace _
     acts_alike clean = alike clean _
     acts_alike finish = alike finish _
-    acts_alike isDue = record { same_image = refl; same_number = refl; same_value = λ other. absurd (other refl) }
+    acts_alike is_due = record { same_image = refl; same_number = refl; same_value = λ other. absurd (other refl) }
     acts_alike undirty = alike undirty _
     acts_alike unknown = alike unknown _
 

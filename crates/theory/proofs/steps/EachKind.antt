@@ -8,7 +8,7 @@ use lib.Dec.{eqb}
 use borrow.Author.Tests.{leb-false, eqb-true, eqb-false, not-false}
 use Rattle.model.specs.Base.{nth}
 use Rattle.model.specs.Image.{Image, levels, owed, running, fields_open}
-use Rattle.model.specs.Records.{Step, Kind, new, load, store, barrier, handOver, dropReg, read, write, begin, scan, trace, clean, finish, isDue, undirty, unknown}
+use Rattle.model.specs.Records.{Step, Kind, new, load, store, barrier, hand_over, drop_reg, read, write, begin, scan, trace, clean, finish, is_due, undirty, unknown}
 use Rattle.model.specs.Collect.{begin_cycle}
 use Rattle.model.specs.Finish.{finish_with, finish_step}
 use Rattle.model.specs.Mutate.{Placing}
@@ -73,13 +73,13 @@ module _ (rule : Placing) (m : Image) (s : Step) (u : Undamaged m) where
     refl,
     refl,
   )
-  kind_keeps handOver r =
-      let d = some_false _ (line m s handOver r 1) in
-      let w = owes_none m s s.b (some_false _ (line m s handOver r 2) 2) in
+  kind_keeps hand_over r =
+      let d = some_false _ (line m s hand_over r 1) in
+      let w = owes_none m s s.b (some_false _ (line m s hand_over r 2) 2) in
       (reg_keeps m u s.b s.c _ (not_above 15 s.b (d 2)) (not_above 15 s.c (d 3)) w (reg_value u.sound.lines s.who s.a), refl, refl)
-  kind_keeps dropReg r =
-      let d = some_false _ (line m s dropReg r 1) in
-      let w = owes_none m s s.who (some_false _ (line m s dropReg r 2) 0) in
+  kind_keeps drop_reg r =
+      let d = some_false _ (line m s drop_reg r 1) in
+      let w = owes_none m s s.who (some_false _ (line m s drop_reg r 2) 0) in
       (reg_keeps m u s.who s.a 0 (not_above 15 s.who (d 0)) (not_above 15 s.a (d 1)) w (inl refl), refl, refl)
   kind_keeps read r = (u, refl, refl)
   kind_keeps write r =
@@ -95,7 +95,7 @@ module _ (rule : Placing) (m : Image) (s : Step) (u : Undamaged m) where
   kind_keeps trace r = stays_keeps m s u (line m s trace r 7) (trace_does m u.sound.lines u.cover s.who (not_above 7 s.who (some_false _ (line m s trace r 1) 0)))
   kind_keeps clean r = stays_keeps m s u (line m s clean r 7) (clean_does m u.sound.lines u.cover s.who (not_above 7 s.who (some_false _ (line m s clean r 1) 0)))
   kind_keeps finish r = (finish_keeps m u, refl, refl)
-  kind_keeps isDue r = (u, refl, refl)
+  kind_keeps is_due r = (u, refl, refl)
   kind_keeps undirty r =
       let d = some_false _ (line m s undirty r 8) in
       (undirty_keeps m u s.a (leb-false _ _ (some_false _ (line m s undirty r 1) 1)) (eqb-true _ _ (not-false _ (d 1))), refl, refl)

@@ -2,7 +2,7 @@
 use mathlib.Core.Path.{◌≡◌, refl, sym, ◌∙◌}
 use mathlib.Core.Logic.{inl, inr}
 use Rattle.model.specs.Image.{Image}
-use Rattle.model.specs.Records.{Step, Kind, new, load, store, barrier, handOver, dropReg, read, write, begin, scan, trace, clean, finish, isDue, undirty, unknown, kind_of}
+use Rattle.model.specs.Records.{Step, Kind, new, load, store, barrier, hand_over, drop_reg, read, write, begin, scan, trace, clean, finish, is_due, undirty, unknown, kind_of}
 use Rattle.model.specs.Mutate.{Placing}
 use Rattle.model.specs.Steps.{refusal, act, outcome, step}
 use Rattle.theory.specs.Placing.{SameButNew}
@@ -15,8 +15,8 @@ module _ (rule other : Placing) (m : Image) (s : Step) where
   same_act load h = refl
   same_act store h = refl
   same_act barrier h = refl
-  same_act handOver h = refl
-  same_act dropReg h = refl
+  same_act hand_over h = refl
+  same_act drop_reg h = refl
   same_act read h = refl
   same_act write h = refl
   same_act begin h = refl
@@ -24,7 +24,7 @@ module _ (rule other : Placing) (m : Image) (s : Step) where
   same_act trace h = refl
   same_act clean h = refl
   same_act finish h = refl
-  same_act isDue h = refl
+  same_act is_due h = refl
   same_act undirty h = refl
   same_act unknown h = refl
 

@@ -9,7 +9,7 @@ use borrow.Author.Tests.{leb-false}
 use Rattle.model.specs.Base.{all, any, every, how_many}
 use Rattle.model.specs.Image.{Image, granules, is_start, size, word, levels, links, with_heap, set_word, fields_open}
 use Rattle.model.specs.Map.{in_object}
-use Rattle.model.specs.Records.{Step, Kind, new, load, store, barrier, handOver, dropReg, read, write, begin, scan, trace, clean, finish, isDue, undirty, unknown, kind_of}
+use Rattle.model.specs.Records.{Step, Kind, new, load, store, barrier, hand_over, drop_reg, read, write, begin, scan, trace, clean, finish, is_due, undirty, unknown, kind_of}
 use Rattle.model.specs.Mutate.{Placing, granules_in_runs}
 use Rattle.model.specs.Steps.{object, no_object, past_end, refusal, accept, act, step}
 use Rattle.model.proofs.Laws.{same_test}
@@ -82,8 +82,8 @@ module _ (rule : Placing) (m : Image) (s : Step) (u : Undamaged m) where
       let w = word_objects g s.b (object m s s.c) st (omega (arith, (laid_of u.sound.lines).inside g (is-start m g st))) in
       record { same_start = w.same_start; same_size = w.same_size }
   same_objects barrier a b r = heap_stays _ refl refl refl
-  same_objects handOver a b r = heap_stays _ refl refl refl
-  same_objects dropReg a b r = heap_stays _ refl refl refl
+  same_objects hand_over a b r = heap_stays _ refl refl refl
+  same_objects drop_reg a b r = heap_stays _ refl refl refl
   same_objects read a b r = heap_stays _ refl refl refl
   same_objects write a b r =
       let g : ℕ = object m s s.a in
@@ -95,7 +95,7 @@ module _ (rule : Placing) (m : Image) (s : Step) (u : Undamaged m) where
   same_objects trace a b r = quiet_objects (quiet_trace m s.who (λ h nz. tt))
   same_objects clean a b r = quiet_objects (quiet_clean m s.who (λ h nz. tt))
   same_objects finish a b r = absurd (b refl)
-  same_objects isDue a b r = heap_stays _ refl refl refl
+  same_objects is_due a b r = heap_stays _ refl refl refl
   same_objects undirty a b r = quiet_objects (quiet_undirty m s.a)
   same_objects unknown a b r = heap_stays _ refl refl refl
 

@@ -9,7 +9,7 @@ use lib.ListN.{get_or}
 use lib.Dec.{ltb}
 use borrow.Author.Tests.{ltb-false, eqb-false}
 use Rattle.model.specs.Image.{Image}
-use Rattle.model.specs.Records.{Step, Kind, new, load, store, barrier, handOver, dropReg, read, write, begin, scan, trace, clean, finish, isDue, undirty, unknown, kind_of}
+use Rattle.model.specs.Records.{Step, Kind, new, load, store, barrier, hand_over, drop_reg, read, write, begin, scan, trace, clean, finish, is_due, undirty, unknown, kind_of}
 use Rattle.model.specs.Mutate.{Placing}
 use Rattle.model.specs.Steps.{Done, unnamed, off_desk, owing, no_object, past_end, bad_size, no_room, wrong_phase, nothing_to_do, refusal, accept, finish_done, act, outcome, step, run, after}
 use Rattle.model.proofs.Laws.{first_none, some_false}
@@ -46,8 +46,8 @@ module _ (rule : Placing) (m : Image) (s : Step) where
   act_number load = refl
   act_number store = refl
   act_number barrier = refl
-  act_number handOver = refl
-  act_number dropReg = refl
+  act_number hand_over = refl
+  act_number drop_reg = refl
   act_number read = refl
   act_number write = refl
   act_number begin = refl
@@ -55,7 +55,7 @@ module _ (rule : Placing) (m : Image) (s : Step) where
   act_number trace = refl
   act_number clean = refl
   act_number finish = refl
-  act_number isDue = refl
+  act_number is_due = refl
   act_number undirty = refl
   act_number unknown = refl
 

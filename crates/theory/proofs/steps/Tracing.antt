@@ -144,17 +144,17 @@ pub trace_cases : (P : ℕ → Image → Type 0) (m : Image) (t : ℕ) → P 0 m
     → (has_entries m (input m t) ≡ false → has_entries m (output m t) ≡ true → P 4 (trace_output m t))
     → P (trace_line m t) (trace_step m t)
 unfolding trace_step trace_line first
-trace_cases P m t idle byHand byInput byPool byOutput = go (not (eqb (hand m t) 0)) refl (has_entries m (input m t)) refl (not (eqb (fullest m) 0)) refl (has_entries m (output m t)) refl
+trace_cases P m t idle by_hand by_input by_pool by_output = go (not (eqb (hand m t) 0)) refl (has_entries m (input m t)) refl (not (eqb (fullest m) 0)) refl (has_entries m (output m t)) refl
   where
     lines : Bool → Bool → Bool → Bool → ℕ
     lines a b c d = first 1 (a ∷ b ∷ c ∷ d ∷ [])
 
     go : (a : Bool) → not (eqb (hand m t) 0) ≡ a → (b : Bool) → has_entries m (input m t) ≡ b → (c : Bool) → not (eqb (fullest m) 0) ≡ c → (d : Bool) → has_entries m (output m t) ≡ d
         → P (lines a b c d) (get_or (m ∷ trace_hand m t ∷ trace_input m t ∷ trace_pool m t ∷ trace_output m t ∷ []) (lines a b c d) m)
-    go true x b y c z d v = byHand (eqb-false _ _ (not-true _ x))
-    go false x true y c z d v = byInput (eqb-true _ _ (not-false _ x)) y
-    go false x false y true z d v = byPool y (eqb-false _ _ (not-true _ z))
-    go false x false y false z true v = byOutput y v
+    go true x b y c z d v = by_hand (eqb-false _ _ (not-true _ x))
+    go false x true y c z d v = by_input (eqb-true _ _ (not-false _ x)) y
+    go false x false y true z d v = by_pool y (eqb-false _ _ (not-true _ z))
+    go false x false y false z true v = by_output y v
     go false x false y false z false v = idle
 
 pub trace_does : (m : Image) → Lines m → Cover m → (t : ℕ) → t < 8 → StepStays m (trace_step m t)

@@ -10,7 +10,7 @@ use lib.Dec.{leb, eqb}
 use lib.ListN.{length}
 use borrow.Author.Tests.{leb-true, eqb-true, not-true, le-leb, lt-leb, eq-eqb, ne_eqb}
 use Rattle.model.specs.Base.{nth, put, every}
-use Rattle.model.specs.Image.{Image, marked, state, hand, hand_card, next_granule, with_cards, with_tracers, set_state, set_tracer}
+use Rattle.model.specs.Image.{Image, marked, state, hand_card, next_granule, with_cards, with_tracers, set_state, set_tracer}
 use Rattle.model.specs.Collect.{put_card, take_object, next_marked, clean_to, clean_card, lowest_dirty, take_card, clean_line, clean_step}
 use Rattle.model.proofs.Counts.{sum_more, sum_change}
 use Rattle.model.proofs.Laws.{false≢, any_use, any_make, every_use, every_nil, every_cons, not_make, nth_put_same, nth_put_other, length_put}

@@ -11,7 +11,7 @@ use lib.ListN.{take, drop}
 use borrow.Author.Tests.{leb-false, eqb-true, eqb-false, eq-eqb, ne_eqb}
 use Rattle.model.specs.Base.{nth, put, some}
 use Rattle.model.specs.Image.{Image, word, is_start, size, links, levels, owed, running, dirty_state, clean_state, set_word, set_reg, set_owed, set_scanned, fields_open}
-use Rattle.model.specs.Records.{Step, Kind, new, load, store, barrier, handOver, dropReg, read, write, begin, scan, trace, clean, finish, isDue, undirty, unknown, kind_of}
+use Rattle.model.specs.Records.{Step, Kind, new, load, store, barrier, hand_over, drop_reg, read, write, begin, scan, trace, clean, finish, is_due, undirty, unknown, kind_of}
 use Rattle.model.specs.Mutate.{Placing}
 use Rattle.model.specs.Rows.{rows_open}
 use Rattle.model.specs.Collect.{scan_player}
@@ -145,8 +145,8 @@ module _ (rule : Placing) (m : Image) (s : Step) (u : Undamaged m) (cy : Cycling
   kind_goes load r nf = quiet_goes (regs_work m s.who s.a _) refl refl
   kind_goes store r nf = store_goes r
   kind_goes barrier r nf = quiet_goes (work_then (state_work dirty_state dirty_changes m (owed m s.who - 1)) (owed_work _ s.who 0)) refl refl
-  kind_goes handOver r nf = quiet_goes (regs_work m s.b s.c _) refl refl
-  kind_goes dropReg r nf = quiet_goes (regs_work m s.who s.a 0) refl refl
+  kind_goes hand_over r nf = quiet_goes (regs_work m s.b s.c _) refl refl
+  kind_goes drop_reg r nf = quiet_goes (regs_work m s.who s.a 0) refl refl
   kind_goes read r nf = same_goes
   kind_goes write r nf = write_goes r
   kind_goes begin r nf = absurd (no_begin r)
@@ -154,7 +154,7 @@ module _ (rule : Placing) (m : Image) (s : Step) (u : Undamaged m) (cy : Cycling
   kind_goes trace r nf = trace_goes r
   kind_goes clean r nf = clean_goes r
   kind_goes finish r nf = absurd (nf refl)
-  kind_goes isDue r nf = same_goes
+  kind_goes is_due r nf = same_goes
   kind_goes undirty r nf = quiet_goes (state_work clean_state clean_changes m s.a) refl refl
   kind_goes unknown r nf = same_goes
 

@@ -10,7 +10,7 @@ use lib.Dec.{eqb}
 use lib.ListN.{length}
 use borrow.Author.Tests.{ltb-true, eqb-true, eqb-false, not-true, lt-ltb, eq-eqb}
 use Rattle.model.specs.Base.{nth, put, sum_below}
-use Rattle.model.specs.Image.{Image, links, dirty, count, entry, input, output, hand, with_packets, with_tracers, set_tracer}
+use Rattle.model.specs.Image.{Image, links, dirty, count, entry, input, output, with_packets, with_tracers, set_tracer}
 use Rattle.model.specs.Collect.{fullest, pop, take_object, trace_input, trace_pool, trace_output, has_entries, trace_line, trace_step}
 use Rattle.model.proofs.Counts.{sum_most, sum_more}
 use Rattle.model.proofs.Laws.{false≢, bool_cases, any_use, any_make, every_use, every_nil, every_cons, not_make, nth_put_same, nth_put_other}
