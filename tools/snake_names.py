@@ -77,7 +77,7 @@ def main(argv):
     turned = {n: snake(n) for n in declared | BOUND if snake(n) != n}
     # Of names that fall together the definition takes the underscores, and a lemma or a field keeps or gets back its dashes.
     plain = [new for new in turned.values()]
-    dashed = {o for o, n in turned.items() if "-" in o and (n in declared or plain.count(n) > 1 or n in LIBRARY)}
+    dashed = {o for o, n in turned.items() if "-" in o and n not in FIELDS and (n in declared or plain.count(n) > 1 or n in LIBRARY)}
     back = {n: n.replace("_", "-") for o, n in turned.items() if "-" not in o and n in declared and n not in FIELDS and n not in dashed}
     for o in dashed:
         del turned[o]

@@ -1,1 +1,2 @@
 // Worked examples alone: see proofs/.
+#![tactic(auto)]

@@ -1,1 +1,2 @@
 // The laws of a finish, for images of any width.
+#![tactic(auto)]

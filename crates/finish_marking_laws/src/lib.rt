@@ -1,1 +1,2 @@
 // The laws of a finish's marking, for images of any width.
+#![tactic(auto)]

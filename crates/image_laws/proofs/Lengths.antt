@@ -8,7 +8,6 @@ use Rattle.model.specs.Image.{image, image_of, sections, lengths, heap_at, start
 use Rattle.model.proofs.Words.{width_cases}
 use Rattle.image_laws.specs.Sized.{Sized}
 use Rattle.image_laws.proofs.Sections.{image_fits}
-use lib.Pow.{high, low}
 
 pub width_image : (w k : ℕ) (ws : List ℕ) → (image_of w k ws).width ≡ w
 unfolding image_of image

@@ -1,4 +1,6 @@
 // The laws of words, sections and bits for a width left open.
+#![tactic(auto)]
+
 // The number of cards of a store, or that no store has that length.
 #[derive(Clone, Copy)]
 pub enum Extent {

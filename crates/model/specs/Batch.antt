@@ -50,8 +50,8 @@ pub record Finished : Type 0 where
 unfoldable pub finish_at : ℕ → List ℕ → Finished
 finish_at w ws = let f : Finish = finish_step (parts w ws) in record { value = f.value; image = words f.image }
 
--- ---- the store of 16-bit words; document 02, (ix), "a wide store of 32-bit words, to be made, judged and run in batches, no more", has `freshAt`,
--- `judgeAt` and `batchAt` at 32
+-- ---- the store of 16-bit words; document 02, (ix), "a wide store of 32-bit words, to be made, judged and run in batches, no more", has `fresh_at`,
+-- `judge_at` and `batch_at` at 32
 
 unfoldable pub fresh_of : List ℕ → Made
 fresh_of = fresh_at 16

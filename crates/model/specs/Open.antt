@@ -1,4 +1,4 @@
--- The one opener: what an `unfolding model-open` line needs to compute fresh stores, verdicts, batches, maps, verdicts on reports, finishes, histories and the plain store.
+-- The one opener: what an `unfolding model_open` line needs to compute fresh stores, verdicts, batches, maps, verdicts on reports, finishes, histories and the plain store.
 use Rattle.std.specs.Prelude.{ℕ}
 use Rattle.model.specs.Undamaged.{undamaged_open}
 use Rattle.model.specs.Records.{records_open}

@@ -38,7 +38,7 @@ step_of w bs =
 unfoldable pub records : ℕ → List ℕ → List Step
 records w bs = table (length bs / record_bytes w) (λ i. step_of w (take (record_bytes w) (drop (record_bytes w * i) bs)))
 
--- Document 01's kinds 1 to 14 in order, and document 02's kind 15; `handOver` is its "hand", `dropReg` its "drop", `isDue` its "due".
+-- Document 01's kinds 1 to 14 in order, and document 02's kind 15; `hand_over` is its "hand", `drop_reg` its "drop", `is_due` its "due".
 pub data Kind : Type 0 where
   new load store barrier hand_over drop_reg read write begin scan trace clean finish is_due undirty unknown : Kind
 

@@ -1,4 +1,4 @@
--- The kinds, a kind_row for each: what its fields are, and what it asks for. A kind more is a kind_row here, and a line in `actBy`.
+-- The kinds, a kind_row for each: what its fields are, and what it asks for. A kind more is a kind_row here, and a line in `act_by`.
 use Rattle.std.specs.Prelude.{Bool, true, List, [], ◌∷◌, ℕ, leb, eqb}
 use Rattle.std.proofs.Math.Bool.{false}
 use Rattle.model.specs.Records.{Step, Kind, new, load, store, barrier, hand_over, drop_reg, read, write, begin, scan, trace, clean, finish, is_due, undirty, unknown}

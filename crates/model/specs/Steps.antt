@@ -123,8 +123,8 @@ accept i v = record { image = i; number = 0; value = v }
 unfoldable pub finish_done : Finish → Done
 finish_done f = accept f.image f.value
 
--- by a rule of placing, and by any rule of kind 14: what due says of an image and a. Only a new goes by the first (`placing-rule` of the theory),
--- and only kind 14 by the second (`due-rule`).
+-- by a rule of placing, and by any rule of kind 14: what due says of an image and a. Only a new goes by the first (`placing_rule` of the theory),
+-- and only kind 14 by the second (`due_rule`).
 module _ (rule : Placing) (m : Image) (s : Step) where
   module _ (due_by : Image → ℕ → ℕ) where
     unfoldable pub act_by : Kind → Done

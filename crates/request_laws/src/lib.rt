@@ -1,4 +1,6 @@
 // What the kinds share whatever the width: a request, what numbers 3 to 5 say of it, and the laws of a step by its number.
+#![tactic(auto)]
+
 // The fields of a step's record.
 #[derive(Clone, Copy)]
 pub struct Request {

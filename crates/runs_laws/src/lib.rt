@@ -1,4 +1,6 @@
 // What the walks along the free runs share whatever the width: where they end, what they count, and their laws.
+#![tactic(auto)]
+
 // A run, and the run before it in the chain; 0: there is none.
 #[derive(Clone, Copy)]
 pub struct Room {

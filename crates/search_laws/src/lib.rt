@@ -1,1 +1,2 @@
 // The laws of the search for what chains reach, for a width left open.
+#![tactic(auto)]

@@ -1,5 +1,7 @@
 // The library: a fresh store made, an image judged, a batch of steps run, a store printed, a sweep report judged; and the first three for the wide
 // store. None asks anything of its caller (demand 1a of docs/DEMANDS.md); each contract says all that the call returns and leaves (1c, 1d, 2a).
+#![tactic(auto)]
+
 ghost use Rattle.std.specs.Prelude.{◌≡◌};
 ghost use Rattle.model.specs.Batch.{fresh_of, judge_of, batch_of, batch_at};
 ghost use Rattle.model.specs.Map.{map_of};

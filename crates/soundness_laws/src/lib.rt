@@ -1,1 +1,2 @@
 // The laws of every line of "undamaged" but Cover, for words of any width.
+#![tactic(auto)]

@@ -1,7 +1,7 @@
 // Reads step records from standard input, runs them on a fresh store of 16 cards and prints a line per step.
 #![tactic(auto)]
 
-ghost use Rattle.std.specs.Prelude.{◌+◌, ◌*◌, ◌≤◌, ◌<◌, length};
+ghost use Rattle.std.specs.Prelude.{◌+◌, ◌*◌, ◌≤◌, ◌<◌, IfOk, length};
 
 use std::io;
 use std::io::Read;
@@ -54,11 +54,25 @@ fn report(rt: &impl Print, steps: &[u8], space: &mut [u16], n: usize) -> io::Res
     print_lines(rt, steps, space, n)
 }
 
+// Reads until buf is full or the input ends, and returns how many bytes it put at the start of buf.
+fn read_full(input: &mut impl Read, buf: &mut [u8]) -> io::Result<usize>
+    ensures { IfOk result (λ n. n ≤ length buf.old) }
+{
+    let mut done = 0;
+    while done < buf.len() {
+        let n = input.read(&mut buf[done..])?;
+        if n == 0 {
+            break;
+        }
+        done += n;
+    }
+    Ok(done)
+}
+
 fn main(rt: HostRuntime) -> io::Result<()> {
     // One byte more than is taken, to see that there is more.
-    let mut input = Vec::new(rt.alloc());
-    rt.stdin().take(8193).read_to_end(&mut input)?;
-    let read = input.len();
+    let mut input = [0u8; 8193];
+    let read = read_full(&mut rt.stdin(), &mut input)?;
     if 8192 < read {
         return println!(rt; "misfit");
     }
@@ -66,5 +80,5 @@ fn main(rt: HostRuntime) -> io::Result<()> {
         return println!(rt; "misfit");
     }
     let mut space = [0u16; 2048];
-    report(&rt, &input, &mut space, read / 8)
+    report(&rt, &input[..read], &mut space, read / 8)
 }

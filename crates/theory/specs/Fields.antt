@@ -13,7 +13,7 @@ unfoldable pub role_at : Kind → ℕ → Role
 unfolding row_of
 role_at n i = let r : KindRow = row_of n in get_or (r.who ∷ r.a ∷ r.b ∷ r.c ∷ []) i number
 
--- With words of w bits. A field that names a card may be any number here: how many cards there are is asked for apart (`noCard`).
+-- With words of w bits. A field that names a card may be any number here: how many cards there are is asked for apart (`no_card`).
 unfoldable pub bound : ℕ → Role → ℕ
 bound w unused = 0
 bound w player = 16

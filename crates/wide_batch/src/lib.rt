@@ -1,4 +1,6 @@
 // A batch at this store's width: refused by a length or a damaged image, or run to its end.
+#![tactic(auto)]
+
 ghost use Rattle.std.specs.Prelude.{◌≡◌};
 ghost use Rattle.model.specs.Mutate.{tightest};
 ghost use Rattle.model.specs.Batch.{batch_at};

@@ -1,4 +1,6 @@
 // The lines of "undamaged" on what a cycle fills: mark bits and their counts, packets and tracers.
+#![tactic(auto)]
+
 ghost use Rattle.std.specs.Prelude.{◌≡◌};
 ghost use Rattle.model.specs.Image.{image_of};
 ghost use Rattle.image_laws.specs.Sized.{Sized};

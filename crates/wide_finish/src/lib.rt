@@ -1,4 +1,6 @@
 // A finish: what it finds is marked, the rest is freed, and the cycle ends.
+#![tactic(auto)]
+
 ghost use Rattle.std.specs.Prelude.{◌≡◌};
 ghost use Rattle.model.specs.Finish.{finish_step};
 ghost use Rattle.model.specs.Image.{image_of};

@@ -1,4 +1,6 @@
 // The marking of a finish: all that it keeps is marked, with no memory beyond the image's own bits and cards.
+#![tactic(auto)]
+
 ghost use Rattle.model.specs.Image.{image_of};
 ghost use Rattle.theory.specs.Lines.{Sound};
 ghost use Rattle.image_laws.specs.Sized.{Sized};

@@ -1,4 +1,6 @@
 // A fresh store made in a lent slice.
+#![tactic(auto)]
+
 ghost use Rattle.std.specs.Prelude.{◌≡◌};
 ghost use Rattle.model.specs.Undamaged.{fresh_store, fresh_at};
 ghost use Rattle.image_laws.specs.Sized.{Sized};

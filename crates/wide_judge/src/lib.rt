@@ -1,4 +1,6 @@
 // Judging an image: its length, every line of "undamaged", and Cover.
+#![tactic(auto)]
+
 ghost use Rattle.std.specs.Prelude.{◌≡◌};
 ghost use Rattle.model.specs.Image.{image_of};
 ghost use Rattle.model.specs.Undamaged.{undamaged, judge_at};

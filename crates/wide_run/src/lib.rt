@@ -1,4 +1,6 @@
 // The records of a batch, one after the other.
+#![tactic(auto)]
+
 ghost use Rattle.std.specs.Prelude.{◌≡◌, ◌+◌, ◌*◌, ◌/◌, ◌%◌, ◌≤◌, length};
 ghost use Rattle.model.specs.Image.{image_of};
 ghost use Rattle.model.specs.Records.{records};

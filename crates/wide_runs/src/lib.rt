@@ -1,4 +1,6 @@
 // The free runs, their granules counted, and whether a cycle is due.
+#![tactic(auto)]
+
 pub mod chain; // chain.rt: the words of the chain, and the tightest run that suffices
 pub mod counted; // counted.rt: an answer, and the free granules behind it
 pub mod due; // due.rt: kind 14

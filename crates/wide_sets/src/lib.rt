@@ -1,4 +1,6 @@
 // Granules told by bits: those of the image that a word may name, and sets in tables that are lent.
+#![tactic(auto)]
+
 ghost use Rattle.std.specs.Prelude.{◌≡◌, not, ◌&&◌, ◌||◌, ◌/◌, ◌<◌, min, eqb, leb, ltb, length, replicate};
 ghost use Rattle.model.specs.Base.{bit, set_bit};
 ghost use Rattle.model.specs.Image.{image_of, is_start, marked};
@@ -119,7 +121,9 @@ pub fn is_target(im: &[Word], k: usize, table: &[Word], a: usize) -> bool
     ensures { result ≡ nil_or_start (image_of width k im.now) a }
 {
     if is_tabled(k) {
-        return in_table(table, a);
+        if a / BITS < TABLE {
+            return in_set(table, a);
+        }
     }
     (a == 0) | start_at(im, k, a)
 }

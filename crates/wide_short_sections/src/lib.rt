@@ -1,4 +1,6 @@
 // Lines of "undamaged" on the short sections: cards, tracers, players, general words.
+#![tactic(auto)]
+
 ghost use Rattle.std.specs.Prelude.{◌≡◌, ◌<◌};
 ghost use Rattle.model.specs.Base.{all};
 ghost use Rattle.model.specs.Image.{image_of};

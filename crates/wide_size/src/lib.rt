@@ -1,4 +1,6 @@
 // The number of cards of a store, from the length of its slice.
+#![tactic(auto)]
+
 ghost use Rattle.std.specs.Prelude.{◌≡◌};
 ghost use Rattle.image_laws.specs.Size.{extent_of};
 ghost use Rattle.wide_image.specs.Layout.{width};

@@ -1,4 +1,6 @@
 // Every line of "undamaged" but Cover, over the words of an image.
+#![tactic(auto)]
+
 ghost use Rattle.std.specs.Prelude.{◌≡◌};
 ghost use Rattle.model.specs.Image.{image_of};
 ghost use Rattle.model.specs.Undamaged.{sound};

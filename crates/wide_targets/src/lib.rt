@@ -1,4 +1,6 @@
 // Registers and links name targets: nil, or starts.
+#![tactic(auto)]
+
 ghost use Rattle.std.specs.Prelude.{◌≡◌, ◌+◌, ◌*◌, ◌≤◌, ◌<◌, min};
 ghost use Rattle.model.specs.Base.{all};
 ghost use Rattle.model.specs.Image.{image_of};

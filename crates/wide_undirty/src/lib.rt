@@ -1,4 +1,6 @@
 // Kind 15, undirty: a card whose objects are all unmarked needs no cleaning, and its state is wiped.
+#![tactic(auto)]
+
 ghost use Rattle.std.specs.Prelude.{◌≡◌, ◌<◌};
 ghost use Rattle.model.specs.Image.{image_of, clean_state, undirty_card};
 ghost use Rattle.model.specs.Mutate.{tightest};

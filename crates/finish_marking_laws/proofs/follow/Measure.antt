@@ -1,4 +1,4 @@
--- What is left to be marked, listed and settled (`workLeft`) falls.
+-- What is left to be marked, listed and settled (`work_left`) falls.
 use mathlib.Core.Path.{◌≡◌}
 use Prim.Native.Nat.{ℕ, ◌+◌, ◌<◌, min}
 use native.Mathlib.Omega.{arith}

@@ -1,4 +1,3 @@
-use borrow.Author.Rules.{rules}
 use Rattle.image_laws.proofs.Fresh.{fresh_misfit, fresh_made}
 use Rattle.image_laws.proofs.Size.{cards_sized}
 use Rattle.fresh.proofs.make.Goals as goal

@@ -1,4 +1,3 @@
-use borrow.Author.Rules.{rules}
 use Rattle.judge_laws.proofs.Verdict.{judged_misfit, judged_sized, judged_0, judged_2}
 use Rattle.judge.proofs.verdict.Goals as goal
 

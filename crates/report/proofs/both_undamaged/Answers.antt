@@ -1,4 +1,3 @@
-use borrow.Author.Rules.{rules}
 use Rattle.report_laws.proofs.Calls.{first_damaged, by_second}
 use Rattle.report.proofs.both_undamaged.Goals as goal
 

@@ -1,5 +1,4 @@
 use native.Mathlib.Omega.{arith}
-use borrow.Author.Rules.{rules}
 use Rattle.image_laws.proofs.Size.{cards_sized}
 use Rattle.report_laws.proofs.Calls.{first_misfit, second_misfit, bytes_misfit, scratch_misfit, lengths_fit}
 use Rattle.report.proofs.extent.Goals as goal

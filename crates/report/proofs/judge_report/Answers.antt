@@ -1,4 +1,3 @@
-use borrow.Author.Rules.{rules}
 use Rattle.report_laws.proofs.Calls.{call_misfit, call_sized, call_scratch, call_damaged, call_sound, call_verdict}
 use Rattle.report.proofs.judge_report.Goals as goal
 

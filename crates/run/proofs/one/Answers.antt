@@ -1,4 +1,3 @@
-use borrow.Author.Rules.{rules}
 use Rattle.show_store_laws.proofs.Run.{turn}
 use native.Mathlib.Omega.{arith}
 use lib.ListN.{length-set}

@@ -1,4 +1,3 @@
-use borrow.Author.Rules.{rules}
 use Rattle.run.proofs.run_all.Goals as goal
 
 pub count-free-requires : goal.count-free-requires

@@ -1,4 +1,3 @@
-use borrow.Author.Rules.{rules}
 use Rattle.service_map.proofs.service_map.Goals as goal
 
 pub returns : goal.returns

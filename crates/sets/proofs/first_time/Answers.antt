@@ -1,4 +1,3 @@
-use borrow.Author.Rules.{rules}
 use Rattle.model.specs.Base.{nth, put, bit, set_bit}
 use mathlib.Core.Path.{refl, ap}
 use mathlib.Core.Bool.{not}

@@ -1,4 +1,3 @@
-use borrow.Author.Rules.{rules}
 use Rattle.soundness_laws.proofs.Sets.{table_bit}
 use Rattle.sets.proofs.in_table.Goals as goal
 

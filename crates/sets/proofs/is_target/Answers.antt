@@ -1,4 +1,3 @@
-use borrow.Author.Rules.{rules}
 use Rattle.soundness_laws.proofs.Sets.{target_bit, target_asked}
 use Rattle.sets.proofs.is_target.Goals as goal
 

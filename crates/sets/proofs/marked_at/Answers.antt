@@ -1,4 +1,3 @@
-use borrow.Author.Rules.{rules}
 use Rattle.soundness_laws.proofs.Sets.{mark_at}
 use Rattle.sets.proofs.marked_at.Goals as goal
 

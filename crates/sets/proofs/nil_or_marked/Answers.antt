@@ -1,4 +1,3 @@
-use borrow.Author.Rules.{rules}
 use Rattle.soundness_laws.proofs.Sets.{marked_bit, marked_asked}
 use Rattle.sets.proofs.nil_or_marked.Goals as goal
 

@@ -1,11 +1,7 @@
-use Rattle.model.specs.Base.{nth, put}
 use Rattle.model.specs.Image.{image_of}
-use Rattle.image_laws.proofs.Lengths.{starts_words}
 use Rattle.image.specs.Layout.{width}
-use Rattle.soundness_laws.proofs.Sets.{Copied, copied_none, copied_more, copied_place, copied_same, copied_end}
+use Rattle.soundness_laws.proofs.Sets.{Copied}
 use Prim.Native.Nat.{◌*◌, ◌-◌, ◌/◌}
-use native.Mathlib.Omega.{arith}
-use borrow.Author.Rules.{rules}
 use Rattle.sets.proofs.note_starts.Given as goal
 
 abbrev pub invariant-loop-i : goal.invariant-loop-i

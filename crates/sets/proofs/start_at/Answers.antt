@@ -1,4 +1,3 @@
-use borrow.Author.Rules.{rules}
 use Rattle.soundness_laws.proofs.Sets.{start_at}
 use Rattle.sets.proofs.start_at.Goals as goal
 

@@ -1,4 +1,3 @@
-use borrow.Author.Rules.{rules}
 use Rattle.model.specs.Undamaged.{card_ok}
 use mathlib.Core.Path.{refl}
 use Rattle.short_sections.proofs.card_ok.Goals as goal

@@ -1,4 +1,3 @@
-use borrow.Author.Rules.{rules}
 use Rattle.soundness_laws.proofs.Lines.{general_lines}
 use Rattle.short_sections.proofs.general_ok.Goals as goal
 

@@ -1,4 +1,3 @@
-use borrow.Author.Rules.{rules}
 use Rattle.model.specs.Base.{every}
 use mathlib.Core.Bool.{and-true, and_assoc}
 use Rattle.soundness_laws.specs.Tests.{still, idle}

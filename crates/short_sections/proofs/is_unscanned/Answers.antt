@@ -1,4 +1,3 @@
-use borrow.Author.Rules.{rules}
 use mathlib.Core.Path.{refl}
 use Rattle.soundness_laws.specs.Tests.{not_scanned}
 use Rattle.short_sections.proofs.is_unscanned.Goals as goal

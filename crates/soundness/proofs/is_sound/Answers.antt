@@ -1,4 +1,3 @@
-use borrow.Author.Rules.{rules}
 use Rattle.soundness_laws.proofs.Lines.{sound_still, sound_cycle}
 use Rattle.soundness.proofs.is_sound.Goals as goal
 

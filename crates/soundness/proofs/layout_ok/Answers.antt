@@ -1,4 +1,3 @@
-use borrow.Author.Rules.{rules}
 use Rattle.soundness_laws.proofs.Lines.{layout_is}
 use Rattle.soundness.proofs.layout_ok.Goals as goal
 

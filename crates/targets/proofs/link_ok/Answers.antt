@@ -1,4 +1,3 @@
-use borrow.Author.Rules.{rules}
 use Rattle.model.specs.Image.{link}
 use Rattle.soundness_laws.specs.Tests.{link_ok}
 use Rattle.soundness_laws.proofs.Sets.{target_word}

@@ -1,4 +1,3 @@
-use borrow.Author.Rules.{rules}
 use Rattle.model.specs.Undamaged.{reg_ok}
 use Rattle.soundness_laws.proofs.Sets.{target_word}
 use Rattle.targets.proofs.reg_ok.Goals as goal

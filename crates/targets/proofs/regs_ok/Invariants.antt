@@ -1,9 +1,8 @@
 use Prim.Native.Nat.{◌-◌}
-use borrow.Author.Rules.{rules}
 use Rattle.model.specs.Image.{image_of}
 use Rattle.model.specs.Undamaged.{reg_ok}
 use Rattle.image.specs.Layout.{width}
-use Rattle.soundness_laws.proofs.Checks.{Checked, checked_none, checked_more, checked_enough}
+use Rattle.soundness_laws.proofs.Checks.{Checked}
 use Rattle.targets.proofs.regs_ok.Given as goal
 
 abbrev pub invariant-loop-i : goal.invariant-loop-i

@@ -1,4 +1,3 @@
-use borrow.Author.Rules.{rules}
 use native.Mathlib.Omega.{arith}
 use Rattle.soundness_laws.proofs.Sets.{nil_behind}
 use Rattle.targets.proofs.regs_to_ask.Goals as goal

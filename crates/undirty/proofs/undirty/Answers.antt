@@ -1,4 +1,3 @@
-use borrow.Author.Rules.{rules}
 use Rattle.collector_laws.proofs.Steps.{undirty_refused, undirty_nothing, undirty_goes}
 use Rattle.undirty.proofs.undirty.Goals as goal
 

@@ -1,4 +1,3 @@
-use borrow.Author.Rules.{rules}
 use Rattle.image_laws.proofs.Cards.{card_cleaned}
 use Rattle.undirty.proofs.undirty_card.Goals as goal
 

@@ -1,8 +1,5 @@
 use borrow.Author.Rules.{rules}
-use Rattle.model.specs.Image.{image_of}
-use Rattle.image.specs.Layout.{width}
 use Rattle.runs_laws.proofs.Sound.{sound_linked}
-use Rattle.mutator_laws.specs.Taking.{RunFor}
 use Rattle.mutator_laws.proofs.New.{run_for, new_empty, new_too_large, new_overlinked, new_no_room, new_done, run_counted, new_counted}
 use native.Mathlib.Omega.{arith}
 use Rattle.allocator.proofs.new.new.Goals as goal

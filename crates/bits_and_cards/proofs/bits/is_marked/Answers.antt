@@ -1,4 +1,3 @@
-use borrow.Author.Rules.{rules}
 use Rattle.image_laws.proofs.Bits.{mark_read}
 use Rattle.bits_and_cards.proofs.bits.is_marked.Goals as goal
 

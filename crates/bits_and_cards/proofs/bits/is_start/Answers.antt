@@ -1,4 +1,3 @@
-use borrow.Author.Rules.{rules}
 use Rattle.image_laws.proofs.Bits.{start_read}
 use Rattle.bits_and_cards.proofs.bits.is_start.Goals as goal
 

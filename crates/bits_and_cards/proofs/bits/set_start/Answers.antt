@@ -1,4 +1,3 @@
-use borrow.Author.Rules.{rules}
 use Rattle.image_laws.proofs.Bits.{start_set}
 use Rattle.bits_and_cards.proofs.bits.set_start.Goals as goal
 

@@ -1,4 +1,3 @@
-use borrow.Author.Rules.{rules}
 use Rattle.image.specs.Layout.{width}
 use Rattle.image_laws.proofs.Masks.{one_shl, and_not_pow}
 use Rattle.bits_and_cards.proofs.bits.without_bit.Goals as goal

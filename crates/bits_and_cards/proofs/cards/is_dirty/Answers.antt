@@ -1,4 +1,3 @@
-use borrow.Author.Rules.{rules}
 use Rattle.image_laws.proofs.Cards.{is-dirty}
 use Rattle.bits_and_cards.proofs.cards.is_dirty.Goals as goal
 

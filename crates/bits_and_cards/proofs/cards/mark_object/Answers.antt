@@ -1,4 +1,3 @@
-use borrow.Author.Rules.{rules}
 use Rattle.image_laws.proofs.Cards.{object_marked}
 use Rattle.bits_and_cards.proofs.cards.mark_object.Goals as goal
 

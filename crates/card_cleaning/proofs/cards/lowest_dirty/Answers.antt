@@ -1,7 +1,4 @@
-use Rattle.collector_laws.proofs.Cards.{NoDirty, dirty_first, dirty_end, dirty_more, dirty_found}
-use Rattle.image.specs.Layout.{width}
-use Rattle.model.specs.Image.{image_of}
-use Prim.Native.Nat.{◌-◌, ◌≤◌}
+use Rattle.collector_laws.proofs.Cards.{dirty_first, dirty_end, dirty_more, dirty_found}
 use borrow.Author.Rules.{rules}
 use Rattle.card_cleaning.proofs.cards.lowest_dirty.Goals as goal
 

@@ -1,8 +1,7 @@
-use Rattle.collector_laws.proofs.Cards.{NoDirty, dirty_first, dirty_end, dirty_more, dirty_found}
+use Rattle.collector_laws.proofs.Cards.{NoDirty}
 use Rattle.image.specs.Layout.{width}
 use Rattle.model.specs.Image.{image_of}
 use Prim.Native.Nat.{◌-◌, ◌≤◌}
-use borrow.Author.Rules.{rules}
 use Rattle.card_cleaning.proofs.cards.lowest_dirty.Given as goal
 
 abbrev pub invariant-loop-c : goal.invariant-loop-c

@@ -1,5 +1,4 @@
 use Rattle.collector_laws.proofs.Steps.{clean_refused, clean_goes}
-use borrow.Author.Rules.{rules}
 use Rattle.card_cleaning.proofs.cleaning.clean.Goals as goal
 
 pub returns-then-running-eq0 : goal.returns-then-running-eq0

@@ -1,4 +1,3 @@
-use borrow.Author.Rules.{rules}
 use Rattle.collector_laws.proofs.Cleaning.{card-taken}
 use Rattle.card_cleaning.proofs.cleaning.take_card.Goals as goal
 

@@ -1,12 +1,6 @@
-use Prim.Native.Nat.{◌*◌, ◌-◌, ◌/◌}
 use native.Mathlib.Omega.{arith}
-use borrow.Author.Rules.{rules}
-use Rattle.model.specs.Image.{image_of}
 use Rattle.image.specs.Layout.{width}
-use Rattle.soundness_laws.specs.Tests.{wordwise}
-use Rattle.soundness_laws.proofs.Checks.{Checked, checked_none, checked_more, checked_end}
-use Rattle.judge_laws.specs.Order.{object_covered}
-use Rattle.judge_laws.specs.Near.{MarkedStretch}
+use Rattle.soundness_laws.proofs.Checks.{checked_none, checked_more, checked_end}
 use Rattle.judge_laws.proofs.Words.{cover_end}
 use Rattle.judge_laws.proofs.Near.{stretch_none, stretch_more}
 use Rattle.cover.proofs.words.all_covered.Goals as goal

@@ -1,4 +1,3 @@
-use borrow.Author.Rules.{rules}
 use Rattle.judge_laws.proofs.Links.{marked_covered}
 use Rattle.cover.proofs.words.is_covered.Goals as goal
 

@@ -1,7 +1,4 @@
-use Rattle.model.specs.Undamaged.{entered}
-use Rattle.image.specs.Layout.{width}
-use Rattle.soundness_laws.proofs.Marks.{mark_word}
-use Rattle.judge_laws.proofs.Words.{word_dirty, Taken, taken_none, taken_end, taken_low, taken_place, taken_less, taken_more}
+use Rattle.judge_laws.proofs.Words.{word_dirty, taken_none, taken_end, taken_low, taken_place, taken_less, taken_more}
 use native.Mathlib.Omega.{arith}
 use borrow.Author.Rules.{rules}
 use Rattle.cover.proofs.words.word_covered.Goals as goal

@@ -1,9 +1,4 @@
-use Prim.Native.Nat.{◌-◌}
-use borrow.Author.Rules.{rules}
-use Rattle.model.specs.Image.{image_of}
-use Rattle.image.specs.Layout.{width}
-use Rattle.soundness_laws.proofs.Checks.{Checked, after_two, checked_more, checked_end}
-use Rattle.judge_laws.specs.Order.{plain}
+use Rattle.soundness_laws.proofs.Checks.{after_two, checked_more, checked_end}
 use Rattle.covered_objects.proofs.objects.all_plain.Goals as goal
 
 pub loop-i-init : goal.loop-i-init

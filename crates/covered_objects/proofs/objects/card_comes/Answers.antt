@@ -1,4 +1,3 @@
-use borrow.Author.Rules.{rules}
 use Rattle.judge_laws.proofs.Objects.{card-comes}
 use Rattle.covered_objects.proofs.objects.card_comes.Goals as goal
 

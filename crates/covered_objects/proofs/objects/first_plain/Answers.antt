@@ -1,4 +1,3 @@
-use borrow.Author.Rules.{rules}
 use Rattle.soundness_laws.proofs.Checks.{first_two}
 use Rattle.covered_objects.proofs.objects.first_plain.Goals as goal
 

@@ -1,9 +1,4 @@
-use Prim.Native.Nat.{◌-◌}
-use borrow.Author.Rules.{rules}
-use Rattle.model.specs.Image.{image_of}
-use Rattle.image.specs.Layout.{width}
-use Rattle.soundness_laws.proofs.Checks.{Sought, sought_none, sought_more, sought_end}
-use Rattle.judge_laws.specs.Order.{card_comes}
+use Rattle.soundness_laws.proofs.Checks.{sought_none, sought_more, sought_end}
 use Rattle.covered_objects.proofs.objects.granule_to_come.Goals as goal
 
 pub loop-i-init : goal.loop-i-init

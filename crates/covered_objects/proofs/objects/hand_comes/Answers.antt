@@ -1,4 +1,3 @@
-use borrow.Author.Rules.{rules}
 use Rattle.judge_laws.proofs.Objects.{hand-comes}
 use Rattle.covered_objects.proofs.objects.hand_comes.Goals as goal
 

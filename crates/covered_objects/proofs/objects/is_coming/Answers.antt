@@ -1,4 +1,3 @@
-use borrow.Author.Rules.{rules}
 use Rattle.judge_laws.proofs.Objects.{coming_dirty, coming_entered, coming_card}
 use Rattle.covered_objects.proofs.objects.is_coming.Goals as goal
 

@@ -1,4 +1,3 @@
-use borrow.Author.Rules.{rules}
 use mathlib.Core.Path.{refl}
 use Rattle.judge_laws.specs.Order.{holds}
 use Rattle.covered_objects.proofs.objects.is_held.Goals as goal

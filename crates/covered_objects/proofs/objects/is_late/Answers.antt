@@ -1,4 +1,3 @@
-use borrow.Author.Rules.{rules}
 use Rattle.judge_laws.proofs.Objects.{late_plain, late_more}
 use Rattle.covered_objects.proofs.objects.is_late.Goals as goal
 

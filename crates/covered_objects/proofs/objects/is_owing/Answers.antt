@@ -1,4 +1,3 @@
-use borrow.Author.Rules.{rules}
 use Rattle.judge_laws.proofs.Objects.{owes_no, owes_yes}
 use Rattle.covered_objects.proofs.objects.is_owing.Goals as goal
 

@@ -1,8 +1,7 @@
 use Prim.Native.Nat.{◌-◌}
-use borrow.Author.Rules.{rules}
 use Rattle.model.specs.Image.{image_of}
 use Rattle.image.specs.Layout.{width}
-use Rattle.soundness_laws.proofs.Checks.{Sought, sought_none, sought_more, sought_end}
+use Rattle.soundness_laws.proofs.Checks.{Sought}
 use Rattle.judge_laws.specs.Order.{hand_comes}
 use Rattle.covered_objects.proofs.objects.link_to_come.Given as goal
 

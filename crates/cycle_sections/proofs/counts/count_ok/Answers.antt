@@ -1,4 +1,3 @@
-use borrow.Author.Rules.{rules}
 use Rattle.soundness_laws.proofs.Counts.{count_is}
 use Rattle.cycle_sections.proofs.counts.count_ok.Goals as goal
 

@@ -1,9 +1,4 @@
-use Prim.Native.Nat.{◌-◌}
-use borrow.Author.Rules.{rules}
-use Rattle.model.specs.Image.{image_of}
-use Rattle.model.specs.Undamaged.{count_ok}
-use Rattle.image.specs.Layout.{width}
-use Rattle.soundness_laws.proofs.Checks.{Checked, checked_none, checked_more, checked_end}
+use Rattle.soundness_laws.proofs.Checks.{checked_none, checked_more, checked_end}
 use Rattle.cycle_sections.proofs.counts.counts_ok.Goals as goal
 
 pub loop-c-init : goal.loop-c-init

@@ -1,9 +1,8 @@
 use Prim.Native.Nat.{◌-◌}
-use borrow.Author.Rules.{rules}
 use Rattle.model.specs.Image.{image_of}
 use Rattle.model.specs.Undamaged.{count_ok}
 use Rattle.image.specs.Layout.{width}
-use Rattle.soundness_laws.proofs.Checks.{Checked, checked_none, checked_more, checked_end}
+use Rattle.soundness_laws.proofs.Checks.{Checked}
 use Rattle.cycle_sections.proofs.counts.counts_ok.Given as goal
 
 abbrev pub invariant-loop-c : goal.invariant-loop-c

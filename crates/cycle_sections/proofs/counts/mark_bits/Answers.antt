@@ -1,10 +1,6 @@
-use Rattle.image.specs.Layout.{width}
-use Rattle.model.specs.Image.{image_of}
-use Rattle.soundness_laws.proofs.Counts.{Joined, joined_none, joined_more, joined_fits, marks_end}
-use Prim.Native.Nat.{◌*◌, ◌-◌, ◌/◌}
+use Rattle.soundness_laws.proofs.Counts.{joined_none, joined_more, joined_fits, marks_end}
 use mathlib.Core.Path.{refl}
 use native.Mathlib.Omega.{arith}
-use borrow.Author.Rules.{rules}
 use Rattle.cycle_sections.proofs.counts.mark_bits.Goals as goal
 
 pub loop-i-init : goal.loop-i-init

@@ -1,10 +1,7 @@
 use Rattle.image.specs.Layout.{width}
 use Rattle.model.specs.Image.{image_of}
-use Rattle.soundness_laws.proofs.Counts.{Joined, joined_none, joined_more, joined_fits, marks_end}
+use Rattle.soundness_laws.proofs.Counts.{Joined}
 use Prim.Native.Nat.{◌*◌, ◌-◌, ◌/◌}
-use mathlib.Core.Path.{refl}
-use native.Mathlib.Omega.{arith}
-use borrow.Author.Rules.{rules}
 use Rattle.cycle_sections.proofs.counts.mark_bits.Given as goal
 
 abbrev pub invariant-loop-i : goal.invariant-loop-i

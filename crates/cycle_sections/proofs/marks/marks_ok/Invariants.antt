@@ -1,12 +1,9 @@
 use Rattle.model.specs.Undamaged.{mark_ok}
 use Prim.Native.Nat.{◌*◌, ◌-◌, ◌/◌}
-use native.Mathlib.Omega.{arith}
-use borrow.Author.Rules.{rules}
 use Rattle.model.specs.Image.{image_of}
-use Rattle.image_laws.proofs.Parts.{Gathered, g_none, g_more, g_end}
+use Rattle.image_laws.proofs.Parts.{Gathered}
 use Rattle.image.specs.Layout.{width}
 use Rattle.soundness_laws.specs.Tests.{wordwise}
-use Rattle.soundness_laws.proofs.Marks.{by_words, mark_word}
 use Rattle.cycle_sections.proofs.marks.marks_ok.Given as goal
 
 abbrev pub invariant-loop-i : goal.invariant-loop-i

@@ -1,4 +1,3 @@
-use borrow.Author.Rules.{rules}
 use Rattle.soundness_laws.proofs.Packets.{entry-marked}
 use Rattle.cycle_sections.proofs.packets.entry_ok.Goals as goal
 

@@ -1,4 +1,3 @@
-use borrow.Author.Rules.{rules}
 use Rattle.soundness_laws.proofs.Packets.{packet_many, packet_all}
 use Rattle.cycle_sections.proofs.packets.packet_ok.Goals as goal
 

@@ -1,5 +1,4 @@
 use mathlib.Core.Path.{ap}
-use borrow.Author.Rules.{rules}
 use Rattle.runs_laws.specs.declared.Free.{Free}
 use Rattle.show_store_laws.proofs.Perform.{new_fields, new_dispatched, finish_dispatched, free_left}
 use Rattle.dispatch.proofs.perform.dispatch.Goals as goal

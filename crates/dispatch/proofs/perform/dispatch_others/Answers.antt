@@ -1,4 +1,3 @@
-use borrow.Author.Rules.{rules}
 use Rattle.model.specs.Image.{image, image_of}
 use Rattle.show_store_laws.proofs.Perform.{load_fields, store_fields, barrier_fields, hand_fields, drop_fields, read_fields, write_fields, scan_fields, trace_fields, clean_fields, undirty_fields, load_dispatched, store_dispatched, barrier_dispatched, hand_dispatched, drop_dispatched, read_dispatched, write_dispatched, begin_dispatched, scan_dispatched, trace_dispatched, clean_dispatched, due_dispatched, undirty_dispatched, no_step}
 use Rattle.dispatch.proofs.perform.dispatch_others.Goals as goal

@@ -1,9 +1,7 @@
-use Rattle.model.specs.Image.{image_of}
 use Rattle.image.specs.Layout.{width}
 use Rattle.image_laws.proofs.Lengths.{starts_words, marks_words}
-use Rattle.image_laws.proofs.Loops.{Looped, looped_none, looped_more, looped_end}
-use Rattle.finish_laws.proofs.Ending.{StartsCopied, copied_none, copied_more, copied_end}
-use Prim.Native.Nat.{◌-◌}
+use Rattle.image_laws.proofs.Loops.{looped_none, looped_more, looped_end}
+use Rattle.finish_laws.proofs.Ending.{copied_none, copied_more, copied_end}
 use native.Mathlib.Omega.{arith}
 use borrow.Author.Rules.{rules}
 use Rattle.ended_cycle.proofs.ending.keep_starts.Goals as goal

@@ -1,12 +1,9 @@
 use Rattle.model.specs.Image.{image_of, with_players}
 use Rattle.image.specs.Layout.{width}
-use Rattle.image_laws.proofs.Loops.{Looped, looped_none, looped_more, looped_end}
+use Rattle.image_laws.proofs.Loops.{Looped}
 use Rattle.finish_laws.specs.Ending.{scanned_off_to}
-use Rattle.finish_laws.proofs.Ending.{off_none, off_more}
 use Prim.Native.Nat.{◌-◌}
 use mathlib.Core.Path.{◌≡◌}
-use native.Mathlib.Omega.{arith}
-use borrow.Author.Rules.{rules}
 use Rattle.ended_cycle.proofs.ending.unscan.Given as goal
 
 abbrev pub invariant-loop-p : goal.invariant-loop-p

@@ -1,5 +1,4 @@
 use native.Mathlib.Omega.{arith}
-use borrow.Author.Rules.{rules}
 use Rattle.image.specs.Layout.{width}
 use Rattle.soundness_laws.proofs.Entered.{entry_place, entry_new, entry_hit, entry_look}
 use Rattle.entries.proofs.entered.add_entry.Goals as goal

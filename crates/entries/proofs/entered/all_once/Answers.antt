@@ -1,9 +1,5 @@
-use Prim.Native.Nat.{◌*◌, ◌-◌}
 use native.Mathlib.Omega.{arith}
-use borrow.Author.Rules.{rules}
-use Rattle.model.specs.Image.{image_of}
-use Rattle.image.specs.Layout.{width}
-use Rattle.soundness_laws.proofs.Entered.{PacketsHeld, packets_none, packets_end}
+use Rattle.soundness_laws.proofs.Entered.{packets_none, packets_end}
 use Rattle.entries.proofs.entered.all_once.Goals as goal
 
 pub loop-p-init : goal.loop-p-init

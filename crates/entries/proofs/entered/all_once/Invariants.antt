@@ -1,9 +1,7 @@
 use Prim.Native.Nat.{◌*◌, ◌-◌}
-use native.Mathlib.Omega.{arith}
-use borrow.Author.Rules.{rules}
 use Rattle.model.specs.Image.{image_of}
 use Rattle.image.specs.Layout.{width}
-use Rattle.soundness_laws.proofs.Entered.{PacketsHeld, packets_none, packets_end}
+use Rattle.soundness_laws.proofs.Entered.{PacketsHeld}
 use Rattle.entries.proofs.entered.all_once.Given as goal
 
 abbrev pub invariant-loop-p : goal.invariant-loop-p

@@ -1,10 +1,8 @@
 use Prim.Native.Nat.{◌+◌, ◌*◌, ◌-◌}
-use mathlib.Core.Path.{refl}
-use borrow.Author.Rules.{rules}
 use lib.ListN.{take, drop}
 use Rattle.model.specs.Image.{image_of}
 use Rattle.image.specs.Layout.{width}
-use Rattle.soundness_laws.proofs.Entered.{Looked, looked_none, packet_more, looked_end}
+use Rattle.soundness_laws.proofs.Entered.{Looked}
 use Rattle.entries.proofs.entered.in_packet.Given as goal
 
 abbrev pub invariant-loop-e : goal.invariant-loop-e

@@ -1,10 +1,7 @@
-use Prim.Native.Nat.{◌-◌}
 use mathlib.Core.Path.{refl}
 use native.Mathlib.Omega.{arith}
-use borrow.Author.Rules.{rules}
-use Rattle.model.specs.Image.{image_of, entries_of}
-use Rattle.image.specs.Layout.{width}
-use Rattle.soundness_laws.proofs.Entered.{Looked, few, looked_none, packets_more, looked_end}
+use Rattle.model.specs.Image.{entries_of}
+use Rattle.soundness_laws.proofs.Entered.{few, looked_none, packets_more, looked_end}
 use Rattle.entries.proofs.entered.in_packets.Goals as goal
 
 pub loop-p-init : goal.loop-p-init

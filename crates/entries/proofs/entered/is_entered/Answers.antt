@@ -1,4 +1,3 @@
-use borrow.Author.Rules.{rules}
 use Rattle.soundness_laws.proofs.Entered.{entered_place, entered_no, entered_yes, entered_look}
 use Rattle.entries.proofs.entered.is_entered.Goals as goal
 

@@ -1,9 +1,5 @@
-use Prim.Native.Nat.{◌*◌, ◌-◌}
 use native.Mathlib.Omega.{arith}
-use borrow.Author.Rules.{rules}
-use Rattle.model.specs.Image.{image_of}
-use Rattle.image.specs.Layout.{width}
-use Rattle.soundness_laws.proofs.Entered.{EntriesHeld, in_count, entries_none, entries_end}
+use Rattle.soundness_laws.proofs.Entered.{in_count, entries_none, entries_end}
 use Rattle.entries.proofs.entered.packet_once.Goals as goal
 
 pub loop-e-init : goal.loop-e-init

@@ -1,9 +1,7 @@
 use Prim.Native.Nat.{◌*◌, ◌-◌}
-use native.Mathlib.Omega.{arith}
-use borrow.Author.Rules.{rules}
 use Rattle.model.specs.Image.{image_of}
 use Rattle.image.specs.Layout.{width}
-use Rattle.soundness_laws.proofs.Entered.{EntriesHeld, in_count, entries_none, entries_end}
+use Rattle.soundness_laws.proofs.Entered.{EntriesHeld}
 use Rattle.entries.proofs.entered.packet_once.Given as goal
 
 abbrev pub invariant-loop-e : goal.invariant-loop-e

@@ -1,4 +1,3 @@
-use borrow.Author.Rules.{rules}
 use Rattle.request_laws.specs.Request.{tables_open}
 use Rattle.request_laws.proofs.Tables.{debt_at, no_debt}
 use Rattle.field_tables.proofs.tables.asks_debt.Goals as goal

@@ -1,4 +1,3 @@
-use borrow.Author.Rules.{rules}
 use Rattle.request_laws.proofs.Tables.{debt_owes, debt_none}
 use mathlib.Core.Path.{sym, ◌∙◌}
 use Rattle.field_tables.proofs.tables.owes.Goals as goal

@@ -1,7 +1,4 @@
-use Rattle.image.specs.Layout.{width}
-use Rattle.model.specs.Image.{image_of}
-use Rattle.finish_marking_laws.specs.Marking.{work_left}
-use Rattle.finish_marking_laws.proofs.follow.Loops.{TurnLoop, turns_none, turns_card, turns_underway, turns_fall, turns_more, turns_round, turns_end}
+use Rattle.finish_marking_laws.proofs.follow.Loops.{turns_none, turns_card, turns_underway, turns_fall, turns_more, turns_round, turns_end}
 use native.Mathlib.Omega.{arith}
 use borrow.Author.Rules.{rules}
 use Rattle.finish_marking.proofs.follow.mark_all.Goals as goal

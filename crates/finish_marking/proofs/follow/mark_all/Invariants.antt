@@ -1,9 +1,7 @@
 use Rattle.image.specs.Layout.{width}
 use Rattle.model.specs.Image.{image_of}
 use Rattle.finish_marking_laws.specs.Marking.{work_left}
-use Rattle.finish_marking_laws.proofs.follow.Loops.{TurnLoop, turns_none, turns_card, turns_underway, turns_fall, turns_more, turns_round, turns_end}
-use native.Mathlib.Omega.{arith}
-use borrow.Author.Rules.{rules}
+use Rattle.finish_marking_laws.proofs.follow.Loops.{TurnLoop}
 use Rattle.finish_marking.proofs.follow.mark_all.Given as goal
 
 abbrev pub invariant-loop-h : goal.invariant-loop-h

@@ -1,9 +1,7 @@
-use Rattle.model.specs.Image.{image_of}
 use Rattle.image.specs.Layout.{width}
 use Rattle.image_laws.proofs.Lengths.{sized_width}
-use Rattle.image_laws.proofs.Loops.{Looped, looped_none, looped_more, looped_end}
-use Rattle.finish_marking_laws.proofs.follow.Loops.{CardSettled, card_none, card_underway, card_more, card_end}
-use Prim.Native.Nat.{◌-◌, ◌/◌}
+use Rattle.image_laws.proofs.Loops.{looped_none, looped_more, looped_end}
+use Rattle.finish_marking_laws.proofs.follow.Loops.{card_none, card_underway, card_more, card_end}
 use native.Mathlib.Omega.{arith}
 use borrow.Author.Rules.{rules}
 use Rattle.finish_marking.proofs.follow.settle_card.Goals as goal

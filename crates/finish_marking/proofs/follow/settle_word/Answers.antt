@@ -1,4 +1,3 @@
-use borrow.Author.Rules.{rules}
 use Rattle.finish_marking_laws.proofs.follow.Settling.{word_none, word_end}
 use native.Mathlib.Omega.{arith}
 use Rattle.finish_marking.proofs.follow.settle_word.Goals as goal

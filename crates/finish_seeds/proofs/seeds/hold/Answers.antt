@@ -1,4 +1,3 @@
-use borrow.Author.Rules.{rules}
 use Rattle.finish_marking_laws.proofs.follow.Bits.{image_shape}
 use Rattle.finish_marking_laws.proofs.seeds.Registers.{hold_nil, hold_marked, hold_new}
 use native.Mathlib.Omega.{arith}

@@ -1,9 +1,6 @@
-use Rattle.model.specs.Image.{image_of}
-use Rattle.image.specs.Layout.{width}
 use Rattle.image_laws.proofs.Lengths.{cards_words}
-use Rattle.image_laws.proofs.Loops.{Looped, looped_none, looped_more, looped_end}
-use Rattle.finish_marking_laws.proofs.seeds.Listing.{ListedTo, listed_none, listed_more, listed_end}
-use Prim.Native.Nat.{◌-◌}
+use Rattle.image_laws.proofs.Loops.{looped_none, looped_more, looped_end}
+use Rattle.finish_marking_laws.proofs.seeds.Listing.{listed_none, listed_more, listed_end}
 use native.Mathlib.Omega.{arith}
 use borrow.Author.Rules.{rules}
 use Rattle.finish_seeds.proofs.seeds.list_all.Goals as goal

@@ -1,11 +1,8 @@
 use Rattle.model.specs.Image.{image_of}
 use Rattle.image.specs.Layout.{width}
-use Rattle.image_laws.proofs.Lengths.{cards_words}
-use Rattle.image_laws.proofs.Loops.{Looped, looped_none, looped_more, looped_end}
-use Rattle.finish_marking_laws.proofs.seeds.Listing.{ListedTo, listed_none, listed_more, listed_end}
+use Rattle.image_laws.proofs.Loops.{Looped}
+use Rattle.finish_marking_laws.proofs.seeds.Listing.{ListedTo}
 use Prim.Native.Nat.{◌-◌}
-use native.Mathlib.Omega.{arith}
-use borrow.Author.Rules.{rules}
 use Rattle.finish_seeds.proofs.seeds.list_all.Given as goal
 
 abbrev pub invariant-loop-c : goal.invariant-loop-c

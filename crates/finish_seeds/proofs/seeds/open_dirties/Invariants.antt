@@ -1,12 +1,9 @@
 use Rattle.model.specs.Image.{image_of}
 use Rattle.image.specs.Layout.{width}
 use Rattle.image_laws.specs.Digits.{mark_bit}
-use Rattle.image_laws.proofs.Loops.{looped_end}
 use Rattle.finish_marking_laws.specs.Seeds.{DirtyAt}
-use Rattle.finish_marking_laws.proofs.seeds.Bared.{dirty_as, Opening, opening_none, opening_more}
+use Rattle.finish_marking_laws.proofs.seeds.Bared.{Opening}
 use Prim.Native.Nat.{◌-◌}
-use native.Mathlib.Omega.{arith}
-use borrow.Author.Rules.{rules}
 use Rattle.finish_seeds.proofs.seeds.open_dirties.Given as goal
 
 abbrev pub invariant-loop-c : goal.invariant-loop-c

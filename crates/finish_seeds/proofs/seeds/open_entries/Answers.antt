@@ -1,9 +1,5 @@
-use Rattle.model.specs.Image.{image_of}
-use Rattle.image.specs.Layout.{width}
 use Rattle.image_laws.proofs.Loops.{looped_end}
-use Rattle.finish_marking_laws.specs.Seeds.{EnteredAt}
-use Rattle.finish_marking_laws.proofs.seeds.Bared.{same_section, entry_as, Opening, opening_none, opening_more}
-use Prim.Native.Nat.{◌-◌}
+use Rattle.finish_marking_laws.proofs.seeds.Bared.{same_section, entry_as, opening_none, opening_more}
 use native.Mathlib.Omega.{arith}
 use borrow.Author.Rules.{rules}
 use Rattle.finish_seeds.proofs.seeds.open_entries.Goals as goal

@@ -1,10 +1,5 @@
-use Rattle.model.specs.Image.{image_of}
-use Rattle.image.specs.Layout.{width}
-use Rattle.image_laws.specs.Digits.{mark_bit}
 use Rattle.image_laws.proofs.Loops.{looped_end}
-use Rattle.finish_marking_laws.specs.Seeds.{HandAt}
-use Rattle.finish_marking_laws.proofs.seeds.Bared.{same_section, hand_as, Opening, opening_none, opening_more}
-use Prim.Native.Nat.{◌-◌}
+use Rattle.finish_marking_laws.proofs.seeds.Bared.{same_section, hand_as, opening_none, opening_more}
 use native.Mathlib.Omega.{arith}
 use borrow.Author.Rules.{rules}
 use Rattle.finish_seeds.proofs.seeds.open_hands.Goals as goal

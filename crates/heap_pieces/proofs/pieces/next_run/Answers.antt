@@ -1,4 +1,3 @@
-use borrow.Author.Rules.{rules}
 use Rattle.soundness_laws.proofs.Pieces.{next_of_object, next_of_run}
 use Rattle.heap_pieces.proofs.pieces.next_run.Goals as goal
 

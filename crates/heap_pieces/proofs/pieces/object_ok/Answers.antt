@@ -1,4 +1,3 @@
-use borrow.Author.Rules.{rules}
 use Rattle.soundness_laws.proofs.Pieces.{object_is}
 use Rattle.heap_pieces.proofs.pieces.object_ok.Goals as goal
 

@@ -1,4 +1,3 @@
-use borrow.Author.Rules.{rules}
 use Rattle.soundness_laws.proofs.Pieces.{piece_object, piece_run}
 use Rattle.heap_pieces.proofs.pieces.piece_ok.Goals as goal
 

@@ -1,8 +1,7 @@
 use Prim.Native.Nat.{◌-◌}
-use borrow.Author.Rules.{rules}
 use Rattle.model.specs.Image.{image_of}
 use Rattle.image.specs.Layout.{width}
-use Rattle.soundness_laws.proofs.Pieces.{RestZero, rest_none, rest_more, rest_end}
+use Rattle.soundness_laws.proofs.Pieces.{RestZero}
 use Rattle.heap_pieces.proofs.pieces.zero_rest.Given as goal
 
 abbrev pub invariant-loop-i : goal.invariant-loop-i

@@ -1,11 +1,8 @@
 use Rattle.image.specs.Layout.{width}
-use Rattle.model.specs.Image.{image_of}
-use Rattle.soundness_laws.proofs.Ones.{OnesCounted, ones_none, ones_small, ones_more}
+use Rattle.soundness_laws.proofs.Ones.{ones_none, ones_small, ones_more}
 use Rattle.soundness_laws.proofs.Starts.{starts_end}
-use Prim.Native.Nat.{◌*◌, ◌-◌, ◌/◌}
 use native.Mathlib.Nat.{zero-add}
 use native.Mathlib.Omega.{arith}
-use borrow.Author.Rules.{rules}
 use lib.Count.{ones-le}
 use Rattle.heap_pieces.proofs.starts.count_starts.Goals as goal
 

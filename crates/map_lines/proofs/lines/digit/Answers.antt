@@ -1,5 +1,4 @@
 use mathlib.Core.Path.{refl}
-use borrow.Author.Rules.{rules}
 use Rattle.model.specs.Map.{decimal}
 use Rattle.map_lines.proofs.lines.digit.Goals as goal
 

@@ -1,8 +1,5 @@
-use Prim.Native.Nat.{◌-◌}
-use borrow.Author.Rules.{rules}
 use Rattle.model.specs.Image.{image_of, image}
-use Rattle.image.specs.Layout.{width}
-use Rattle.service_map_laws.proofs.Lines.{LinesTo, lines_none, line_more, lines_end}
+use Rattle.service_map_laws.proofs.Lines.{lines_none, line_more, lines_end}
 use Rattle.map_lines.proofs.lines.draw.Goals as goal
 
 pub loop-c-init : goal.loop-c-init

@@ -1,8 +1,7 @@
 use Prim.Native.Nat.{◌-◌}
-use borrow.Author.Rules.{rules}
-use Rattle.model.specs.Image.{image_of, image}
+use Rattle.model.specs.Image.{image_of}
 use Rattle.image.specs.Layout.{width}
-use Rattle.service_map_laws.proofs.Lines.{LinesTo, lines_none, line_more, lines_end}
+use Rattle.service_map_laws.proofs.Lines.{LinesTo}
 use Rattle.map_lines.proofs.lines.draw.Given as goal
 
 abbrev pub invariant-loop-c : goal.invariant-loop-c

@@ -1,4 +1,3 @@
-use borrow.Author.Rules.{rules}
 use Rattle.model.specs.Base.{nth}
 use Rattle.model.specs.Map.{heading}
 use Rattle.service_map_laws.proofs.Lines.{byte_is, byte_space}

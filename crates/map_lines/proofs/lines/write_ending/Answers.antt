@@ -1,5 +1,4 @@
 use native.Mathlib.Omega.{arith}
-use borrow.Author.Rules.{rules}
 use lib.ListN.{length-set}
 use Rattle.service_map_laws.proofs.Lines.{ending_written}
 use Rattle.map_lines.proofs.lines.write_ending.Goals as goal

@@ -1,6 +1,4 @@
-use Prim.Native.Nat.{◌*◌, ◌-◌}
-use borrow.Author.Rules.{rules}
-use Rattle.service_map_laws.proofs.Lines.{HeadingTo, heading_none, heading_more, heading_end}
+use Rattle.service_map_laws.proofs.Lines.{heading_none, heading_more, heading_end}
 use Rattle.map_lines.proofs.lines.write_heading.Goals as goal
 
 pub loop-j-init : goal.loop-j-init

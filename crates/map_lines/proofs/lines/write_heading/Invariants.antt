@@ -1,6 +1,5 @@
 use Prim.Native.Nat.{◌*◌, ◌-◌}
-use borrow.Author.Rules.{rules}
-use Rattle.service_map_laws.proofs.Lines.{HeadingTo, heading_none, heading_more, heading_end}
+use Rattle.service_map_laws.proofs.Lines.{HeadingTo}
 use Rattle.map_lines.proofs.lines.write_heading.Given as goal
 
 abbrev pub invariant-loop-j : goal.invariant-loop-j

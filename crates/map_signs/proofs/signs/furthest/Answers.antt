@@ -1,6 +1,5 @@
 use Prim.Native.Nat.{◌+◌}
 use native.Mathlib.Omega.{arith}
-use borrow.Author.Rules.{rules}
 use Rattle.model.specs.Image.{size}
 use Rattle.service_map_laws.proofs.Signs.{own_most, own_further, own_before}
 use Rattle.map_signs.proofs.signs.furthest.Goals as goal

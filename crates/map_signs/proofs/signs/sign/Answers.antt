@@ -1,5 +1,4 @@
 use native.Mathlib.Omega.{arith}
-use borrow.Author.Rules.{rules}
 use Rattle.service_map_laws.proofs.Signs.{sign_below, sign_at}
 use Rattle.map_signs.proofs.signs.sign.Goals as goal
 

@@ -1,11 +1,7 @@
 use Prim.Native.Nat.{◌+◌, ◌*◌, ◌-◌, ◌/◌}
-use native.Mathlib.Omega.{arith}
-use borrow.Author.Rules.{rules}
-use mathlib.Core.Path.{ap, ◌∙◌}
 use Rattle.model.specs.Image.{image_of}
 use Rattle.image.specs.Layout.{width}
-use Rattle.service_map_laws.specs.Ends.{end_before}
-use Rattle.service_map_laws.proofs.Signs.{SignsTo, signs_none, signs_more, signs_carried, signs_end}
+use Rattle.service_map_laws.proofs.Signs.{SignsTo}
 use Rattle.map_signs.proofs.signs.write_signs.Given as goal
 
 abbrev pub invariant-loop-i : goal.invariant-loop-i

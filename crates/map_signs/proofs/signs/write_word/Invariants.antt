@@ -1,8 +1,7 @@
 use Prim.Native.Nat.{◌*◌, ◌-◌}
-use borrow.Author.Rules.{rules}
 use Rattle.model.specs.Image.{image_of}
 use Rattle.image.specs.Layout.{width}
-use Rattle.service_map_laws.proofs.Signs.{SignsTo, signs_none, sign_by_bits, signs_carried, signs_end}
+use Rattle.service_map_laws.proofs.Signs.{SignsTo}
 use Rattle.map_signs.proofs.signs.write_word.Given as goal
 
 abbrev pub invariant-loop-j : goal.invariant-loop-j

@@ -1,10 +1,4 @@
-use Prim.Native.Nat.{◌*◌, ◌-◌, ◌/◌}
-use mathlib.Core.Bool.{true}
-use borrow.Author.Rules.{rules}
-use Rattle.model.specs.Image.{image_of}
-use Rattle.image.specs.Layout.{width}
-use Rattle.soundness_laws.proofs.Checks.{Checked, checked_none, checked_more, checked_stop, checked_end}
-use Rattle.judge_laws.specs.Links.{same_word}
+use Rattle.soundness_laws.proofs.Checks.{checked_none, checked_more, checked_stop, checked_end}
 use Rattle.judge_laws.proofs.Links.{same_yes, same_no}
 use Rattle.marked_words.proofs.links.all_marked.Goals as goal
 

@@ -1,7 +1,6 @@
 use mathlib.Core.Path.{refl}
 use Prim.Native.Nat.{◌+◌, ◌*◌}
 use native.Mathlib.Omega.{arith}
-use borrow.Author.Rules.{rules}
 use Rattle.image.specs.Layout.{width}
 use Rattle.judge_laws.proofs.Near.{near_no, near_yes}
 use Rattle.marked_words.proofs.near.is_near.Goals as goal

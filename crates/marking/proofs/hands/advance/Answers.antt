@@ -1,4 +1,3 @@
-use borrow.Author.Rules.{rules}
 use Rattle.collector_laws.proofs.Hands.{read_link, moved_on}
 use Rattle.marking.proofs.hands.advance.Goals as goal
 

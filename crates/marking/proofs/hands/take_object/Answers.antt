@@ -1,4 +1,3 @@
-use borrow.Author.Rules.{rules}
 use Rattle.collector_laws.proofs.Hands.{hand_unlinked, hand_taken}
 use Rattle.marking.proofs.hands.take_object.Goals as goal
 

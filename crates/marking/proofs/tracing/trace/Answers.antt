@@ -1,5 +1,4 @@
 use Rattle.collector_laws.proofs.Steps.{trace_refused, trace_goes}
-use borrow.Author.Rules.{rules}
 use Rattle.marking.proofs.tracing.trace.Goals as goal
 
 pub returns-then-running-eq0 : goal.returns-then-running-eq0

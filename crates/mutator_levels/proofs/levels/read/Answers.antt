@@ -1,14 +1,10 @@
 use borrow.Author.Rules.{rules}
-use Rattle.model.specs.Image.{image_of}
 use Rattle.model.specs.Rows.{rows_open}
-use Rattle.theory.specs.Heap.{ObjectAt}
-use Rattle.image.specs.Layout.{width}
 use Rattle.request_laws.specs.Answer.{asked}
 use Rattle.mutator_laws.specs.Objects.{means_level}
 use Rattle.mutator_laws.proofs.Levels.{read_done}
 use Rattle.mutator_laws.proofs.Objects.{object_nil, word_past, reg_object, object_below, level_below}
 use Rattle.mutator_laws.proofs.Passed.{read_passed}
-use Prim.Native.Nat.{◌+◌, ◌*◌, ◌<◌}
 use mathlib.Core.Path.{refl}
 use native.Mathlib.Omega.{arith}
 use Rattle.mutator_levels.proofs.levels.read.Goals as goal

@@ -1,14 +1,10 @@
 use borrow.Author.Rules.{rules}
-use Rattle.model.specs.Image.{image_of}
 use Rattle.model.specs.Rows.{rows_open}
-use Rattle.theory.specs.Heap.{ObjectAt}
-use Rattle.image.specs.Layout.{width}
 use Rattle.request_laws.specs.Answer.{asked}
 use Rattle.mutator_laws.specs.Objects.{means_link}
 use Rattle.mutator_laws.proofs.Links.{load_done}
 use Rattle.mutator_laws.proofs.Objects.{object_nil, word_past, reg_object, object_below, link_below}
 use Rattle.mutator_laws.proofs.Passed.{load_passed}
-use Prim.Native.Nat.{◌+◌, ◌*◌, ◌<◌}
 use mathlib.Core.Path.{refl}
 use native.Mathlib.Omega.{arith}
 use Rattle.mutator_links.proofs.links.load.Goals as goal

@@ -1,5 +1,4 @@
 use borrow.Author.Rules.{rules}
-use Rattle.model.specs.Image.{image_of}
 use Rattle.model.specs.Rows.{rows_open}
 use Rattle.request_laws.specs.Answer.{asked}
 use Rattle.mutator_laws.specs.Objects.{means_link}
@@ -7,10 +6,7 @@ use Rattle.mutator_laws.proofs.Links.{store_done}
 use Rattle.mutator_laws.proofs.Objects.{object_nil, word_past, reg_object, object_below, link_below}
 use Rattle.mutator_laws.proofs.Passed.{store_passed}
 use mathlib.Core.Path.{refl}
-use Rattle.theory.specs.Heap.{ObjectAt}
-use Rattle.image.specs.Layout.{width}
 use native.Mathlib.Omega.{arith}
-use Prim.Native.Nat.{◌+◌, ◌*◌, ◌<◌}
 use Rattle.mutator_links.proofs.links.store.Goals as goal
 
 pub returns-then-g-eq0 : goal.returns-then-g-eq0

@@ -1,4 +1,3 @@
-use borrow.Author.Rules.{rules}
 use Rattle.mutator_laws.proofs.Registers.{hand_done}
 use Rattle.mutator_registers.proofs.registers.hand.Goals as goal
 

@@ -1,11 +1,8 @@
-use Rattle.model.specs.Image.{image_of}
 use Rattle.image.specs.Layout.{width}
-use Rattle.image_laws.specs.Digits.{mark_bit}
 use Rattle.image_laws.proofs.Lengths.{sized_width}
 use Rattle.image_laws.proofs.Loops.{looped_end}
-use Rattle.finish_marking_laws.proofs.seeds.Bared.{Opening, opening_none, opening_more}
-use Rattle.finish_marking_laws.proofs.seeds.Opening.{CardWord, card-word, card_whole}
-use Prim.Native.Nat.{◌-◌, ◌/◌}
+use Rattle.finish_marking_laws.proofs.seeds.Bared.{opening_none, opening_more}
+use Rattle.finish_marking_laws.proofs.seeds.Opening.{card-word, card_whole}
 use native.Mathlib.Omega.{arith}
 use borrow.Author.Rules.{rules}
 use Rattle.opened_cards.proofs.opening.open_card.Goals as goal

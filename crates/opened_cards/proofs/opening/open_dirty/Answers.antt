@@ -1,4 +1,3 @@
-use borrow.Author.Rules.{rules}
 use Rattle.finish_marking_laws.proofs.seeds.Opening.{dirty_some, dirty_none}
 use Rattle.opened_cards.proofs.opening.open_dirty.Goals as goal
 

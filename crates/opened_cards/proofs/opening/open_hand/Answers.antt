@@ -1,4 +1,3 @@
-use borrow.Author.Rules.{rules}
 use Rattle.finish_marking_laws.proofs.seeds.Opening.{hand_object, hand_both}
 use Rattle.opened_cards.proofs.opening.open_hand.Goals as goal
 

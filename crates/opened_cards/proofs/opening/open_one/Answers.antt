@@ -1,4 +1,3 @@
-use borrow.Author.Rules.{rules}
 use Rattle.finish_marking_laws.proofs.follow.Bits.{image_shape}
 use Rattle.finish_marking_laws.proofs.seeds.Opening.{one_nil, one_some}
 use Rattle.opened_cards.proofs.opening.open_one.Goals as goal

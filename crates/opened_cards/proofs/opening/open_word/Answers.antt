@@ -1,4 +1,3 @@
-use borrow.Author.Rules.{rules}
 use Rattle.finish_marking_laws.proofs.seeds.Opening.{open_word}
 use native.Mathlib.Omega.{arith}
 use Rattle.opened_cards.proofs.opening.open_word.Goals as goal

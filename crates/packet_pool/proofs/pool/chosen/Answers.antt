@@ -1,4 +1,3 @@
-use borrow.Author.Rules.{rules}
 use Rattle.collector_laws.proofs.Pool.{chosen_yes, chosen_no}
 use Rattle.packet_pool.proofs.pool.chosen.Goals as goal
 

@@ -1,11 +1,7 @@
 use borrow.Author.Rules.{rules}
 use Rattle.collector_laws.specs.Pool.{choice}
-use Rattle.collector_laws.proofs.Pool.{unheld, choice_more, in_pool, emptiest_choice}
-use Rattle.model.specs.Image.{count, image_of}
-use Rattle.image.specs.Layout.{width}
-use Prim.Native.Nat.{◌-◌, ◌≤◌}
-use mathlib.Core.Path.{◌≡◌, refl}
-use lib.Dec.{ltb}
+use Rattle.collector_laws.proofs.Pool.{choice_more, in_pool, emptiest_choice}
+use mathlib.Core.Path.{refl}
 use Rattle.packet_pool.proofs.pool.emptiest.Goals as goal
 
 pub loop-p-init : goal.loop-p-init

@@ -1,10 +1,9 @@
-use borrow.Author.Rules.{rules}
 use Rattle.collector_laws.specs.Pool.{choice}
-use Rattle.collector_laws.proofs.Pool.{unheld, choice_more, in_pool, emptiest_choice}
+use Rattle.collector_laws.proofs.Pool.{unheld}
 use Rattle.model.specs.Image.{count, image_of}
 use Rattle.image.specs.Layout.{width}
 use Prim.Native.Nat.{◌-◌, ◌≤◌}
-use mathlib.Core.Path.{◌≡◌, refl}
+use mathlib.Core.Path.{◌≡◌}
 use lib.Dec.{ltb}
 use Rattle.packet_pool.proofs.pool.emptiest.Given as goal
 

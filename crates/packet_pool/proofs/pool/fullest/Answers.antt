@@ -1,10 +1,7 @@
 use borrow.Author.Rules.{rules}
 use Rattle.collector_laws.specs.Pool.{choice}
-use Rattle.collector_laws.proofs.Pool.{unheld, greater, choice_more, in_pool, fullest_choice}
-use Rattle.model.specs.Image.{count, image_of}
-use Rattle.image.specs.Layout.{width}
-use Prim.Native.Nat.{◌-◌, ◌≤◌}
-use mathlib.Core.Path.{◌≡◌, refl}
+use Rattle.collector_laws.proofs.Pool.{choice_more, in_pool, fullest_choice}
+use mathlib.Core.Path.{refl}
 use Rattle.packet_pool.proofs.pool.fullest.Goals as goal
 
 pub loop-p-init : goal.loop-p-init

@@ -1,10 +1,9 @@
-use borrow.Author.Rules.{rules}
 use Rattle.collector_laws.specs.Pool.{choice}
-use Rattle.collector_laws.proofs.Pool.{unheld, greater, choice_more, in_pool, fullest_choice}
+use Rattle.collector_laws.proofs.Pool.{unheld, greater}
 use Rattle.model.specs.Image.{count, image_of}
 use Rattle.image.specs.Layout.{width}
 use Prim.Native.Nat.{◌-◌, ◌≤◌}
-use mathlib.Core.Path.{◌≡◌, refl}
+use mathlib.Core.Path.{◌≡◌}
 use Rattle.packet_pool.proofs.pool.fullest.Given as goal
 
 abbrev pub invariant-loop-p : goal.invariant-loop-p

@@ -1,4 +1,3 @@
-use borrow.Author.Rules.{rules}
 use Rattle.collector_laws.proofs.Pool.{no_entries, some_entries}
 use Rattle.packet_pool.proofs.pool.has_entries.Goals as goal
 

@@ -1,10 +1,8 @@
 use Rattle.model.specs.Image.{image_of}
 use Rattle.image.specs.Layout.{width}
 use Rattle.collector_laws.specs.Pool.{held_set}
-use Rattle.collector_laws.proofs.Pool.{held_more, held_all, input_few, output_few}
 use Prim.Native.Nat.{◌-◌, ◌≤◌}
 use mathlib.Core.Path.{◌≡◌}
-use borrow.Author.Rules.{rules}
 use Rattle.packet_pool.proofs.pool.held_packets.Given as goal
 
 abbrev pub invariant-loop-t : goal.invariant-loop-t

@@ -1,4 +1,3 @@
-use borrow.Author.Rules.{rules}
 use Rattle.collector_laws.proofs.Pool.{absent, present}
 use Rattle.packet_pool.proofs.pool.lacks_space.Goals as goal
 

@@ -1,4 +1,3 @@
-use borrow.Author.Rules.{rules}
 use Rattle.collector_laws.proofs.Pool.{held_none, held_one}
 use Rattle.packet_pool.proofs.pool.with_packet.Goals as goal
 

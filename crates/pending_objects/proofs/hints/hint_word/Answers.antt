@@ -1,11 +1,8 @@
-use Rattle.search_laws.proofs.hints.Refill.{Hinting, hinting_none, hinting_more, hinting_full, hinting_end}
+use Rattle.search_laws.proofs.hints.Refill.{hinting_none, hinting_more, hinting_full, hinting_end}
 use Rattle.model.specs.Base.{put}
-use Rattle.image.specs.Layout.{width}
-use Prim.Native.Nat.{◌-◌}
-use mathlib.Core.Path.{◌≡◌, refl}
+use mathlib.Core.Path.{refl}
 use native.Mathlib.Omega.{arith}
 use borrow.Author.Rules.{rules}
-use lib.ListN.{length}
 use Rattle.pending_objects.proofs.hints.hint_word.Goals as goal
 
 pub loop-x-init : goal.loop-x-init

@@ -1,10 +1,8 @@
-use Rattle.search_laws.proofs.hints.Registers.{RegsDone, regs_none, regs_target, regs_more, regs_end}
+use Rattle.search_laws.proofs.hints.Registers.{RegsDone}
 use Rattle.model.specs.Image.{image_of}
 use Rattle.image.specs.Layout.{width}
 use Prim.Native.Nat.{◌-◌, ◌≤◌}
 use mathlib.Core.Path.{◌≡◌}
-use native.Mathlib.Omega.{arith}
-use borrow.Author.Rules.{rules}
 use lib.ListN.{length}
 use Rattle.pending_objects.proofs.hints.hold_all.Given as goal
 

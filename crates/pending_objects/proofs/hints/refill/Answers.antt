@@ -1,11 +1,8 @@
-use Rattle.search_laws.proofs.hints.Refill.{HintsUpto, refill_none, refill_more, refill_full, refill_end}
+use Rattle.search_laws.proofs.hints.Refill.{refill_none, refill_more, refill_full, refill_end}
 use Rattle.model.specs.Base.{nth}
-use Rattle.image.specs.Layout.{width}
-use Prim.Native.Nat.{◌-◌, ◌<◌}
-use mathlib.Core.Path.{◌≡◌, refl}
+use mathlib.Core.Path.{refl}
 use native.Mathlib.Omega.{arith}
 use borrow.Author.Rules.{rules}
-use lib.ListN.{length}
 use Rattle.pending_objects.proofs.hints.refill.Goals as goal
 
 pub loop-i-init : goal.loop-i-init

@@ -1,4 +1,3 @@
-use borrow.Author.Rules.{rules}
 use Rattle.model.specs.Base.{nth, put, set_bit}
 use mathlib.Core.Path.{refl}
 use Rattle.pending_objects.proofs.planes.add.Goals as goal

@@ -1,4 +1,3 @@
-use borrow.Author.Rules.{rules}
 use Rattle.model.specs.Base.{nth, put}
 use Rattle.image_laws.specs.Bits.{clear_bit}
 use mathlib.Core.Path.{refl}

@@ -1,7 +1,6 @@
 use mathlib.Core.Path.{refl}
 use native.Mathlib.Omega.{arith}
 use lib.ListN.{drop}
-use borrow.Author.Rules.{rules}
 use Rattle.model.specs.Records.{record_bytes}
 use Rattle.show_store_laws.proofs.Record.{no_zeros, record_is}
 use Rattle.records.proofs.record.record_at.Goals as goal

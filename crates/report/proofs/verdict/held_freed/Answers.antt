@@ -1,4 +1,3 @@
-use borrow.Author.Rules.{rules}
 use Rattle.report_laws.proofs.Verdict.{plane_within, held_is}
 use Rattle.report.proofs.verdict.held_freed.Goals as goal
 

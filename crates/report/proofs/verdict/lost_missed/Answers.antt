@@ -1,5 +1,4 @@
 use native.Mathlib.Omega.{arith}
-use borrow.Author.Rules.{rules}
 use Rattle.report_laws.proofs.Verdict.{plane_within, lost_is}
 use Rattle.report.proofs.verdict.lost_missed.Goals as goal
 

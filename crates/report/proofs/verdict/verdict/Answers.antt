@@ -1,4 +1,3 @@
-use borrow.Author.Rules.{rules}
 use Rattle.report_laws.proofs.Verdict.{planes_long, scratch_zero}
 use Rattle.report.proofs.verdict.verdict.Goals as goal
 

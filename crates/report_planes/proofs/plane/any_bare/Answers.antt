@@ -1,16 +1,6 @@
-use Rattle.model.specs.Image.{image_of}
-use Rattle.image.specs.Layout.{width}
-use Rattle.soundness_laws.proofs.Checks.{Sought, sought_none, sought_more, sought_end}
-use Rattle.report_laws.specs.Plane.{bare_word}
+use Rattle.soundness_laws.proofs.Checks.{sought_none, sought_more, sought_end}
 use Rattle.report_laws.proofs.Plane.{word_bare, bare_end}
-use Prim.Native.Nat.{◌*◌, ◌-◌, ◌/◌}
-use mathlib.Core.Path.{◌≡◌}
 use native.Mathlib.Omega.{arith}
-use borrow.Author.Rules.{rules}
-use Rattle.report_planes.proofs.plane.any_bare.Reads as reads
-use Rattle.report_planes.proofs.plane.any_bare.Lts as lts
-use Rattle.image.proofs.sections.start_word.Reads as start-word-reads
-use Rattle.report_planes.proofs.plane.is_bare.Reads as is-bare-reads
 use Rattle.report_planes.proofs.plane.any_bare.Goals as goal
 
 pub loop-i-init : goal.loop-i-init

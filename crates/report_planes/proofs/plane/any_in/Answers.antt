@@ -1,13 +1,5 @@
-use Rattle.model.specs.Base.{bit}
-use Rattle.report_laws.specs.Plane.{some_in}
-use Rattle.image.specs.Layout.{width}
-use Rattle.soundness_laws.proofs.Checks.{Sought, sought_none, sought_more, sought_end}
-use Prim.Native.Nat.{◌-◌}
-use borrow.Author.Rules.{rules}
+use Rattle.soundness_laws.proofs.Checks.{sought_none, sought_more, sought_end}
 use Rattle.report_laws.proofs.Plane.{some-in, stretch_ends}
-use Rattle.report_planes.proofs.plane.any_in.Reads as reads
-use Rattle.report_planes.proofs.plane.any_in.Lts as lts
-use Rattle.report_planes.proofs.plane.some_bit.Reads as some-bit-reads
 use Rattle.report_planes.proofs.plane.any_in.Goals as goal
 
 pub loop-i-init : goal.loop-i-init

@@ -1,11 +1,5 @@
-use Rattle.image.specs.Layout.{width}
-use Rattle.report_laws.proofs.Plane.{Covering, covering_none, covering_more, covering_end}
-use Prim.Native.Nat.{◌-◌}
+use Rattle.report_laws.proofs.Plane.{covering_none, covering_more, covering_end}
 use native.Mathlib.Omega.{arith}
-use borrow.Author.Rules.{rules}
-use Rattle.report_planes.proofs.plane.cover.Reads as reads
-use Rattle.report_planes.proofs.plane.cover.Lts as lts
-use Rattle.pending_objects.proofs.planes.add.Reads as add_reads
 use Rattle.report_planes.proofs.plane.cover.Goals as goal
 
 pub loop-j-init : goal.loop-j-init

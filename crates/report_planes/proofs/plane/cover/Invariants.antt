@@ -1,11 +1,6 @@
 use Rattle.image.specs.Layout.{width}
-use Rattle.report_laws.proofs.Plane.{Covering, covering_none, covering_more, covering_end}
+use Rattle.report_laws.proofs.Plane.{Covering}
 use Prim.Native.Nat.{◌-◌}
-use native.Mathlib.Omega.{arith}
-use borrow.Author.Rules.{rules}
-use Rattle.report_planes.proofs.plane.cover.Reads as reads
-use Rattle.report_planes.proofs.plane.cover.Lts as lts
-use Rattle.pending_objects.proofs.planes.add.Reads as add_reads
 use Rattle.report_planes.proofs.plane.cover.Given as goal
 
 abbrev pub invariant-loop-j : goal.invariant-loop-j

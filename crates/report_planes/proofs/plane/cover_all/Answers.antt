@@ -1,11 +1,5 @@
-use Rattle.image.specs.Layout.{width}
-use Prim.Native.Nat.{◌-◌}
 use native.Mathlib.Omega.{arith}
-use borrow.Author.Rules.{rules}
-use Rattle.report_laws.proofs.Plane.{stretch_ends, CoveringAll, stretches_none, stretches_more, stretches_end}
-use Rattle.report_planes.proofs.plane.cover_all.Reads as reads
-use Rattle.report_planes.proofs.plane.cover_all.Lts as lts
-use Rattle.report_planes.proofs.plane.cover.Reads as cover-reads
+use Rattle.report_laws.proofs.Plane.{stretch_ends, stretches_none, stretches_more, stretches_end}
 use Rattle.report_planes.proofs.plane.cover_all.Goals as goal
 
 pub loop-i-init : goal.loop-i-init

@@ -1,11 +1,6 @@
 use Rattle.image.specs.Layout.{width}
 use Prim.Native.Nat.{◌-◌}
-use native.Mathlib.Omega.{arith}
-use borrow.Author.Rules.{rules}
-use Rattle.report_laws.proofs.Plane.{stretch_ends, CoveringAll, stretches_none, stretches_more, stretches_end}
-use Rattle.report_planes.proofs.plane.cover_all.Reads as reads
-use Rattle.report_planes.proofs.plane.cover_all.Lts as lts
-use Rattle.report_planes.proofs.plane.cover.Reads as cover-reads
+use Rattle.report_laws.proofs.Plane.{CoveringAll}
 use Rattle.report_planes.proofs.plane.cover_all.Given as goal
 
 abbrev pub invariant-loop-i : goal.invariant-loop-i

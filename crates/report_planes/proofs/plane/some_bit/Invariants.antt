@@ -1,11 +1,7 @@
 use Rattle.model.specs.Base.{bit}
 use Rattle.image.specs.Layout.{width}
-use Rattle.soundness_laws.proofs.Checks.{Sought, sought_none, sought_more, sought_end}
+use Rattle.soundness_laws.proofs.Checks.{Sought}
 use Prim.Native.Nat.{◌+◌, ◌-◌}
-use borrow.Author.Rules.{rules}
-use Rattle.report_planes.proofs.plane.some_bit.Reads as reads
-use Rattle.report_planes.proofs.plane.some_bit.Lts as lts
-use Rattle.sets.proofs.in_set.Reads as in-set-reads
 use Rattle.report_planes.proofs.plane.some_bit.Given as goal
 
 abbrev pub invariant-loop-j : goal.invariant-loop-j

@@ -1,13 +1,7 @@
-use mathlib.Core.Path.{◌≡◌, sym, ◌∙◌}
+use mathlib.Core.Path.{sym, ◌∙◌}
 use mathlib.Core.Bool.{true}
-use Prim.Native.Nat.{◌-◌}
 use native.Mathlib.Omega.{arith}
-use borrow.Author.Rules.{rules}
-use borrow.Author.Tests.{not-true, not-false}
-use Rattle.model.specs.Image.{image_of}
-use Rattle.model.specs.Report.{lowest_start, good_stretch}
-use Rattle.image.specs.Layout.{width}
-use Rattle.soundness_laws.proofs.Checks.{Checked, checked_none, checked_more, checked_stop, checked_end}
+use Rattle.soundness_laws.proofs.Checks.{checked_none, checked_more, checked_stop, checked_end}
 use Rattle.report_laws.proofs.Stretch.{low_first, low_next}
 use Rattle.report_stretches.proofs.stretch.all_good.Goals as goal
 

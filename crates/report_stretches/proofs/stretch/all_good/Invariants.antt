@@ -1,14 +1,10 @@
-use mathlib.Core.Path.{◌≡◌, sym, ◌∙◌}
+use mathlib.Core.Path.{◌≡◌}
 use mathlib.Core.Bool.{true}
 use Prim.Native.Nat.{◌-◌}
-use native.Mathlib.Omega.{arith}
-use borrow.Author.Rules.{rules}
-use borrow.Author.Tests.{not-true, not-false}
 use Rattle.model.specs.Image.{image_of}
 use Rattle.model.specs.Report.{lowest_start, good_stretch}
 use Rattle.image.specs.Layout.{width}
-use Rattle.soundness_laws.proofs.Checks.{Checked, checked_none, checked_more, checked_stop, checked_end}
-use Rattle.report_laws.proofs.Stretch.{low_first, low_next}
+use Rattle.soundness_laws.proofs.Checks.{Checked}
 use Rattle.report_stretches.proofs.stretch.all_good.Given as goal
 
 abbrev pub invariant-loop-i : goal.invariant-loop-i

@@ -1,4 +1,3 @@
-use borrow.Author.Rules.{rules}
 use Rattle.report_laws.proofs.Stretch.{end_is}
 use Rattle.report_stretches.proofs.stretch.end.Goals as goal
 

@@ -1,4 +1,3 @@
-use borrow.Author.Rules.{rules}
 use Rattle.report_laws.proofs.Stretch.{length_is}
 use Rattle.report_stretches.proofs.stretch.granules.Goals as goal
 

@@ -1,5 +1,4 @@
 use native.Mathlib.Omega.{arith}
-use borrow.Author.Rules.{rules}
 use Rattle.report_laws.proofs.Stretch.{good_none, good_low, good_past, good_whole}
 use Rattle.report_stretches.proofs.stretch.is_good.Goals as goal
 

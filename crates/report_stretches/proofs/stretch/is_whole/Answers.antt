@@ -1,10 +1,7 @@
-use mathlib.Core.Path.{◌≡◌, refl}
-use Prim.Native.Nat.{◌+◌, ◌-◌}
+use mathlib.Core.Path.{refl}
 use native.Mathlib.Omega.{arith}
 use borrow.Author.Rules.{rules}
-use Rattle.model.specs.Image.{image_of}
-use Rattle.image.specs.Layout.{width}
-use Rattle.report_laws.proofs.Stretch.{Walking, walking_none, walking_out, walking_more, walking_some, walking_end}
+use Rattle.report_laws.proofs.Stretch.{walking_none, walking_out, walking_more, walking_some, walking_end}
 use Rattle.report_stretches.proofs.stretch.is_whole.Goals as goal
 
 pub loop-g-init : goal.loop-g-init

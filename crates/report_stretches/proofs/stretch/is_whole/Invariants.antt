@@ -1,10 +1,8 @@
-use mathlib.Core.Path.{◌≡◌, refl}
+use mathlib.Core.Path.{◌≡◌}
 use Prim.Native.Nat.{◌+◌, ◌-◌}
-use native.Mathlib.Omega.{arith}
-use borrow.Author.Rules.{rules}
 use Rattle.model.specs.Image.{image_of}
 use Rattle.image.specs.Layout.{width}
-use Rattle.report_laws.proofs.Stretch.{Walking, walking_none, walking_out, walking_more, walking_some, walking_end}
+use Rattle.report_laws.proofs.Stretch.{Walking}
 use Rattle.report_stretches.proofs.stretch.is_whole.Given as goal
 
 abbrev pub invariant-loop-g : goal.invariant-loop-g

@@ -1,4 +1,3 @@
-use borrow.Author.Rules.{rules}
 use Rattle.report_laws.proofs.Stretch.{start_is}
 use Rattle.report_stretches.proofs.stretch.start.Goals as goal
 

@@ -1,4 +1,3 @@
-use borrow.Author.Rules.{rules}
 use Rattle.request_laws.proofs.Fields.{beyond_found}
 use Rattle.request.proofs.fields.some_beyond.Goals as goal
 

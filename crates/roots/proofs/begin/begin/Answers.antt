@@ -1,4 +1,3 @@
-use borrow.Author.Rules.{rules}
 use Rattle.collector_laws.proofs.Steps.{begin_refused, begin_goes}
 use Rattle.roots.proofs.begin.begin.Goals as goal
 

@@ -1,10 +1,6 @@
-use Rattle.collector_laws.proofs.Scanning.{Scanning, scan_first, scan_end, scan_reg, scan_more}
-use Rattle.image.specs.Layout.{width}
-use Rattle.model.specs.Image.{image_of}
-use Prim.Native.Nat.{◌-◌, ◌≤◌}
-use mathlib.Core.Path.{◌≡◌, refl}
+use Rattle.collector_laws.proofs.Scanning.{scan_first, scan_end, scan_reg, scan_more}
+use mathlib.Core.Path.{refl}
 use borrow.Author.Rules.{rules}
-use lib.ListN.{length}
 use Rattle.roots.proofs.scanning.reach_registers.Goals as goal
 
 pub loop-r-init : goal.loop-r-init

@@ -1,9 +1,8 @@
-use Rattle.collector_laws.proofs.Scanning.{Scanning, scan_first, scan_end, scan_reg, scan_more}
+use Rattle.collector_laws.proofs.Scanning.{Scanning}
 use Rattle.image.specs.Layout.{width}
 use Rattle.model.specs.Image.{image_of}
 use Prim.Native.Nat.{◌-◌, ◌≤◌}
-use mathlib.Core.Path.{◌≡◌, refl}
-use borrow.Author.Rules.{rules}
+use mathlib.Core.Path.{◌≡◌}
 use lib.ListN.{length}
 use Rattle.roots.proofs.scanning.reach_registers.Given as goal
 

@@ -1,5 +1,4 @@
 use Rattle.collector_laws.proofs.Steps.{scan_refused, scan_goes}
-use borrow.Author.Rules.{rules}
 use Rattle.roots.proofs.scanning.scan.Goals as goal
 
 pub returns-then-running-eq0 : goal.returns-then-running-eq0

@@ -1,4 +1,3 @@
-use borrow.Author.Rules.{rules}
 use Rattle.collector_laws.proofs.Scanning.{scanned_already, scanned_now}
 use Rattle.roots.proofs.scanning.scan_player.Goals as goal
 

@@ -1,9 +1,7 @@
 use native.Mathlib.Omega.{arith}
 use borrow.Author.Rules.{rules}
 use Rattle.model.specs.Image.{granules, image_of, image}
-use Rattle.image.specs.Layout.{width}
-use Rattle.runs_laws.specs.Chain.{room_of}
-use Rattle.runs_laws.proofs.Chain.{Walk, chain_measure, walk_first, walk_end, walk_in, walk_less, walk_exact, walk_taken, walk_passed}
+use Rattle.runs_laws.proofs.Chain.{walk_first, walk_end, walk_in, walk_less, walk_exact, walk_taken, walk_passed}
 use Rattle.runs.proofs.chain.find_room.Goals as goal
 use Rattle.runs.proofs.chain.find_room.Goals.{then-tighter+else-length-b, else-tighter}
 

@@ -1,6 +1,4 @@
-use Rattle.image.specs.Layout.{width}
-use Rattle.runs_laws.proofs.Chain.{chain_measure}
-use Rattle.runs_laws.proofs.Granules.{CountingFree, free_first, free_end, free_in, free_less, free_next}
+use Rattle.runs_laws.proofs.Granules.{free_first, free_end, free_in, free_less, free_next}
 use Rattle.runs_laws.proofs.Sound.{sound_linked}
 use Rattle.model.specs.Image.{granules, image_of, image}
 use native.Mathlib.Omega.{arith}

@@ -1,5 +1,4 @@
 use native.Mathlib.Omega.{arith}
-use borrow.Author.Rules.{rules}
 use Rattle.theory.proofs.heap.Sums.{no_more}
 use Rattle.runs_laws.proofs.Granules.{free_grown}
 use Rattle.runs.proofs.granules.grow.Goals as goal

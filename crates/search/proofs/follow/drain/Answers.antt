@@ -1,12 +1,7 @@
 use Rattle.search_laws.proofs.follow.Goes.{goes_none, goes_on}
-use Rattle.model.specs.Image.{image_of}
-use Rattle.image.specs.Layout.{width}
-use Rattle.search_laws.specs.Search.{to_do, Goes}
-use Prim.Native.Nat.{◌+◌, ◌≤◌, zero-le}
-use mathlib.Core.Path.{◌≡◌}
+use Prim.Native.Nat.{zero-le}
 use native.Mathlib.Omega.{arith}
 use borrow.Author.Rules.{rules}
-use lib.ListN.{length}
 use Rattle.search.proofs.follow.drain.Goals as goal
 
 pub loop-h-init : goal.loop-h-init

@@ -1,6 +1,5 @@
 use Rattle.search_laws.proofs.follow.Goes.{goes_on}
 use Rattle.model.specs.Base.{nth}
-use borrow.Author.Rules.{rules}
 use Prim.Native.Nat.{◌-◌}
 use native.Mathlib.Omega.{arith}
 use Rattle.search.proofs.follow.pass.Goals as goal

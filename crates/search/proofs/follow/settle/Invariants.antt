@@ -1,10 +1,8 @@
-use Rattle.search_laws.proofs.follow.Settling.{LinksDone, links_none, links_target, links_more, links_end, links_fall}
+use Rattle.search_laws.proofs.follow.Settling.{LinksDone}
 use Rattle.model.specs.Image.{image_of}
 use Rattle.image.specs.Layout.{width}
 use Prim.Native.Nat.{◌-◌, ◌≤◌}
 use mathlib.Core.Path.{◌≡◌}
-use native.Mathlib.Omega.{arith}
-use borrow.Author.Rules.{rules}
 use lib.ListN.{length}
 use Rattle.search.proofs.follow.settle.Given as goal
 

@@ -1,5 +1,4 @@
 use Rattle.search_laws.proofs.follow.Goes.{goes_none, goes_on}
-use borrow.Author.Rules.{rules}
 use Rattle.image_laws.proofs.Digits.{digit_on}
 use Prim.Native.Nat.{◌-◌, zero-le}
 use mathlib.Core.Path.{sym, ◌∙◌}

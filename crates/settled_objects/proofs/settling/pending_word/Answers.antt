@@ -1,5 +1,4 @@
 use Rattle.image.specs.Layout.{width}
-use borrow.Author.Rules.{rules}
 use Rattle.image_laws.proofs.Lengths.{width_image}
 use Rattle.finish_marking_laws.proofs.follow.Settling.{pending_word}
 use native.Mathlib.Omega.{arith}

@@ -1,8 +1,5 @@
-use Rattle.model.specs.Image.{image_of}
-use Rattle.image.specs.Layout.{width}
-use Rattle.image_laws.proofs.Loops.{Looped, looped_none, looped_more, looped_end}
-use Rattle.finish_marking_laws.proofs.follow.Settling.{LinksDone, links_none, links_target, links_more, links_end}
-use Prim.Native.Nat.{◌-◌}
+use Rattle.image_laws.proofs.Loops.{looped_none, looped_more, looped_end}
+use Rattle.finish_marking_laws.proofs.follow.Settling.{links_none, links_target, links_more, links_end}
 use native.Mathlib.Omega.{arith}
 use borrow.Author.Rules.{rules}
 use Rattle.settled_objects.proofs.settling.settle.Goals as goal

@@ -1,7 +1,4 @@
-use Rattle.model.specs.Image.{image_of}
-use Rattle.image.specs.Layout.{width}
-use Rattle.finish_marking_laws.specs.Marking.{work_left}
-use Rattle.finish_marking_laws.proofs.follow.Settling.{WordSettled, word_none, word_again, word_bit, word_object, word_falls, word_more, word_end}
+use Rattle.finish_marking_laws.proofs.follow.Settling.{word_none, word_again, word_bit, word_object, word_falls, word_more, word_end}
 use native.Mathlib.Omega.{arith}
 use borrow.Author.Rules.{rules}
 use Rattle.settled_objects.proofs.settling.settle_bits.Goals as goal

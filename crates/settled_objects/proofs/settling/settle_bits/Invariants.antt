@@ -1,9 +1,7 @@
 use Rattle.model.specs.Image.{image_of}
 use Rattle.image.specs.Layout.{width}
 use Rattle.finish_marking_laws.specs.Marking.{work_left}
-use Rattle.finish_marking_laws.proofs.follow.Settling.{WordSettled, word_none, word_again, word_bit, word_object, word_falls, word_more, word_end}
-use native.Mathlib.Omega.{arith}
-use borrow.Author.Rules.{rules}
+use Rattle.finish_marking_laws.proofs.follow.Settling.{WordSettled}
 use Rattle.settled_objects.proofs.settling.settle_bits.Given as goal
 
 abbrev pub invariant-loop-left : goal.invariant-loop-left

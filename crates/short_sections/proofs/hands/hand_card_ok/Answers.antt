@@ -1,4 +1,3 @@
-use borrow.Author.Rules.{rules}
 use Rattle.soundness_laws.proofs.Hands.{card_nil, card_no, card_yes}
 use Rattle.short_sections.proofs.hands.hand_card_ok.Goals as goal
 

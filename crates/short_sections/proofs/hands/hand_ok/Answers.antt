@@ -1,4 +1,3 @@
-use borrow.Author.Rules.{rules}
 use Rattle.soundness_laws.proofs.Hands.{hand_nil, hand_out, hand_marked}
 use Rattle.short_sections.proofs.hands.hand_ok.Goals as goal
 

@@ -1,9 +1,4 @@
-use Rattle.model.specs.Undamaged.{held_once}
-use Prim.Native.Nat.{◌-◌}
-use borrow.Author.Rules.{rules}
-use Rattle.model.specs.Image.{image_of}
-use Rattle.image.specs.Layout.{width}
-use Rattle.soundness_laws.proofs.Checks.{Checked, checked_none, checked_more, checked_end}
+use Rattle.soundness_laws.proofs.Checks.{checked_none, checked_more, checked_end}
 use Rattle.short_sections.proofs.hands.held_ok.Goals as goal
 
 pub loop-i-init : goal.loop-i-init

@@ -1,4 +1,3 @@
-use borrow.Author.Rules.{rules}
 use Rattle.soundness_laws.proofs.Hands.{held_nothing, held_other}
 use Rattle.short_sections.proofs.hands.held_once.Goals as goal
 

@@ -1,4 +1,3 @@
-use borrow.Author.Rules.{rules}
 use mathlib.Core.Path.{refl}
 use Rattle.soundness_laws.specs.Tests.{apart}
 use Rattle.short_sections.proofs.hands.is_apart.Goals as goal

@@ -1,4 +1,3 @@
-use borrow.Author.Rules.{rules}
 use Rattle.model.specs.Base.{every}
 use Rattle.model.specs.Image.{hand, next_link, hand_card, next_granule}
 use Rattle.model.specs.Undamaged.{tracer_ok}

@@ -1,4 +1,3 @@
-use borrow.Author.Rules.{rules}
 use mathlib.Core.Path.{sym}
 use Rattle.image_laws.specs.Digits.{digit}
 use native.Mathlib.Nat.{add-zero}

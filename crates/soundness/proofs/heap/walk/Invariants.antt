@@ -1,8 +1,6 @@
 use Prim.Native.Nat.{◌*◌, ◌-◌}
-use borrow.Author.Rules.{rules}
 use Rattle.image.specs.Layout.{width}
-use Rattle.soundness_laws.proofs.Small.{w_from}
-use Rattle.soundness_laws.proofs.Heap.{HeapWalk, w_small, w_link, w_stop, w_room, w_less, w_more, w_end}
+use Rattle.soundness_laws.proofs.Heap.{HeapWalk}
 use Rattle.soundness.proofs.heap.walk.Given as goal
 
 abbrev pub invariant-loop-g : goal.invariant-loop-g

@@ -1,7 +1,7 @@
 use mathlib.Core.Path.{◌≡◌, refl, ◌∙◌}
-use mathlib.Core.List.{◌++◌, append-nil}
-use Prim.Native.Nat.{◌-◌, ◌≤◌, zero-le}
-use lib.ListN.{length, drop, replicate, length-set}
+use mathlib.Core.List.{append-nil}
+use Prim.Native.Nat.{zero-le}
+use lib.ListN.{length, length-set}
 use lib.Seq.{drop-length}
 use borrow.Author.Rules.{rules}
 use borrow.Author.Fill.{fill_more}

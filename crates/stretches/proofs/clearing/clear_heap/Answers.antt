@@ -1,4 +1,3 @@
-use borrow.Author.Rules.{rules}
 use Rattle.image_laws.proofs.Clearing.{zero_heap}
 use Rattle.stretches.proofs.clearing.clear_heap.Goals as goal
 

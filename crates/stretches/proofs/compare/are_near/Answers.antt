@@ -1,9 +1,6 @@
 use Rattle.model.specs.Base.{nth}
-use Rattle.image_laws.specs.Compare.{near_at, near}
-use Prim.Native.Nat.{◌-◌}
-use borrow.Author.Rules.{rules}
-use lib.ListN.{length}
-use Rattle.image_laws.proofs.Compare.{NoneBad, bad_none, bad_end, near_more}
+use Rattle.image_laws.specs.Compare.{near}
+use Rattle.image_laws.proofs.Compare.{bad_none, bad_end, near_more}
 use Rattle.stretches.proofs.compare.are_near.Goals as goal
 
 pub loop-i-init : goal.loop-i-init

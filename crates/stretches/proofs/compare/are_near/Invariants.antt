@@ -1,9 +1,7 @@
-use Rattle.model.specs.Base.{nth}
-use Rattle.image_laws.specs.Compare.{near_at, near}
+use Rattle.image_laws.specs.Compare.{near_at}
 use Prim.Native.Nat.{◌-◌}
-use borrow.Author.Rules.{rules}
 use lib.ListN.{length}
-use Rattle.image_laws.proofs.Compare.{NoneBad, bad_none, bad_end, near_more}
+use Rattle.image_laws.proofs.Compare.{NoneBad}
 use Rattle.stretches.proofs.compare.are_near.Given as goal
 
 abbrev pub invariant-loop-i : goal.invariant-loop-i

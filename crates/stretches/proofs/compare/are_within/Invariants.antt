@@ -1,9 +1,7 @@
-use Rattle.model.specs.Base.{nth}
-use Rattle.image_laws.specs.Compare.{between, within}
+use Rattle.image_laws.specs.Compare.{between}
 use Prim.Native.Nat.{◌-◌}
-use borrow.Author.Rules.{rules}
 use lib.ListN.{length}
-use Rattle.image_laws.proofs.Compare.{NoneBad, bad_none, bad_end, within_more}
+use Rattle.image_laws.proofs.Compare.{NoneBad}
 use Rattle.stretches.proofs.compare.are_within.Given as goal
 
 abbrev pub invariant-loop-i : goal.invariant-loop-i

@@ -1,10 +1,8 @@
 use Rattle.image_laws.specs.Parts.{is_zero}
-use Rattle.image_laws.proofs.Parts.{Gathered, g_none, g_more, g_end, zeroes_all}
+use Rattle.image_laws.proofs.Parts.{g_none, g_more, g_end, zeroes_all}
 use Rattle.model.specs.Base.{nth}
-use Prim.Native.Nat.{◌-◌}
 use mathlib.Core.Path.{◌∙◌}
 use borrow.Author.Rules.{rules}
-use lib.ListN.{length}
 use Rattle.stretches.proofs.parts.few_zeros.Goals as goal
 
 pub loop-i-init : goal.loop-i-init

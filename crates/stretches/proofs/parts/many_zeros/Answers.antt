@@ -1,7 +1,5 @@
 use Rattle.model.specs.Base.{nth}
-use Rattle.image_laws.specs.Parts.{both_zero}
-use Rattle.image_laws.proofs.Parts.{Gathered, g_none, g_more, g_end, or_both, zeroes_both}
-use Prim.Native.Nat.{◌-◌}
+use Rattle.image_laws.proofs.Parts.{g_none, g_more, g_end, or_both, zeroes_both}
 use mathlib.Core.Path.{◌∙◌}
 use borrow.Author.Rules.{rules}
 use Rattle.stretches.proofs.parts.many_zeros.Goals as goal

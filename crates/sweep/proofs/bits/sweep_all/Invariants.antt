@@ -1,8 +1,5 @@
 use Rattle.image.specs.Layout.{width}
-use Rattle.finish_laws.proofs.gaps.Code.{within_grown}
-use Rattle.finish_laws.proofs.gaps.Bits.{Sweeping, sweeping_none, sweeping_word, sweeping_more, sweeping_end}
-use native.Mathlib.Omega.{arith}
-use borrow.Author.Rules.{rules}
+use Rattle.finish_laws.proofs.gaps.Bits.{Sweeping}
 use Rattle.sweep.proofs.bits.sweep_all.Given as goal
 
 abbrev pub invariant-loop-i : goal.invariant-loop-i

@@ -1,5 +1,4 @@
-use Rattle.finish_laws.proofs.gaps.Bits.{Taking, taking_none, taking_few, taking_within, taking_less, taking_room, taking_more, taking_end}
-use Rattle.image.specs.Layout.{width}
+use Rattle.finish_laws.proofs.gaps.Bits.{taking_none, taking_few, taking_within, taking_less, taking_room, taking_more, taking_end}
 use native.Mathlib.Omega.{arith}
 use borrow.Author.Rules.{rules}
 use Rattle.sweep.proofs.bits.sweep_bits.Goals as goal

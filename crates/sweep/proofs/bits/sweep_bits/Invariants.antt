@@ -1,7 +1,5 @@
-use Rattle.finish_laws.proofs.gaps.Bits.{Taking, taking_none, taking_few, taking_within, taking_less, taking_room, taking_more, taking_end}
+use Rattle.finish_laws.proofs.gaps.Bits.{Taking}
 use Rattle.image.specs.Layout.{width}
-use native.Mathlib.Omega.{arith}
-use borrow.Author.Rules.{rules}
 use Rattle.sweep.proofs.bits.sweep_bits.Given as goal
 
 abbrev pub invariant-loop-x : goal.invariant-loop-x

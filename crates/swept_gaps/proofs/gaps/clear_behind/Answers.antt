@@ -1,5 +1,4 @@
 use Rattle.finish_laws.proofs.gaps.Code.{behind_none}
-use borrow.Author.Rules.{rules}
 use Rattle.swept_gaps.proofs.gaps.clear_behind.Goals as goal
 
 pub returns-else-a-e : goal.returns-else-a-e

@@ -1,5 +1,4 @@
 use Rattle.finish_laws.proofs.gaps.Code.{run_done}
-use borrow.Author.Rules.{rules}
 use Rattle.swept_gaps.proofs.gaps.run_at.Goals as goal
 
 pub returns : goal.returns

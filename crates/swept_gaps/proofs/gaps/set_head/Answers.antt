@@ -1,5 +1,4 @@
 use Rattle.finish_laws.proofs.gaps.Code.{head_set}
-use borrow.Author.Rules.{rules}
 use Rattle.swept_gaps.proofs.gaps.set_head.Goals as goal
 
 pub returns : goal.returns

@@ -1,4 +1,3 @@
-use borrow.Author.Rules.{rules}
 use Rattle.mutator_laws.proofs.Taking.{object_made}
 use Rattle.taken_runs.proofs.taking.make_object.Goals as goal
 

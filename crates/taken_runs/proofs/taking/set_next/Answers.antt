@@ -1,4 +1,3 @@
-use borrow.Author.Rules.{rules}
 use Rattle.mutator_laws.proofs.Taking.{set_next_first, set_next_after}
 use Rattle.taken_runs.proofs.taking.set_next.Goals as goal
 

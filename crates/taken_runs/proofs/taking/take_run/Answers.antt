@@ -1,5 +1,4 @@
 use native.Mathlib.Omega.{arith}
-use borrow.Author.Rules.{rules}
 use Rattle.mutator_laws.proofs.Taking.{take_whole, take_part, counted_first, left_whole, left_part, left_few}
 use Rattle.taken_runs.proofs.taking.take_run.Goals as goal
 

@@ -1,9 +1,4 @@
-use Rattle.model.specs.Image.{image_of}
-use Rattle.image.specs.Layout.{width}
-use Rattle.soundness_laws.specs.Small.{small_at}
-use Rattle.soundness_laws.proofs.Checks.{CheckedFrom, from_none, from_more, from_end}
-use Prim.Native.Nat.{◌-◌}
-use borrow.Author.Rules.{rules}
+use Rattle.soundness_laws.proofs.Checks.{from_none, from_more, from_end}
 use Rattle.targets.proofs.small.all_small.Goals as goal
 
 pub loop-g-init : goal.loop-g-init

@@ -1,9 +1,8 @@
 use Rattle.model.specs.Image.{image_of}
 use Rattle.image.specs.Layout.{width}
 use Rattle.soundness_laws.specs.Small.{small_at}
-use Rattle.soundness_laws.proofs.Checks.{CheckedFrom, from_none, from_more, from_end}
+use Rattle.soundness_laws.proofs.Checks.{CheckedFrom}
 use Prim.Native.Nat.{◌-◌}
-use borrow.Author.Rules.{rules}
 use Rattle.targets.proofs.small.all_small.Given as goal
 
 abbrev pub invariant-loop-g : goal.invariant-loop-g

@@ -1,8 +1,5 @@
-use Rattle.model.specs.Image.{image_of}
 use Rattle.image.specs.Layout.{width}
-use Rattle.soundness_laws.specs.Small.{FullUpto}
 use Rattle.soundness_laws.proofs.Small.{full_none, full_first, full_more}
-use Prim.Native.Nat.{◌*◌, ◌-◌, ◌/◌}
 use native.Mathlib.Omega.{arith}
 use borrow.Author.Rules.{rules}
 use Rattle.targets.proofs.small.full_words.Goals as goal

@@ -1,4 +1,3 @@
-use borrow.Author.Rules.{rules}
 use Rattle.image.specs.Layout.{width}
 use Rattle.soundness_laws.proofs.Small.{all_small, word_fits, word_small}
 use Prim.Native.Nat.{◌%◌}

@@ -1,10 +1,7 @@
-use Rattle.image.specs.Layout.{width}
-use Rattle.soundness_laws.specs.Small.{Bounds}
 use Rattle.soundness_laws.proofs.Small.{four_length, bounds_none, bounds_more, bounds_end}
-use Prim.Native.Nat.{◌*◌, ◌-◌}
+use Prim.Native.Nat.{◌*◌}
 use mathlib.Core.Path.{sym, ap, ◌∙◌}
 use native.Mathlib.Omega.{arith}
-use borrow.Author.Rules.{rules}
 use lib.ListN.{length}
 use Rattle.targets.proofs.small.note_bounds.Goals as goal
 

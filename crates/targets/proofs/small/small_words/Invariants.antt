@@ -1,11 +1,7 @@
 use Rattle.model.specs.Image.{image_of}
 use Rattle.image.specs.Layout.{width}
 use Rattle.soundness_laws.specs.Small.{SmallUpto}
-use Rattle.soundness_laws.proofs.Small.{full_inside, word_end, upto_none, upto_more}
 use Prim.Native.Nat.{◌*◌, ◌-◌}
-use native.Mathlib.Omega.{arith}
-use borrow.Author.Rules.{rules}
-use borrow.Author.Tests.{not-false}
 use Rattle.targets.proofs.small.small_words.Given as goal
 
 abbrev pub invariant-loop-g : goal.invariant-loop-g

@@ -1,7 +1,4 @@
-use Rattle.model.specs.Image.{image_of}
-use Rattle.image.specs.Layout.{width}
-use Rattle.tracers_laws.proofs.Marks.{MarksBelow, marks_none, marks_all, marks_more}
-use Prim.Native.Nat.{◌-◌, ◌/◌, ◌≤◌}
+use Rattle.tracers_laws.proofs.Marks.{marks_none, marks_all, marks_more}
 use borrow.Author.Rules.{rules}
 use Rattle.tracer_words.proofs.marks.card_marks.Goals as goal
 

@@ -1,8 +1,7 @@
 use Rattle.model.specs.Image.{image_of}
 use Rattle.image.specs.Layout.{width}
-use Rattle.tracers_laws.proofs.Marks.{MarksBelow, marks_none, marks_all, marks_more}
+use Rattle.tracers_laws.proofs.Marks.{MarksBelow}
 use Prim.Native.Nat.{◌-◌, ◌/◌, ◌≤◌}
-use borrow.Author.Rules.{rules}
 use Rattle.tracer_words.proofs.marks.card_marks.Given as goal
 
 abbrev pub invariant-loop-i : goal.invariant-loop-i

@@ -1,4 +1,3 @@
-use borrow.Author.Rules.{rules}
 use Rattle.tracers_laws.proofs.Marks.{next_past, next_none, next_found}
 use Prim.Native.Nat.{◌/◌, ◌%◌, ◌^◌}
 use mathlib.Core.Path.{refl}

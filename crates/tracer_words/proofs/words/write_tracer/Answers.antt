@@ -1,4 +1,3 @@
-use borrow.Author.Rules.{rules}
 use Rattle.tracers_laws.proofs.Words.{tracer_written}
 use Rattle.tracer_words.proofs.words.write_tracer.Goals as goal
 

@@ -1,8 +1,6 @@
-use mathlib.Core.Path.{◌≡◌, sym, ◌∙◌}
-use mathlib.Core.List.{◌∷◌}
-use Prim.Native.Nat.{◌+◌, ◌-◌, ◌≤◌}
+use mathlib.Core.Path.{sym, ◌∙◌}
 use borrow.Author.Rules.{rules}
-use lib.ListN.{length, take, length-set}
+use lib.ListN.{length-set}
 use Rattle.tracers_laws.specs.Packet.{words_of}
 use Rattle.tracers_laws.proofs.Copy.{headed_more, headed_first, headed_done}
 use Rattle.work_packets.proofs.packet.put_words.Goals as goal

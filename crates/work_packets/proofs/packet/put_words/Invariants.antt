@@ -1,10 +1,7 @@
-use mathlib.Core.Path.{◌≡◌, sym, ◌∙◌}
+use mathlib.Core.Path.{◌≡◌}
 use mathlib.Core.List.{◌∷◌}
 use Prim.Native.Nat.{◌+◌, ◌-◌, ◌≤◌}
-use borrow.Author.Rules.{rules}
-use lib.ListN.{length, take, length-set}
-use Rattle.tracers_laws.specs.Packet.{words_of}
-use Rattle.tracers_laws.proofs.Copy.{headed_more, headed_first, headed_done}
+use lib.ListN.{length, take}
 use Rattle.work_packets.proofs.packet.put_words.Given as goal
 
 abbrev pub invariant-loop-j : goal.invariant-loop-j

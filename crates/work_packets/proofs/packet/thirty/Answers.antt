@@ -1,7 +1,5 @@
-use mathlib.Core.Path.{◌≡◌}
-use Prim.Native.Nat.{◌-◌, ◌≤◌}
 use borrow.Author.Rules.{rules}
-use lib.ListN.{length, take, length-set}
+use lib.ListN.{length-set}
 use Rattle.tracers_laws.proofs.Copy.{alike_more, alike_done}
 use Rattle.work_packets.proofs.packet.thirty.Goals as goal
 

@@ -1,8 +1,6 @@
 use mathlib.Core.Path.{◌≡◌}
 use Prim.Native.Nat.{◌-◌, ◌≤◌}
-use borrow.Author.Rules.{rules}
-use lib.ListN.{length, take, length-set}
-use Rattle.tracers_laws.proofs.Copy.{alike_more, alike_done}
+use lib.ListN.{length, take}
 use Rattle.work_packets.proofs.packet.thirty.Given as goal
 
 abbrev pub invariant-loop-j : goal.invariant-loop-j

@@ -1,4 +1,3 @@
-use borrow.Author.Rules.{rules}
 use Rattle.tracers_laws.proofs.Tracer.{link_next, link_last}
 use Rattle.tracers.proofs.tracer.Tracer.link_done.Goals as goal
 

@@ -1,0 +1,12 @@
+use Prim.Native.Nat.{◌-◌}
+use Rattle.model.specs.Image.{image_of}
+use Rattle.wide_image.specs.Layout.{width}
+use Rattle.soundness_laws.proofs.Checks.{Sought}
+use Rattle.judge_laws.specs.Order.{holds}
+use Rattle.wide_covered_objects.proofs.objects.held_by.Given as goal
+
+abbrev pub invariant-loop-i : goal.invariant-loop-i
+invariant-loop-i l = Sought 16 (holds (image_of width l.k l.im) l.p l.a) l.found l.i
+
+abbrev pub decreases-loop-i : goal.decreases-loop-i
+decreases-loop-i l = 16 - l.i

@@ -1,0 +1,24 @@
+use Prim.Native.Nat.{◌*◌, ◌/◌, ◌^◌}
+use lib.Bits.{and_mask}
+use Rattle.wide_image.specs.Layout.{width}
+use Rattle.request_laws.specs.Request.{role_digit}
+use Rattle.request_laws.proofs.Tables.{limit_unused, limit_desk, limit_tracer, limit_number}
+use Rattle.wide_field_tables.proofs.tables.limit_by.Goals as goal
+
+pub returns-in-0 : goal.returns-in-0
+unfolding role_digit
+returns-in-0 c = limit_unused width _ (rw (and_mask (c.args.t / 2 ^ (2 * c.args.n)) 2) at c.in-0.is)
+
+pub returns-in-1 : goal.returns-in-1
+unfolding role_digit
+returns-in-1 c = limit_desk width _ (rw (and_mask (c.args.t / 2 ^ (2 * c.args.n)) 2) at c.in-1.is)
+
+pub returns-in-2 : goal.returns-in-2
+unfolding role_digit
+returns-in-2 c = limit_tracer width _ (rw (and_mask (c.args.t / 2 ^ (2 * c.args.n)) 2) at c.in-2.is)
+
+pub returns-in_default : goal.returns-in_default
+unfolding role_digit
+returns-in_default c =
+    let e = and_mask (c.args.t / 2 ^ (2 * c.args.n)) 2 in
+    limit_number width _ (rw e at c.in_default.in_default-own.rest.0.0.1) (rw e at c.in_default.in_default-own.rest.0.1) (rw e at c.in_default.in_default-own.rest.1)

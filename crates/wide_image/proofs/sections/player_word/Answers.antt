@@ -1,0 +1,10 @@
+use borrow.Author.Rules.{rules}
+use Rattle.wide_image.specs.Layout.{width}
+use Rattle.image_laws.proofs.Sections.{get_section}
+use Rattle.model.specs.Image.{players_at, image_of, image, split}
+use Rattle.model.specs.Base.{nth}
+use Rattle.wide_image.proofs.sections.player_word.Goals as goal
+
+pub returns : goal.returns
+unfolding nth image_of image split
+returns c = get_section width c.args.k _ players_at _ _ (search rules) (search rules)

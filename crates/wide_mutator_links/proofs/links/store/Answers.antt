@@ -1,0 +1,30 @@
+use borrow.Author.Rules.{rules}
+use Rattle.model.specs.Rows.{rows_open}
+use Rattle.request_laws.specs.Answer.{asked}
+use Rattle.mutator_laws.specs.Objects.{means_link}
+use Rattle.mutator_laws.proofs.Links.{store_done}
+use Rattle.mutator_laws.proofs.Objects.{object_nil, word_past, reg_object, object_below, link_below}
+use Rattle.mutator_laws.proofs.Passed.{store_passed}
+use mathlib.Core.Path.{refl}
+use native.Mathlib.Omega.{arith}
+use Rattle.wide_mutator_links.proofs.links.store.Goals as goal
+
+pub returns-then-g-eq0 : goal.returns-then-g-eq0
+unfolding asked rows_open
+returns-then-g-eq0 c = let p = c.requires in object_nil (store_passed _ _ _ p.p_value _ _ p.p_bound) (means_link c.reg-g.ensures refl refl) c.if-g-eq0.true
+
+pub links-requires : goal.links-requires
+links-requires c = record { sized = search rules; g_bound = object_below _ _ _ (reg_object _ _ _ c.requires.sound _ _ c.reg-g.ensures c.if-g-eq0.false) }
+
+pub returns-then-links-b : goal.returns-then-links-b
+unfolding asked rows_open
+returns-then-links-b c = let p = c.requires in word_past (store_passed _ _ _ p.p_value _ _ p.p_bound) (means_link c.reg-g.ensures c.links.ensures refl) c.if-g-eq0.false c.if-links-b.true
+
+pub overflow_add-b : goal.overflow_add-b
+overflow_add-b c = omega (arith, (link_below _ _ _ ((reg_object _ _ _ c.requires.sound _ _ c.reg-g.ensures c.if-g-eq0.false)) c.links.ensures c.if-links-b.false))
+
+pub set_word-requires : goal.set_word-requires
+set_word-requires c = record { sized = search rules; i_bound = (link_below _ _ _ ((reg_object _ _ _ c.requires.sound _ _ c.reg-g.ensures c.if-g-eq0.false)) c.links.ensures c.if-links-b.false) }
+
+pub returns : goal.returns
+returns c = search store_done

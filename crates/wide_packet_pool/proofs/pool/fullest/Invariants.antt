@@ -1,0 +1,13 @@
+use Rattle.collector_laws.specs.Pool.{choice}
+use Rattle.collector_laws.proofs.Pool.{unheld, greater}
+use Rattle.model.specs.Image.{count, image_of}
+use Rattle.wide_image.specs.Layout.{width}
+use Prim.Native.Nat.{◌-◌, ◌≤◌}
+use mathlib.Core.Path.{◌≡◌}
+use Rattle.wide_packet_pool.proofs.pool.fullest.Given as goal
+
+abbrev pub invariant-loop-p : goal.invariant-loop-p
+invariant-loop-p l = (l.p ≤ 32) × (l.c ≡ choice greater (count (image_of width l.k l.im)) (unheld (image_of width l.k l.im)) 0 l.p)
+
+abbrev pub decreases-loop-p : goal.decreases-loop-p
+decreases-loop-p l = 32 - l.p

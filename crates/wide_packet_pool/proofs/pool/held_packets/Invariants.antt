@@ -1,0 +1,12 @@
+use Rattle.model.specs.Image.{image_of}
+use Rattle.wide_image.specs.Layout.{width}
+use Rattle.collector_laws.specs.Pool.{held_set}
+use Prim.Native.Nat.{◌-◌, ◌≤◌}
+use mathlib.Core.Path.{◌≡◌}
+use Rattle.wide_packet_pool.proofs.pool.held_packets.Given as goal
+
+abbrev pub invariant-loop-t : goal.invariant-loop-t
+invariant-loop-t l = (l.t ≤ 8) × (l.s ≡ held_set (image_of width l.k l.im) l.t)
+
+abbrev pub decreases-loop-t : goal.decreases-loop-t
+decreases-loop-t l = 8 - l.t

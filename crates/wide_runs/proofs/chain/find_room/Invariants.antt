@@ -1,0 +1,11 @@
+use Rattle.model.specs.Image.{granules, image_of}
+use Rattle.wide_image.specs.Layout.{width}
+use Rattle.runs_laws.specs.Chain.{room_of}
+use Rattle.runs_laws.proofs.Chain.{Walk, chain_measure}
+use Rattle.wide_runs.proofs.chain.find_room.Given as goal
+
+abbrev pub invariant-loop-g : goal.invariant-loop-g
+invariant-loop-g l = Walk (image_of width l.k l.im) l.b (room_of l.best) l.least l.before l.g
+
+abbrev pub decreases-loop-g : goal.decreases-loop-g
+decreases-loop-g l = chain_measure (granules (image_of width l.k l.im)) l.g

@@ -1,0 +1,11 @@
+use Rattle.wide_image.specs.Layout.{width}
+use Rattle.runs_laws.proofs.Chain.{chain_measure}
+use Rattle.runs_laws.proofs.Granules.{CountingFree}
+use Rattle.model.specs.Image.{granules, image_of}
+use Rattle.wide_runs.proofs.granules.count.Given as goal
+
+abbrev pub invariant-loop-g : goal.invariant-loop-g
+invariant-loop-g l = CountingFree (image_of width l.k l.im) l.f l.g
+
+abbrev pub decreases-loop-g : goal.decreases-loop-g
+decreases-loop-g l = chain_measure (granules (image_of width l.k l.im)) l.g

@@ -1,0 +1,10 @@
+use Prim.Native.Nat.{◌*◌, ◌-◌}
+use Rattle.wide_image.specs.Layout.{width}
+use Rattle.soundness_laws.proofs.Heap.{HeapWalk}
+use Rattle.wide_soundness.proofs.heap.walk.Given as goal
+
+abbrev pub invariant-loop-g : goal.invariant-loop-g
+invariant-loop-g l = HeapWalk width l.k l.im l.g l.next l.end l.seen
+
+abbrev pub decreases-loop-g : goal.decreases-loop-g
+decreases-loop-g l = 64 * l.k - l.g

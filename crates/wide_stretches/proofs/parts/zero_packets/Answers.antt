@@ -1,0 +1,10 @@
+use borrow.Author.Rules.{rules}
+use Prim.Native.Nat.{◌+◌, ◌*◌}
+use Rattle.wide_image.specs.Layout.{width, per_card, packets_from, tracers_from}
+use Rattle.model.specs.Image.{packets_at, image_of, image, split}
+use Rattle.image_laws.proofs.Parts.{section_zero}
+use Rattle.wide_stretches.proofs.parts.zero_packets.Goals as goal
+
+pub returns : goal.returns
+unfolding image_of image split
+returns c = let A = c.args in section_zero width A.k A.im.now _ packets_at (per_card * A.k + packets_from) (per_card * A.k + tracers_from) (search rules) (search rules) c.zeros.ensures

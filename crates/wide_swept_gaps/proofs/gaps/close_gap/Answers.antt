@@ -1,0 +1,10 @@
+use Rattle.finish_laws.proofs.gaps.Code.{gap_some, gap_none}
+use borrow.Author.Rules.{rules}
+use native.Mathlib.Omega.{arith}
+use Rattle.wide_swept_gaps.proofs.gaps.close_gap.Goals as goal
+
+pub returns-then-a-e : goal.returns-then-a-e
+returns-then-a-e c = record { im_after = search gap_some; value = search rules }
+
+pub returns : goal.returns
+returns c = record { im_after = search gap_none; value = omega arith }
