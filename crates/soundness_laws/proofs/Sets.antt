@@ -98,6 +98,10 @@ module _ (w k : ℕ) (l : List ℕ) (z : Sized w k l) (a : ℕ) where
     pub target_asked : r ≡ is_start (image_of w k l) a → (eqb a 0 || r) ≡ nil_or_start (image_of w k l) a
     target_asked e = rw (nil-or-start, e)
 
+    pub marked_bit : Named w (image_of w k l).marks table → a / w < table_words w → r ≡ bit w table a → r ≡ (eqb a 0 || marked (image_of w k l) a)
+    unfolding marked image_of image
+    marked_bit t h e = e ∙ t.bits a h
+
     pub marked_asked : r ≡ marked (image_of w k l) a → (eqb a 0 || r) ≡ (eqb a 0 || marked (image_of w k l) a)
     marked_asked e = rw e
 
@@ -110,10 +114,10 @@ few_cards n k t h e q = elim (or_split (leb n 1024) (leb k 1024) (sym e ∙ q)) 
 pub table_bit : (w : ℕ) (table : List ℕ) (a b : ℕ) (t : Bool) → b ≡ min a 65535 → t ≡ bit w table b → (ltb a 65536 && t) ≡ (ltb a 65536 && bit w table (min a 65535))
 table_bit w table a b t eb et = rw (et, eb)
 
-pub marked_bit : (w k : ℕ) (l : List ℕ) → Sized w k l → (table : List ℕ) → Named w (image_of w k l).marks table → (a n : ℕ) → n ≡ most_cards w → (t : Bool) → t ≡ (leb n 1024 || leb k 1024) → t ≡ true
+pub marked_tabled : (w k : ℕ) (l : List ℕ) → Sized w k l → (table : List ℕ) → Named w (image_of w k l).marks table → (a n : ℕ) → n ≡ most_cards w → (t : Bool) → t ≡ (leb n 1024 || leb k 1024) → t ≡ true
     → (r : Bool) → r ≡ (ltb a 65536 && bit w table (min a 65535)) → r ≡ (eqb a 0 || marked (image_of w k l) a)
 unfolding marked image_of image
-marked_bit w k l z table s a n en t et is r er =
+marked_tabled w k l z table s a n en t et is r er =
     let few : k ≤ 1024 = few_cards n k t (rw en z.high) et is in
     er ∙ clamped (λ a. eqb a 0 || marked (image_of w k l) a) 65536 a (min a 65535) (bit w table (min a 65535))
     (λ h. rw (ne_eqb a 0 (λ e. omega arith)) (mark_past w k l z a (omega arith))) refl
