@@ -19,6 +19,7 @@ pub struct Tracer {
 // Each method is a sentence of reach, trace or clean, and hands back the next state. A packet is given by its number + 1.
 impl Tracer {
     // "that link is reached, and after the last the hand is empty": the object has n links.
+    #[tactic(auto, using(tracers_laws::proofs::Tracer::link_next, tracers_laws::proofs::Tracer::link_last))]
     pub fn link_done(mut self, n: Word) -> Self
         requires { self.link < n }
         ensures { tracer_of result ≡ link_done (tracer_of self) n }

@@ -28,7 +28,7 @@ pub loop-h-smaller : goal.loop-h-smaller
 loop-h-smaller c = let L = c.loop-h in let n = c.loop-h-test.true in turns_fall L.invariant n _ c.card-h.ensures _ c.set_card.ensures _ _ c.settle_card-later.ensures
 
 pub loop-h-preserved : goal.loop-h-preserved
-loop-h-preserved c = let L = c.loop-h in let n = c.loop-h-test.true in turns_more L.invariant n _ c.card-h.ensures _ c.set_card.ensures _ _ c.settle_card-later.ensures (search rules) c.if-h-eq1.false
+loop-h-preserved c = let L = c.loop-h in let n = c.loop-h-test.true in turns_more L.invariant n _ c.card-h.ensures _ c.set_card.ensures _ _ c.settle_card-later.ensures (search rules) (search rules)
 
 pub shape_of-im : goal.shape_of-im
 shape_of-im c = c.loop-h.invariant.same
