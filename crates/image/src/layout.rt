@@ -1,32 +1,76 @@
-// The word of this store, the most cards that it has, and where its sections begin: so many words a card, and so many behind those.
-pub type Word = u16;
+// Where the sections of an image begin among its words.
+ghost use Rattle.std.specs.Prelude.{◌≡◌, ◌≤◌};
+ghost use Rattle.model.specs.Image.{lengths, place, most_cards, starts_at, marks_at, cards_at, counts_at, regs_at, packets_at, tracers_at, players_at, general_at, image_length};
 
-pub const BITS: usize = 16;
+use crate::word::Word;
 
-pub const VALUES: usize = 65536;
+pub fn starts_at<W: Word>(k: usize) -> usize
+    requires { k ≤ most_cards W.BITS }
+    ensures { result ≡ place (lengths W.BITS k) starts_at }
+{
+    256 * k
+}
 
-pub const MOST_CARDS: usize = 512;
+pub fn marks_at<W: Word>(k: usize) -> usize
+    requires { k ≤ most_cards W.BITS }
+    ensures { result ≡ place (lengths W.BITS k) marks_at }
+{
+    (256 + W::CARD_BITS) * k
+}
 
-pub const STARTS: usize = 256;
+pub fn cards_at<W: Word>(k: usize) -> usize
+    requires { k ≤ most_cards W.BITS }
+    ensures { result ≡ place (lengths W.BITS k) cards_at }
+{
+    (256 + 2 * W::CARD_BITS) * k
+}
 
-pub const MARKS: usize = 260;
+pub fn counts_at<W: Word>(k: usize) -> usize
+    requires { k ≤ most_cards W.BITS }
+    ensures { result ≡ place (lengths W.BITS k) counts_at }
+{
+    (257 + 2 * W::CARD_BITS) * k
+}
 
-pub const CARDS: usize = 264;
+pub fn regs_at<W: Word>(k: usize) -> usize
+    requires { k ≤ most_cards W.BITS }
+    ensures { result ≡ place (lengths W.BITS k) regs_at }
+{
+    (258 + 2 * W::CARD_BITS) * k
+}
 
-pub const COUNTS: usize = 265;
+pub fn packets_at<W: Word>(k: usize) -> usize
+    requires { k ≤ most_cards W.BITS }
+    ensures { result ≡ place (lengths W.BITS k) packets_at }
+{
+    regs_at::<W>(k) + 256
+}
 
-pub const PER_CARD: usize = 266;
+pub fn tracers_at<W: Word>(k: usize) -> usize
+    requires { k ≤ most_cards W.BITS }
+    ensures { result ≡ place (lengths W.BITS k) tracers_at }
+{
+    regs_at::<W>(k) + 1280
+}
 
-pub const PACKETS: usize = 256;
+pub fn players_at<W: Word>(k: usize) -> usize
+    requires { k ≤ most_cards W.BITS }
+    ensures { result ≡ place (lengths W.BITS k) players_at }
+{
+    regs_at::<W>(k) + 1344
+}
 
-pub const TRACERS: usize = 1280;
+pub fn general_at<W: Word>(k: usize) -> usize
+    requires { k ≤ most_cards W.BITS }
+    ensures { result ≡ place (lengths W.BITS k) general_at }
+{
+    regs_at::<W>(k) + 1376
+}
 
-pub const PLAYERS: usize = 1344;
-
-pub const GENERAL: usize = 1376;
-
-pub const BEHIND: usize = 1384;
-
-pub const SHORTEST: usize = 1650;
-
-pub const RECORD: usize = 8;
+// The number of its words.
+pub fn image_length<W: Word>(k: usize) -> usize
+    requires { k ≤ most_cards W.BITS }
+    ensures { result ≡ image_length W.BITS k }
+{
+    regs_at::<W>(k) + 1384
+}

@@ -1,6 +1,7 @@
 // The leaves of an image: its words by section; the numbers of the width.
 #![tactic(auto)]
 
-pub mod layout; // layout.rt: the word, and where the sections begin
+pub mod layout; // layout.rt: where the sections begin
 pub mod result; // result.rt: the result of a call
 pub mod sections; // sections.rt: the words of each section, read and written
+pub mod word; // word.rt: the word of a store

@@ -2,14 +2,14 @@
 ghost use Rattle.std.specs.Prelude.{◌≡◌};
 ghost use Rattle.image_laws.specs.Result.{result_of};
 
-use image_laws::Verdict;
+use image_laws::Fault;
 
-pub fn result(v: Verdict) -> u16
-    ensures { result ≡ result_of v }
+pub fn result(r: Result<(), Fault>) -> u16
+    ensures { result ≡ result_of r }
 {
-    match v {
-        Verdict::Accepted => 0,
-        Verdict::Misfit => 1,
-        Verdict::Damaged => 2,
+    match r {
+        Ok(()) => 0,
+        Err(Fault::Misfit) => 1,
+        Err(Fault::Damaged) => 2,
     }
 }

@@ -1,8 +1,7 @@
 -- A fresh store, as the words are written.
 use mathlib.Core.Path.{◌≡◌, sym, ◌∙◌}
 use mathlib.Core.List.{List}
-use Rattle.image_laws.specs.declared.Extent.{Extent}
-use Rattle.image_laws.specs.declared.Extent.TheVariants.{Cards, Misfit}
+use Rattle.std.proofs.Common.{Option, Some, None}
 use Prim.Native.Nat.{ℕ, ◌*◌, ◌-◌}
 use Rattle.image_laws.specs.Fresh.{made_of}
 use Rattle.image_laws.specs.Size.{extent_of}
@@ -19,11 +18,11 @@ module _ (w k : ℕ) (ws zs us vs : List ℕ) where
   unfolding fresh_store
   fresh_written y l e f g = sym (words_image (record { low = y.low; high = y.high; long = l ∙ y.long })) ∙ rw (g, f, e, y.long)
 
-module _ (w : ℕ) (ws : List ℕ) (s : Extent) (e : s ≡ extent_of w (length ws)) where
-  pub fresh_misfit : s ≡ Misfit → made_of 1 ws ≡ fresh_at w ws
+module _ (w : ℕ) (ws : List ℕ) (s : Option ℕ) (e : s ≡ extent_of w (length ws)) where
+  pub fresh_misfit : s ≡ None → made_of 1 ws ≡ fresh_at w ws
   unfolding fresh_at made
   fresh_misfit q = rw (misfit_fits w ws s e q)
 
-  pub fresh_made : (k : ℕ) → s ≡ Cards k → (vs : List ℕ) → vs ≡ fresh_store w k → made_of 0 vs ≡ fresh_at w ws
+  pub fresh_made : (k : ℕ) → s ≡ Some k → (vs : List ℕ) → vs ≡ fresh_store w k → made_of 0 vs ≡ fresh_at w ws
   unfolding fresh_at made
   fresh_made k q vs f = rw (cards_fits w ws s e k q, sized_cards w k ws (cards_sized w ws s e k q), f)

@@ -13,8 +13,7 @@ use Rattle.model.specs.Image.{image_length, most_cards, cards_of, fits, image_of
 use Rattle.model.proofs.Laws.{bool_cases, every_use}
 use Rattle.model.proofs.Words.{width_cases, cards_length}
 use native.Mathlib.Nat.{div-eq_of_lt, le-div_iff_mul-le}
-use Rattle.image_laws.specs.declared.Extent.{Extent}
-use Rattle.image_laws.specs.declared.Extent.TheVariants.{Cards, Misfit}
+use Rattle.std.proofs.Common.{Option, Some, None}
 use Rattle.image_laws.specs.Size.{extent_by, extent_of}
 use Rattle.image_laws.specs.Sized.{Sized}
 
@@ -31,23 +30,23 @@ module _ (w u r most n : ℕ) (per : (k : ℕ) → image_length w k ≡ u * k + 
   some_cards : u + r ≤ n → 1 ≤ (n - r) / u
   some_cards h = (le-div_iff_mul-le pos).1 (omega arith)
 
-  pub cards_few : n < u + r → Misfit ≡ extent_of w n
+  pub cards_few : n < u + r → None ≡ extent_of w n
   unfolding extent_by every
   cards_few h =
       let z : (n - r) / u ≡ 0 = div-eq_of_lt (omega arith) in
       size_by false (rw (lt-leb 1 ((n - r) / u) (omega arith)))
 
-  pub cards_many : most < (n - r) / u → Misfit ≡ extent_of w n
+  pub cards_many : most < (n - r) / u → None ≡ extent_of w n
   unfolding extent_by every
   cards_many h = size_by false (rw (le-leb 1 ((n - r) / u) (omega arith), lt-leb ((n - r) / u) most h))
 
-  pub cards_odd : u + r ≤ n → (n - r) / u ≤ most → (u * ((n - r) / u) + r ≡ n → ⊥) → Misfit ≡ extent_of w n
+  pub cards_odd : u + r ≤ n → (n - r) / u ≤ most → (u * ((n - r) / u) + r ≡ n → ⊥) → None ≡ extent_of w n
   unfolding extent_by every
   cards_odd h l q =
       let k : ℕ = (n - r) / u in
       size_by false (rw (le-leb 1 k (some_cards h), le-leb k most l, ne_eqb n (u * k + r) (λ e. q (sym e))))
 
-  pub cards_fit : u + r ≤ n → (n - r) / u ≤ most → u * ((n - r) / u) + r ≡ n → Cards ((n - r) / u) ≡ extent_of w n
+  pub cards_fit : u + r ≤ n → (n - r) / u ≤ most → u * ((n - r) / u) + r ≡ n → Some ((n - r) / u) ≡ extent_of w n
   unfolding extent_by every
   cards_fit h l q =
       let k : ℕ = (n - r) / u in
@@ -66,12 +65,12 @@ pub sized_parts : (w k : ℕ) (ws : List ℕ) → Sized w k ws → parts w ws �
 unfolding parts
 sized_parts w k ws z = ap (λ j. image_of w j ws) (sized_cards w k ws z)
 
-module _ (w : ℕ) (ws : List ℕ) (s : Extent) (e : s ≡ extent_of w (length ws)) where
-  pub misfit_fits : s ≡ Misfit → fits w (length ws) ≡ false
+module _ (w : ℕ) (ws : List ℕ) (s : Option ℕ) (e : s ≡ extent_of w (length ws)) where
+  pub misfit_fits : s ≡ None → fits w (length ws) ≡ false
   unfolding extent_of extent_by
   misfit_fits q = elim (bool_cases (fits w (length ws))) [ inl h ↦ cc | inr h ↦ h ]
 
-  module _ (k : ℕ) (q : s ≡ Cards k) where
+  module _ (k : ℕ) (q : s ≡ Some k) where
     pub cards_fits : fits w (length ws) ≡ true
     unfolding extent_of extent_by
     cards_fits = elim (bool_cases (fits w (length ws))) [ inl h ↦ h | inr h ↦ cc ]

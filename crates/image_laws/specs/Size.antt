@@ -1,13 +1,11 @@
--- The size of a store by the number of its words: its cards, or a misfit.
-use Rattle.std.specs.Prelude.{Bool, true, false, ℕ}
+-- The size of a store by the number of its words: its cards, or none where no store has that length.
+use Rattle.std.specs.Prelude.{Bool, true, false, ℕ, Option, Some, None}
 use Rattle.model.specs.Image.{fits, cards_of}
-use Rattle.image_laws.specs.declared.Extent.{Extent}
-use Rattle.image_laws.specs.declared.Extent.TheVariants.{Cards, Misfit}
 
-unfoldable pub extent_by : Bool → ℕ → Extent
-extent_by true k = Cards k
-extent_by false k = Misfit
+unfoldable pub extent_by : Bool → ℕ → Option ℕ
+extent_by true k = Some k
+extent_by false k = None
 
 -- with words of w bits
-unfoldable pub extent_of : ℕ → ℕ → Extent
+unfoldable pub extent_of : ℕ → ℕ → Option ℕ
 extent_of w n = extent_by (fits w n) (cards_of w n)

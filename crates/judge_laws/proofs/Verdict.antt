@@ -11,8 +11,7 @@ use Rattle.model.specs.Image.{image_of, granules, running}
 use Rattle.model.specs.Undamaged.{idle_ok, sound, cover, undamaged, judge_at}
 use Rattle.model.proofs.Laws.{all_make, every_use, imp_use}
 use Rattle.image_laws.specs.Size.{extent_of}
-use Rattle.image_laws.specs.declared.Extent.{Extent}
-use Rattle.image_laws.specs.declared.Extent.TheVariants.{Cards, Misfit}
+use Rattle.std.proofs.Common.{Option, Some, None}
 use Rattle.judge_laws.specs.Order.{Coverable}
 use Rattle.image_laws.specs.Sized.{Sized}
 use Rattle.image_laws.proofs.Sections.{image_fits, granules_image}
@@ -58,12 +57,12 @@ module _ (w k : ℕ) (l : List ℕ) (z : Sized w k l) (s : Bool) (e : s ≡ soun
 
 -- ---- the ways out of `judge`
 
-module _ (w : ℕ) (l : List ℕ) (s : Extent) (e : s ≡ extent_of w (length l)) where
-  pub judged_misfit : s ≡ Misfit → 1 ≡ judge_at w l
+module _ (w : ℕ) (l : List ℕ) (s : Option ℕ) (e : s ≡ extent_of w (length l)) where
+  pub judged_misfit : s ≡ None → 1 ≡ judge_at w l
   unfolding judge_at first
   judged_misfit q = rw (misfit_fits w l s e q)
 
-  module _ (k : ℕ) (q : s ≡ Cards k) where
+  module _ (k : ℕ) (q : s ≡ Some k) where
     pub judged_sized : Sized w k l
     judged_sized = cards_sized w l s e k q
 

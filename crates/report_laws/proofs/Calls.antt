@@ -17,8 +17,7 @@ use Rattle.theory.proofs.lines.Judged.{undamaged_use}
 use Rattle.theory.proofs.lines.Sizes.{fits_sizes}
 use Rattle.image_laws.specs.Size.{extent_by, extent_of}
 use Rattle.image_laws.specs.Sized.{Sized}
-use Rattle.image_laws.specs.declared.Extent.{Extent}
-use Rattle.image_laws.specs.declared.Extent.TheVariants.{Cards, Misfit}
+use Rattle.std.proofs.Common.{Option, Some, None}
 use Rattle.image_laws.proofs.Lengths.{sized_as}
 use Rattle.image_laws.proofs.Sections.{image_fits}
 use Rattle.image_laws.proofs.Size.{fits_sized, sized_cards, sized_parts, misfit_fits, cards_fits, cards_sized}
@@ -30,30 +29,30 @@ scratch_eighth : (k : ℕ) → scratch_words k ≡ 8 * k
 unfolding scratch_words
 scratch_eighth k = omega arith
 
-module _ (w : ℕ) (fs ss bs sc : List ℕ) (s : Extent) (e : s ≡ extent_of w (length fs)) where
-  pub first_misfit : s ≡ Misfit → Misfit ≡ report_extent w fs ss bs sc
+module _ (w : ℕ) (fs ss bs sc : List ℕ) (s : Option ℕ) (e : s ≡ extent_of w (length fs)) where
+  pub first_misfit : s ≡ None → None ≡ report_extent w fs ss bs sc
   unfolding report_extent report_misfit some extent_by
   first_misfit q = rw (misfit_fits w fs s e q)
 
-  module _ (k : ℕ) (q : s ≡ Cards k) where
+  module _ (k : ℕ) (q : s ≡ Some k) where
     cards_k : cards_of w (length fs) ≡ k
     cards_k = sized_cards w k fs (cards_sized w fs s e k q)
 
-    pub second_misfit : (length ss ≡ length fs → ⊥) → Misfit ≡ report_extent w fs ss bs sc
+    pub second_misfit : (length ss ≡ length fs → ⊥) → None ≡ report_extent w fs ss bs sc
     unfolding report_extent report_misfit some extent_by
     second_misfit h = rw (cards_fits w fs s e k q, ne_eqb _ _ h)
 
     module _ (l : length ss ≡ length fs) where
-      pub bytes_misfit : (length bs % 4 ≡ 0 → ⊥) → Misfit ≡ report_extent w fs ss bs sc
+      pub bytes_misfit : (length bs % 4 ≡ 0 → ⊥) → None ≡ report_extent w fs ss bs sc
       unfolding report_extent report_misfit some extent_by
       bytes_misfit h = rw (cards_fits w fs s e k q, eq-eqb _ _ l, ne_eqb _ _ h)
 
       module _ (r : length bs % 4 ≡ 0) where
-        pub scratch_misfit : (length sc ≡ 8 * k → ⊥) → Misfit ≡ report_extent w fs ss bs sc
+        pub scratch_misfit : (length sc ≡ 8 * k → ⊥) → None ≡ report_extent w fs ss bs sc
         unfolding report_extent report_misfit some extent_by
         scratch_misfit h = rw (cards_fits w fs s e k q, eq-eqb _ _ l, eq-eqb _ _ r, cards_k, scratch_eighth k, ne_eqb _ _ h)
 
-        pub lengths_fit : length sc ≡ 8 * k → Cards k ≡ report_extent w fs ss bs sc
+        pub lengths_fit : length sc ≡ 8 * k → Some k ≡ report_extent w fs ss bs sc
         unfolding report_extent report_misfit some extent_by
         lengths_fit h = rw (cards_fits w fs s e k q, eq-eqb _ _ l, eq-eqb _ _ r, cards_k, scratch_eighth k, eq-eqb _ _ h)
 
@@ -75,16 +74,16 @@ module _ (w k : ℕ) (fs ss : List ℕ) (zf : Sized w k fs) (zs : Sized w k ss) 
 
 -- ---- the call
 
-module _ (w : ℕ) (fs ss bs sc : List ℕ) (s : Extent) (e : s ≡ report_extent w fs ss bs sc) where
-  misfits : s ≡ Misfit → report_misfit w fs ss bs sc ≡ true
+module _ (w : ℕ) (fs ss bs sc : List ℕ) (s : Option ℕ) (e : s ≡ report_extent w fs ss bs sc) where
+  misfits : s ≡ None → report_misfit w fs ss bs sc ≡ true
   unfolding report_extent extent_by
   misfits q = elim (bool_cases (report_misfit w fs ss bs sc)) [ inl h ↦ h | inr h ↦ cc ]
 
-  pub call_misfit : s ≡ Misfit → reported_of 1 sc ≡ report_at w fs ss bs sc
+  pub call_misfit : s ≡ None → reported_of 1 sc ≡ report_at w fs ss bs sc
   unfolding report_at report_number first report_with
   call_misfit q = rw (misfits q)
 
-  module _ (k : ℕ) (q : s ≡ Cards k) where
+  module _ (k : ℕ) (q : s ≡ Some k) where
     fit : report_misfit w fs ss bs sc ≡ false
     unfolding report_extent extent_by
     fit = elim (bool_cases (report_misfit w fs ss bs sc)) [ inl h ↦ cc | inr h ↦ h ]

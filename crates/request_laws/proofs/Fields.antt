@@ -15,12 +15,13 @@ use Rattle.model.proofs.Laws.{false≢, bool_cases, and_split}
 use Rattle.model.proofs.Rows.{kind_known, kind_unknown}
 use Rattle.theory.specs.Fields.{field_at, role_at, bound, bound_at, beyond_limit, no_card}
 use Rattle.theory.proofs.steps.Fields.{four, unnamed_by, off_by, field_below}
-use Rattle.request_laws.specs.Answer.{done}
+use Rattle.request_laws.specs.Answer.{done, refusal_number}
 use Rattle.request_laws.specs.Passed.{Passed}
 use Rattle.request_laws.specs.Request.{requested, InRange, admission_by, admission_of, asks_debt}
 use Rattle.request_laws.specs.declared.Request.{Request}
-use Rattle.request_laws.specs.declared.Admission.{Admission}
-use Rattle.request_laws.specs.declared.Admission.TheVariants.{Unknown, OffDesk, Owing, Admitted}
+use Rattle.std.proofs.Common.{Result, Ok, Err}
+use Rattle.request_laws.specs.declared.Refusal.{Refusal}
+use Rattle.request_laws.specs.declared.Refusal.TheVariants.{Unknown, OffDesk, Owing, NoObject, PastEnd, BadSize, NoRoom, WrongPhase, NothingToDo}
 use Rattle.request_laws.proofs.Numbers.{number_3, number_4, number_5}
 
 some_four : (a b c d : Bool) → (((a || b) || c) || d) ≡ some (a ∷ b ∷ c ∷ d ∷ [])
@@ -88,43 +89,49 @@ module _ (m : Image) (r : Request) {t u v x : Bool} where
 -- ---- what they say together
 
 module _ (m : Image) (r : Request) where
-  unknown_kinds : kind_of r.kind ≡ unknown → Unknown ≡ admission_of m (requested r)
+  unknown_kinds : kind_of r.kind ≡ unknown → Err Unknown ≡ admission_of m (requested r)
   unfolding admission_of admission_by requested unnamed
   unknown_kinds e = rw e
 
-  pub admit_none : r.kind ≡ 0 → Unknown ≡ admission_of m (requested r)
+  pub admit_none : r.kind ≡ 0 → Err Unknown ≡ admission_of m (requested r)
   unfolding kind_of
   admit_none e = unknown_kinds (ap kind_of e)
 
-  pub admit_many : 16 ≤ r.kind → Unknown ≡ admission_of m (requested r)
+  pub admit_many : 16 ≤ r.kind → Err Unknown ≡ admission_of m (requested r)
   admit_many h = unknown_kinds (kind_unknown r.kind h)
 
   module _ {t : Bool} (f : t ≡ unnamed (requested r) (kind_of r.kind)) where
-    pub admit_stray : t ≡ true → Unknown ≡ admission_of m (requested r)
+    pub admit_stray : t ≡ true → Err Unknown ≡ admission_of m (requested r)
     unfolding admission_of admission_by requested
     admit_stray e = rw (← f, e)
 
     module _ {u : Bool} (e : t ≡ false) (g : u ≡ off_desk (requested r) m.k (kind_of r.kind)) where
-      pub admit_beyond : u ≡ true → OffDesk ≡ admission_of m (requested r)
+      pub admit_beyond : u ≡ true → Err OffDesk ≡ admission_of m (requested r)
       unfolding admission_of admission_by requested
       admit_beyond h = rw (← f, e, ← g, h)
 
       module _ {v : Bool} (h : u ≡ false) (o : v ≡ owing m (requested r) (kind_of r.kind)) where
-        pub admit_owing : v ≡ true → Owing ≡ admission_of m (requested r)
+        pub admit_owing : v ≡ true → Err Owing ≡ admission_of m (requested r)
         unfolding admission_of admission_by requested
         admit_owing i = rw (← f, e, ← g, h, ← o, i)
 
-        pub admit_passed : v ≡ false → Admitted ≡ admission_of m (requested r)
+        pub admit_passed : v ≡ false → Ok tt ≡ admission_of m (requested r)
         unfolding admission_of admission_by requested
         admit_passed i = rw (← f, e, ← g, h, ← o, i)
 
 -- ---- and what each says of the step
 
-abbrev Says : Admission → Bool → Bool → Bool → Type 0
-Says Unknown a b c = a ≡ true
-Says OffDesk a b c = (a ≡ false) × (b ≡ true)
-Says Owing a b c = (a ≡ false) × (b ≡ false) × (c ≡ true)
-Says Admitted a b c = (a ≡ false) × (b ≡ false) × (c ≡ false)
+abbrev Says : Result (Unit {0}) Refusal → Bool → Bool → Bool → Type 0
+Says (Err Unknown) a b c = a ≡ true
+Says (Err OffDesk) a b c = (a ≡ false) × (b ≡ true)
+Says (Err Owing) a b c = (a ≡ false) × (b ≡ false) × (c ≡ true)
+Says (Err NoObject) a b c = ⊥
+Says (Err PastEnd) a b c = ⊥
+Says (Err BadSize) a b c = ⊥
+Says (Err NoRoom) a b c = ⊥
+Says (Err WrongPhase) a b c = ⊥
+Says (Err NothingToDo) a b c = ⊥
+Says (Ok u) a b c = (a ≡ false) × (b ≡ false) × (c ≡ false)
 
 says : (a b c : Bool) → Says (admission_by a b c) a b c
 unfolding admission_by
@@ -133,19 +140,21 @@ says false true c = (refl, refl)
 says false false true = (refl, refl, refl)
 says false false false = (refl, refl, refl)
 
-module _ (m : Image) (s : Step) {x : Admission} (f : x ≡ admission_of m s) where
-  said : {y : Admission} → x ≡ y → Says y (unnamed s (kind_of s.kind)) (off_desk s m.k (kind_of s.kind)) (owing m s (kind_of s.kind))
+module _ (m : Image) (s : Step) {x : Result (Unit {0}) Refusal} (f : x ≡ admission_of m s) where
+  said : {y : Result (Unit {0}) Refusal} → x ≡ y → Says y (unnamed s (kind_of s.kind)) (off_desk s m.k (kind_of s.kind)) (owing m s (kind_of s.kind))
   unfolding admission_of
   said e = let n : Kind = kind_of s.kind in rw (sym f ∙ e) at (says (unnamed s n) (off_desk s m.k n) (owing m s n))
 
-  pub refused_unknown : x ≡ Unknown → done 3 0 m ≡ step tightest m s
-  refused_unknown e = number_3 m s (kind_of s.kind) refl (said e)
+  pub refused : (r : Refusal) → x ≡ Err r → done (refusal_number r) 0 m ≡ step tightest m s
+  refused Unknown e = number_3 m s (kind_of s.kind) refl (said e)
+  refused OffDesk e = let q = said e in number_4 m s (kind_of s.kind) refl q.0 q.1
+  refused Owing e = let q = said e in number_5 m s (kind_of s.kind) refl q.0 q.1 q.2
+  refused NoObject e = absurd (said e)
+  refused PastEnd e = absurd (said e)
+  refused BadSize e = absurd (said e)
+  refused NoRoom e = absurd (said e)
+  refused WrongPhase e = absurd (said e)
+  refused NothingToDo e = absurd (said e)
 
-  pub refused_off : x ≡ OffDesk → done 4 0 m ≡ step tightest m s
-  refused_off e = let q = said e in number_4 m s (kind_of s.kind) refl q.0 q.1
-
-  pub refused_owing : x ≡ Owing → done 5 0 m ≡ step tightest m s
-  refused_owing e = let q = said e in number_5 m s (kind_of s.kind) refl q.0 q.1 q.2
-
-  pub admitted_passes : x ≡ Admitted → Passed m s (kind_of s.kind)
-  admitted_passes e = let q = said e in record { is_kind = refl; named = q.0; on_desk = q.1; none_owed = q.2 }
+  pub admitted_passes : (u : Unit {0}) → x ≡ Ok u → Passed m s (kind_of s.kind)
+  admitted_passes u e = let q = said e in record { is_kind = refl; named = q.0; on_desk = q.1; none_owed = q.2 }

@@ -1,5 +1,5 @@
 -- A request as the model's record, the range of its fields, and what numbers 3 to 5 say of a record.
-use Rattle.std.specs.Prelude.{Bool, true, false, ◌&&◌, ℕ, zero, suc, ◌*◌, ◌/◌, ◌%◌, ◌^◌, ◌<◌}
+use Rattle.std.specs.Prelude.{Bool, true, false, ◌&&◌, Result, Ok, Err, ℕ, zero, suc, ◌*◌, ◌/◌, ◌%◌, ◌^◌, ◌<◌}
 use Rattle.model.specs.Base.{all, test_bit}
 use Rattle.model.specs.Image.{Image}
 use Rattle.model.specs.Records.{Step, Kind, kind_of}
@@ -7,8 +7,8 @@ use Rattle.model.specs.Rows.{row_of, is_player}
 use Rattle.model.specs.Steps.{unnamed, off_desk, owing}
 use Rattle.theory.specs.Fields.{role_at, bound_at}
 use Rattle.request_laws.specs.declared.Request.{Request}
-use Rattle.request_laws.specs.declared.Admission.{Admission}
-use Rattle.request_laws.specs.declared.Admission.TheVariants.{Unknown, OffDesk, Owing, Admitted}
+use Rattle.request_laws.specs.declared.Refusal.{Refusal}
+use Rattle.request_laws.specs.declared.Refusal.TheVariants.{Unknown, OffDesk, Owing}
 
 unfoldable pub requested : Request → Step
 requested r = record { kind = r.kind; who = r.who; zeros = r.zeros; a = r.a; b = r.b; c = r.c }
@@ -21,13 +21,13 @@ pub record InRange (w : ℕ) (r : Request) : Type 0 where
   pub c_small : r.c < 2 ^ w
 
 -- by the tests of numbers 3, 4 and 5, in this order
-unfoldable pub admission_by : Bool → Bool → Bool → Admission
-admission_by true off owes = Unknown
-admission_by false true owes = OffDesk
-admission_by false false true = Owing
-admission_by false false false = Admitted
+unfoldable pub admission_by : Bool → Bool → Bool → Result (Unit {0}) Refusal
+admission_by true off owes = Err Unknown
+admission_by false true owes = Err OffDesk
+admission_by false false true = Err Owing
+admission_by false false false = Ok tt
 
-unfoldable pub admission_of : Image → Step → Admission
+unfoldable pub admission_of : Image → Step → Result (Unit {0}) Refusal
 admission_of m s =
     let n : Kind = kind_of s.kind in
     admission_by (unnamed s n) (off_desk s m.k n) (owing m s n)

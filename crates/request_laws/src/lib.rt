@@ -12,11 +12,16 @@ pub struct Request {
     pub c: usize,
 }
 
-// What numbers 3 to 5 say of a request.
-#[derive(Clone, Copy)]
-pub enum Admission {
+// The refusals of a step, numbers 3 to 11.
+#[derive(Clone, Copy, Debug, PartialEq, Eq)]
+pub enum Refusal {
     Unknown,
     OffDesk,
     Owing,
-    Admitted,
+    NoObject,
+    PastEnd,
+    BadSize,
+    NoRoom,
+    WrongPhase,
+    NothingToDo,
 }

@@ -10,17 +10,16 @@ use Rattle.model.specs.Image.{cards_of, image_of}
 use Rattle.model.specs.Undamaged.{undamaged}
 use Rattle.model.specs.Map.{map_lines, map_misfit, map_number, map_with, map_at}
 use Rattle.image_laws.specs.Size.{extent_of}
-use Rattle.image_laws.specs.declared.Extent.{Extent}
-use Rattle.image_laws.specs.declared.Extent.TheVariants.{Cards, Misfit}
+use Rattle.std.proofs.Common.{Option, Some, None}
 use Rattle.image_laws.proofs.Size.{sized_cards, misfit_fits, cards_fits, cards_sized, cards_parts}
 use Rattle.service_map_laws.specs.Mapped.{mapped_of}
 
-module _ (w : ℕ) (ws output : List ℕ) (s : Extent) (e : s ≡ extent_of w (length ws)) where
-  pub map-misfit : s ≡ Misfit → mapped_of 1 output ≡ map_at w ws output
+module _ (w : ℕ) (ws output : List ℕ) (s : Option ℕ) (e : s ≡ extent_of w (length ws)) where
+  pub map-misfit : s ≡ None → mapped_of 1 output ≡ map_at w ws output
   unfolding map_at map_number map_misfit some first map_with
   map-misfit q = rw (misfit_fits w ws s e q)
 
-  module _ (k : ℕ) (q : s ≡ Cards k) where
+  module _ (k : ℕ) (q : s ≡ Some k) where
     cards_k : cards_of w (length ws) ≡ k
     cards_k = sized_cards w k ws (cards_sized w ws s e k q)
 

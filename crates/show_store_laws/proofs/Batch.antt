@@ -15,18 +15,17 @@ use Rattle.model.specs.Batch.{misfit, call_number, events, batch_with, batch_at}
 use Rattle.theory.specs.Lines.{Undamaged}
 use Rattle.theory.proofs.lines.Passing.{parts_pass}
 use Rattle.image_laws.specs.Size.{extent_of}
-use Rattle.image_laws.specs.declared.Extent.{Extent}
-use Rattle.image_laws.specs.declared.Extent.TheVariants.{Cards, Misfit}
+use Rattle.std.proofs.Common.{Option, Some, None}
 use Rattle.image_laws.proofs.Sections.{words_image}
 use Rattle.image_laws.proofs.Size.{misfit_fits, cards_fits, cards_sized, cards_parts}
 use Rattle.show_store_laws.specs.Run.{batched}
 
-module _ (w : ℕ) (ws bytes answers : List ℕ) (s : Extent) (e : s ≡ extent_of w (length ws)) where
-  pub batch_misfit : s ≡ Misfit → batched 1 ws answers ≡ batch_at tightest w ws bytes answers
+module _ (w : ℕ) (ws bytes answers : List ℕ) (s : Option ℕ) (e : s ≡ extent_of w (length ws)) where
+  pub batch_misfit : s ≡ None → batched 1 ws answers ≡ batch_at tightest w ws bytes answers
   unfolding batch_at call_number misfit some first batch_with
   batch_misfit q = rw (misfit_fits w ws s e q)
 
-  module _ (k : ℕ) (q : s ≡ Cards k) where
+  module _ (k : ℕ) (q : s ≡ Some k) where
     pub batch_part : (length bytes % record_bytes w ≡ 0 → ⊥) → batched 1 ws answers ≡ batch_at tightest w ws bytes answers
     unfolding batch_at call_number misfit some first batch_with
     batch_part h = rw (cards_fits w ws s e k q, ne_eqb)
@@ -51,6 +50,6 @@ module _ (w : ℕ) (ws bytes answers : List ℕ) (s : Extent) (e : s ≡ extent_
             rw (cards_fits w ws s e k q, eq-eqb, eq-eqb, cards_parts w ws s e k q, ← eu, d, cards_parts w ws s e k q, left, a)
 
 -- what the loop asks for
-pub judged_undamaged : (w : ℕ) (ws : List ℕ) (s : Extent) (k : ℕ) (u : Bool) → s ≡ extent_of w (length ws) → s ≡ Cards k → u ≡ undamaged (image_of w k ws) → u ≡ true → Undamaged (image_of w k ws)
+pub judged_undamaged : (w : ℕ) (ws : List ℕ) (s : Option ℕ) (k : ℕ) (u : Bool) → s ≡ extent_of w (length ws) → s ≡ Some k → u ≡ undamaged (image_of w k ws) → u ≡ true → Undamaged (image_of w k ws)
 judged_undamaged w ws s k u e q eu d =
     rw (← cards_parts w ws s e k q) (parts_pass w ws (cards_fits w ws s e k q) (ap undamaged (cards_parts w ws s e k q) ∙ (sym eu ∙ d))).is_undamaged

@@ -5,4 +5,4 @@ use Rattle.bits_and_cards.proofs.bits.has_bit.Goals as goal
 
 pub returns : goal.returns
 unfolding test_bit
-returns c = rw (and_mask (c.args.w / 2 ^ c.args.j) 1)
+returns g c = rw (← c.value.ensures.value) (rw (and_mask (c.value.result / 2 ^ c.args.j) 1))

@@ -1,6 +1,10 @@
-use Rattle.image.specs.Layout.{width}
+use Rattle.std.proofs.Common.{◌∙◌, arith}
+use borrow.Author.Rules.{rules}
+use Rattle.image_laws.proofs.Places.{few_bits}
 use Rattle.image_laws.proofs.Masks.{one_shl, and_not_pow}
 use Rattle.bits_and_cards.proofs.bits.without_bit.Goals as goal
 
 pub returns : goal.returns
-returns c = rw (one_shl width c.args.j c.requires) (and_not_pow width c.args.w c.args.j c.ranges.w.fits c.requires)
+returns g c =
+    let few = few_bits g.met.W.Word.laws.one_of_two c.requires in
+    c.of.ensures ∙ rw (one_shl 64 c.args.j few, ← c.value.ensures.value) (and_not_pow 64 c.value.result c.args.j (search rules) few)

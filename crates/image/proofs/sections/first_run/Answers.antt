@@ -4,4 +4,4 @@ use Rattle.image.proofs.sections.first_run.Goals as goal
 
 pub returns : goal.returns
 unfolding first_run
-returns c = search rules
+returns g c = search rules

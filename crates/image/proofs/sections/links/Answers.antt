@@ -4,4 +4,4 @@ use Rattle.image.proofs.sections.links.Goals as goal
 
 pub returns : goal.returns
 unfolding links
-returns c = search rules
+returns g c = search rules

@@ -4,4 +4,4 @@ use Rattle.image.proofs.sections.owed.Goals as goal
 
 pub returns : goal.returns
 unfolding owed
-returns c = search rules
+returns g c = search rules

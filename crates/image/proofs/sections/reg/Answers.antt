@@ -4,4 +4,4 @@ use Rattle.image.proofs.sections.reg.Goals as goal
 
 pub returns : goal.returns
 unfolding reg
-returns c = search rules
+returns g c = search rules

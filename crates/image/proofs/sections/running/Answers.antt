@@ -4,4 +4,4 @@ use Rattle.image.proofs.sections.running.Goals as goal
 
 pub returns : goal.returns
 unfolding running
-returns c = search rules
+returns g c = search rules

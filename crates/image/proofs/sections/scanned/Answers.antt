@@ -4,4 +4,4 @@ use Rattle.image.proofs.sections.scanned.Goals as goal
 
 pub returns : goal.returns
 unfolding scanned
-returns c = search rules
+returns g c = search rules

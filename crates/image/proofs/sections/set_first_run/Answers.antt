@@ -4,4 +4,4 @@ use Rattle.image.proofs.sections.set_first_run.Goals as goal
 
 pub returns : goal.returns
 unfolding set_first_run
-returns c = search rules
+returns g c = search rules

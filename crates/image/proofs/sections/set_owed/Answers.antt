@@ -4,4 +4,4 @@ use Rattle.image.proofs.sections.set_owed.Goals as goal
 
 pub returns : goal.returns
 unfolding set_owed
-returns c = search rules
+returns g c = search rules

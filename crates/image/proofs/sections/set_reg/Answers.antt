@@ -4,4 +4,4 @@ use Rattle.image.proofs.sections.set_reg.Goals as goal
 
 pub returns : goal.returns
 unfolding set_reg
-returns c = search rules
+returns g c = search rules

@@ -4,4 +4,4 @@ use Rattle.image.proofs.sections.set_scanned.Goals as goal
 
 pub returns : goal.returns
 unfolding set_scanned
-returns c = search rules
+returns g c = search rules

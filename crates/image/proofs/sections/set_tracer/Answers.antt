@@ -4,4 +4,4 @@ use Rattle.image.proofs.sections.set_tracer.Goals as goal
 
 pub returns : goal.returns
 unfolding set_tracer
-returns c = search rules
+returns g c = search rules

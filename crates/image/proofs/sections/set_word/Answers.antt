@@ -4,4 +4,4 @@ use Rattle.image.proofs.sections.set_word.Goals as goal
 
 pub returns : goal.returns
 unfolding set_word
-returns c = search rules
+returns g c = search rules

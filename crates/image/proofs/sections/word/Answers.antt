@@ -4,4 +4,4 @@ use Rattle.image.proofs.sections.word.Goals as goal
 
 pub returns : goal.returns
 unfolding word
-returns c = search rules
+returns g c = search rules
