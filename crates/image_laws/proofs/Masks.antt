@@ -52,6 +52,10 @@ or_pow x j =
       | inr e ↦ rw e (omega (arith, rw (unset x j e) at (and_pow x j)))
     ]
 
+-- a number with bit j set by a mask that is shifted among 64 bits
+pub or_shifted : {r v x j : ℕ} → v ≡ x → r ≡ bit_or v (1 * 2 ^ j % 2 ^ 64) → j < 64 → r ≡ with_bit x j
+or_shifted {v = v} {j = j} e f h = f ∙ rw (one_shl 64 j h, ← e) (or_pow v j)
+
 pub and_not_pow : (w x j : ℕ) → x < 2 ^ w → j < w → bit_and x (2 ^ w - 1 - 2 ^ j) ≡ without_bit x j
 unfolding without_bit
 and_not_pow w x j hx hj =
