@@ -6,52 +6,14 @@ ghost use Rattle.std.specs.Prelude.{◌+◌, ◌*◌, ◌≤◌, ◌<◌, IfOk, 
 use std::io;
 use std::io::Read;
 
-// A number and the character behind it.
-fn print_number(rt: &impl Print, n: u64, behind: char) -> io::Result<()> {
-    print!(rt; "{n}{behind}")
-}
-
-fn of_byte(x: u8) -> u64 {
-    x as u64
-}
-
-fn of_word(x: u16) -> u64 {
-    x as u64
-}
-
-// The line of step i: place from 1, kind, number, value.
-fn print_line(rt: &impl Print, steps: &[u8], answers: &[u16], i: usize) -> io::Result<()>
-    requires { (8 * i < length steps.now) × (2 * i + 1 < length answers.now) × (i < 1024) }
-{
-    print_number(rt, (i + 1) as u64, ' ')?;
-    print_number(rt, of_byte(steps[8 * i]), ' ')?;
-    print_number(rt, of_word(answers[2 * i]), ' ')?;
-    print_number(rt, of_word(answers[2 * i + 1]), '\n')
-}
-
-fn print_lines(rt: &impl Print, steps: &[u8], answers: &[u16], n: usize) -> io::Result<()>
-    requires { (8 * n ≤ length steps.now) × (2 * n ≤ length answers.now) × (n ≤ 1024) }
-{
-    for i in 0..n {
-        print_line(rt, steps, answers, i)?;
+// A line a step: its place from 1, kind, number, value.
+fn print_lines(rt: &impl Print, steps: &[u8], answers: &[u16]) -> io::Result<()> {
+    let (steps, _) = steps.as_chunks::<8>();
+    let (answers, _) = answers.as_chunks::<2>();
+    for (i, (step, answer)) in steps.iter().zip(answers).enumerate() {
+        println!(rt; "{} {} {} {}", i + 1, step[0], answer[0], answer[1])?;
     }
     Ok(())
-}
-
-// Runs n records on a fresh store of 16 cards.
-fn run(steps: &[u8], answers: &mut [u16]) {
-    let mut image = [0u16; 5640];
-    show_store::fresh(&mut image);
-    show_store::batch(&mut image, steps, answers);
-}
-
-// Runs n records and prints their lines; the answers go into the lent space.
-fn report(rt: &impl Print, steps: &[u8], space: &mut [u16], n: usize) -> io::Result<()>
-    requires { (8 * n ≤ length steps.now) × (2 * n ≤ length space.old) × (n ≤ 1024) }
-{
-    let words = 2 * n;
-    run(steps, &mut space[..words]);
-    print_lines(rt, steps, space, n)
 }
 
 // Reads until buf is full or the input ends, and returns how many bytes it put at the start of buf.
@@ -79,6 +41,11 @@ fn main(rt: HostRuntime) -> io::Result<()> {
     if read % 8 != 0 {
         return println!(rt; "misfit");
     }
+    let steps = &input[..read];
     let mut space = [0u16; 2048];
-    report(&rt, &input[..read], &mut space, read / 8)
+    let answers = &mut space[..read / 4];
+    let mut image = [0u16; 5640];
+    show_store::fresh(&mut image);
+    show_store::batch(&mut image, steps, answers);
+    print_lines(&rt, steps, answers)
 }
