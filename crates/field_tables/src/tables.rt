@@ -5,10 +5,9 @@ ghost use Rattle.model.specs.Image.{image_of, owed};
 ghost use Rattle.model.specs.Records.{kind_of};
 ghost use Rattle.theory.specs.Fields.{bound_at, no_card};
 ghost use Rattle.image_laws.specs.Sized.{Sized};
-ghost use Rattle.image.specs.Layout.{width};
 ghost use Rattle.request_laws.specs.Request.{requested, asks_debt, role_digit, role_limit};
 
-use image::layout::{VALUES, Word};
+use image::word::Word;
 use request_laws::Request;
 
 // The roles of each field, two bits a kind, with kind 0 lowest: 0 not named, 1 a player or a register, 2 a tracer, 3 any number, a card too. The
@@ -27,29 +26,29 @@ const WHO_OWES_NONE: u64 = 0b0000000111101110;
 const B_OWES_NONE: u64 = 0b0000000000100000;
 
 // What a field of kind n stays below, by the roles t.
-fn limit_by(t: u64, n: usize) -> usize
+fn limit_by<W: Word>(t: u64, n: usize) -> usize
     requires { n < 16 }
-    ensures { result ≡ role_limit width (role_digit t n) }
+    ensures { result ≡ role_limit W.BITS (role_digit t n) }
 {
     let role = (t >> (2 * n as u64)) & 3;
     match role {
         0 => 0,
         1 => 16,
         2 => 8,
-        _ => VALUES,
+        _ => W::VALUES,
     }
 }
 
 // Field i (who, a, b, c) of kind n.
-pub fn limit(n: usize, i: usize) -> usize
+pub fn limit<W: Word>(n: usize, i: usize) -> usize
     requires { (n < 16) × (i < 4) }
-    ensures { result ≡ bound_at width (kind_of n) i }
+    ensures { result ≡ bound_at W.BITS (kind_of n) i }
 {
     match i {
-        0 => limit_by(WHO, n),
-        1 => limit_by(A, n),
-        2 => limit_by(B, n),
-        _ => limit_by(C, n),
+        0 => limit_by::<W>(WHO, n),
+        1 => limit_by::<W>(A, n),
+        2 => limit_by::<W>(B, n),
+        _ => limit_by::<W>(C, n),
     }
 }
 
@@ -94,14 +93,14 @@ pub fn no_card(k: usize, r: Request) -> bool
 }
 
 // Field i of a request of kind n, which is x, is a player who owes and must not.
-pub fn owes(im: &[Word], k: usize, n: usize, i: usize, x: usize) -> bool
-    requires sized { Sized width k im.now }
+pub fn owes<W: Word>(im: &[W], k: usize, n: usize, i: usize, x: usize) -> bool
+    requires sized { Sized W.BITS k (W.words im.now) }
     requires n_bound { (n < 16) × (i < 4) }
     requires x_bound { asks_debt (kind_of n) i ≡ true → x < 16 }
-    ensures { result ≡ (asks_debt (kind_of n) i && not (eqb (owed (image_of width k im.now) x) 0)) }
+    ensures { result ≡ (asks_debt (kind_of n) i && not (eqb (owed (image_of W.BITS k (W.words im.now)) x) 0)) }
 {
     if asks_debt(n, i) {
-        return image::sections::owed(im, k, x) != 0;
+        return image::sections::owed(im, k, x).value() != 0;
     }
     false
 }

@@ -1,55 +1,43 @@
-// The answer of one step: accepted with a value, or the number that refuses it.
-ghost use Rattle.std.specs.Prelude.{◌≡◌};
-ghost use Rattle.request.specs.Answer.{number_of, value_of};
+// The answer of one step: accepted with a value, or refused.
+ghost use Rattle.std.specs.Prelude.{◌≡◌, ◌<◌};
+ghost use Rattle.request_laws.specs.Answer.{number_of, value_of, refusal_number};
 
-use image::layout::Word;
+use image::word::Word;
+use request_laws::Refusal;
 
-#[derive(Clone, Copy)]
-pub enum Answer {
-    Done(Word),
-    Unknown,
-    OffDesk,
-    Owing,
-    NoObject,
-    PastEnd,
-    BadSize,
-    NoRoom,
-    WrongPhase,
-    NothingToDo,
+fn refusal_number(r: Refusal) -> usize
+    ensures number { result ≡ refusal_number r }
+    ensures small { result < 16 }
+{
+    match r {
+        Refusal::Unknown => 3,
+        Refusal::OffDesk => 4,
+        Refusal::Owing => 5,
+        Refusal::NoObject => 6,
+        Refusal::PastEnd => 7,
+        Refusal::BadSize => 8,
+        Refusal::NoRoom => 9,
+        Refusal::WrongPhase => 10,
+        Refusal::NothingToDo => 11,
+    }
 }
 
-impl Answer {
-    pub fn number(self) -> Word
-        ensures { result ≡ number_of self }
-    {
-        match self {
-            Answer::Done(_) => 0,
-            Answer::Unknown => 3,
-            Answer::OffDesk => 4,
-            Answer::Owing => 5,
-            Answer::NoObject => 6,
-            Answer::PastEnd => 7,
-            Answer::BadSize => 8,
-            Answer::NoRoom => 9,
-            Answer::WrongPhase => 10,
-            Answer::NothingToDo => 11,
-        }
+// "number (0 if accepted)"
+pub fn number<W: Word>(r: Result<W, Refusal>) -> W
+    ensures { W.value result ≡ number_of r }
+{
+    match r {
+        Ok(_) => W::of(0),
+        Err(refusal) => W::of(refusal_number(refusal)),
     }
+}
 
-    pub fn value(self) -> Word
-        ensures { result ≡ value_of self }
-    {
-        match self {
-            Answer::Done(v) => v,
-            Answer::Unknown => 0,
-            Answer::OffDesk => 0,
-            Answer::Owing => 0,
-            Answer::NoObject => 0,
-            Answer::PastEnd => 0,
-            Answer::BadSize => 0,
-            Answer::NoRoom => 0,
-            Answer::WrongPhase => 0,
-            Answer::NothingToDo => 0,
-        }
+// "the value is 0 unless named"
+pub fn value<W: Word>(r: Result<W, Refusal>) -> W
+    ensures { W.value result ≡ value_of W.value r }
+{
+    match r {
+        Ok(v) => v,
+        Err(_) => W::of(0),
     }
 }

@@ -5,44 +5,43 @@ ghost use Rattle.model.specs.Records.{kind_of};
 ghost use Rattle.model.specs.Steps.{unnamed, off_desk, owing};
 ghost use Rattle.theory.specs.Fields.{beyond_limit};
 ghost use Rattle.image_laws.specs.Sized.{Sized};
-ghost use Rattle.image.specs.Layout.{width};
 ghost use Rattle.request_laws.specs.Request.{requested, InRange, admission_of};
 
 use field_tables::tables;
-use image::layout::Word;
-use request_laws::{Admission, Request};
+use image::word::Word;
+use request_laws::{Refusal, Request};
 
 // Number 3, of a kind that there is.
-fn some_stray(r: Request) -> bool
+fn some_stray<W: Word>(r: Request) -> bool
     requires { (1 ≤ r.kind) × (r.kind < 16) }
     ensures { result ≡ unnamed (requested r) (kind_of r.kind) }
 {
     let n = r.kind;
-    let w = tables::stray(tables::limit(n, 0), r.who);
-    let a = tables::stray(tables::limit(n, 1), r.a);
-    let b = tables::stray(tables::limit(n, 2), r.b);
-    let c = tables::stray(tables::limit(n, 3), r.c);
+    let w = tables::stray(tables::limit::<W>(n, 0), r.who);
+    let a = tables::stray(tables::limit::<W>(n, 1), r.a);
+    let b = tables::stray(tables::limit::<W>(n, 2), r.b);
+    let c = tables::stray(tables::limit::<W>(n, 3), r.c);
     (r.zeros != 0) | (w | a | b | c)
 }
 
 // Number 4, but for cards.
-fn some_beyond(r: Request) -> bool
+fn some_beyond<W: Word>(r: Request) -> bool
     requires { r.kind < 16 }
-    ensures { result ≡ beyond_limit width (requested r) (kind_of r.kind) }
+    ensures { result ≡ beyond_limit W.BITS (requested r) (kind_of r.kind) }
 {
     let n = r.kind;
-    let w = tables::beyond(tables::limit(n, 0), r.who);
-    let a = tables::beyond(tables::limit(n, 1), r.a);
-    let b = tables::beyond(tables::limit(n, 2), r.b);
-    let c = tables::beyond(tables::limit(n, 3), r.c);
+    let w = tables::beyond(tables::limit::<W>(n, 0), r.who);
+    let a = tables::beyond(tables::limit::<W>(n, 1), r.a);
+    let b = tables::beyond(tables::limit::<W>(n, 2), r.b);
+    let c = tables::beyond(tables::limit::<W>(n, 3), r.c);
     w | a | b | c
 }
 
 // Number 5, of a request whose fields are on the desk.
-fn some_owing(im: &[Word], k: usize, r: Request) -> bool
-    requires sized { Sized width k im.now }
+fn some_owing<W: Word>(im: &[W], k: usize, r: Request) -> bool
+    requires sized { Sized W.BITS k (W.words im.now) }
     requires kind_bound { (r.kind < 16) × (off_desk (requested r) k (kind_of r.kind) ≡ false) }
-    ensures { result ≡ owing (image_of width k im.now) (requested r) (kind_of r.kind) }
+    ensures { result ≡ owing (image_of W.BITS k (W.words im.now)) (requested r) (kind_of r.kind) }
 {
     let n = r.kind;
     let w = tables::owes(im, k, n, 0, r.who);
@@ -52,26 +51,26 @@ fn some_owing(im: &[Word], k: usize, r: Request) -> bool
     w | a | b | c
 }
 
-pub fn admit(im: &[Word], k: usize, r: Request) -> Admission
-    requires sized { Sized width k im.now }
-    requires in_range { InRange width r }
-    ensures { result ≡ admission_of (image_of width k im.now) (requested r) }
+pub fn admit<W: Word>(im: &[W], k: usize, r: Request) -> Result<(), Refusal>
+    requires sized { Sized W.BITS k (W.words im.now) }
+    requires in_range { InRange W.BITS r }
+    ensures { result ≡ admission_of (image_of W.BITS k (W.words im.now)) (requested r) }
 {
     let n = r.kind;
     if n == 0 {
-        return Admission::Unknown;
+        return Err(Refusal::Unknown);
     }
     if 16 <= n {
-        return Admission::Unknown;
+        return Err(Refusal::Unknown);
     }
-    if some_stray(r) {
-        return Admission::Unknown;
+    if some_stray::<W>(r) {
+        return Err(Refusal::Unknown);
     }
-    if some_beyond(r) | tables::no_card(k, r) {
-        return Admission::OffDesk;
+    if some_beyond::<W>(r) | tables::no_card(k, r) {
+        return Err(Refusal::OffDesk);
     }
     if some_owing(im, k, r) {
-        return Admission::Owing;
+        return Err(Refusal::Owing);
     }
-    Admission::Admitted
+    Ok(())
 }
