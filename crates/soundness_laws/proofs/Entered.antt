@@ -1,6 +1,6 @@
 -- Entries of packets by index; sets that hold them, and that none stands there twice.
 use mathlib.Core.Path.{◌≡◌, refl, sym, ◌∙◌, ap}
-use mathlib.Core.Logic.{◌⊎◌, inl, inr}
+use mathlib.Core.Logic.{inl, inr}
 use mathlib.Core.Bool.{Bool, true, false, not, ◌&&◌, ◌||◌, and-true, and-false, or-true, or-false, or_assoc}
 use mathlib.Core.List.{List, [], ◌∷◌, ◌++◌, append-nil, append_assoc}
 use Prim.Native.Nat.{ℕ, suc, ◌+◌, ◌*◌, ◌/◌, ◌%◌, ◌≤◌, ◌<◌}
@@ -19,8 +19,7 @@ use Rattle.model.proofs.Bits.{set_bit_same, set_bit_other, length_set_bit, bit_z
 use Rattle.model.proofs.Entries.{nth_drop}
 use Rattle.model.proofs.Laws.{false≢, bool_cases}
 use Rattle.image_laws.specs.Sized.{Sized}
-use Rattle.image_laws.proofs.Lengths.{packets_words, sized_width}
-use Rattle.image_laws.proofs.Places.{by_width}
+use Rattle.image_laws.proofs.Lengths.{packets_words}
 use Rattle.image_laws.proofs.Sections.{granules_image}
 use Rattle.soundness_laws.specs.Entered.{entries_upto, apart, shares_bit, Holding, HoldingOnce, set_words, EnteredSet}
 use Rattle.soundness_laws.proofs.Packets.{entries_more}
@@ -110,25 +109,25 @@ packets_more ps n g p c found t s h ec et = looked_more g n _ found p s (take c 
 
 -- ---- what a set tells of a granule
 
-module _ (w n : ℕ) (l set : List ℕ) (s : Holding w n l set) (x : ℕ) where
-  set_place : (w ≡ 16) ⊎ (w ≡ 32) → x % apart / w < length set
-  set_place c = rw s.long (by_width (λ w. x % apart / w < apart / w) (omega arith) (omega arith) c)
+module _ (n : ℕ) (l set : List ℕ) (s : Holding n l set) (x : ℕ) where
+  set_place : x % apart / 64 < length set
+  set_place = rw s.long (omega arith)
 
-  new_elem : bit w set (x % apart) ≡ false → elem x l ≡ false
+  new_elem : bit 64 set (x % apart) ≡ false → elem x l ≡ false
   new_elem e = elim (bool_cases (elem x l)) [ inl q ↦ false≢ (sym e ∙ (s.just x ∙ elem_shares x l q)) | inr q ↦ q ]
 
-  few_elem : x < n → n ≤ apart → bit w set (x % apart) ≡ elem x l
+  few_elem : x < n → n ≤ apart → bit 64 set (x % apart) ≡ elem x l
   few_elem h q = s.just x ∙ few_share x l (λ y e. omega (arith, s.below y e)) (omega arith)
 
 -- ---- one granule more
 
-bit_more : (w : ℕ) (set : List ℕ) (x g : ℕ) → x / w < length set → bit w (set_bit w set x) g ≡ (bit w set g || eqb g x)
-bit_more w set x g h = elim (ℕ_discrete g x) [
-  | yes e ↦ rw (e, set_bit_same w set x h, eq-eqb x x refl) (sym (or-true (bit w set x)))
-  | no e ↦ rw (set_bit_other w set x g e, ne_eqb g x e) (sym (or-false (bit w set g)))
+bit_more : (set : List ℕ) (x g : ℕ) → x / 64 < length set → bit 64 (set_bit 64 set x) g ≡ (bit 64 set g || eqb g x)
+bit_more set x g h = elim (ℕ_discrete g x) [
+  | yes e ↦ rw (e, set_bit_same 64 set x h, eq-eqb x x refl) (sym (or-true (bit 64 set x)))
+  | no e ↦ rw (set_bit_other 64 set x g e, ne_eqb g x e) (sym (or-false (bit 64 set g)))
 ]
 
-module _ (w n : ℕ) (l set : List ℕ) (ok : Bool) (o : HoldingOnce w n l ok set) (c : (w ≡ 16) ⊎ (w ≡ 32)) (x : ℕ) (h : x < n) where
+module _ (n : ℕ) (l set : List ℕ) (ok : Bool) (o : HoldingOnce n l ok set) (x : ℕ) (h : x < n) where
   below_more : (g : ℕ) → elem g (l ++ x ∷ []) ≡ true → g < n
   unfolding elem
   below_more g e = elim (ℕ_discrete g x) [
@@ -136,13 +135,13 @@ module _ (w n : ℕ) (l set : List ℕ) (ok : Bool) (o : HoldingOnce w n l ok se
     | no q ↦ o.holding.below g (rw (elem_append g l (x ∷ []), ne_eqb g x q, or-false) at e)
   ]
 
-  once_more : (a : Bool) → a ≡ elem x l → HoldingOnce w n (l ++ x ∷ []) (ok && not a) (set_bit w set (x % apart))
+  once_more : (a : Bool) → a ≡ elem x l → HoldingOnce n (l ++ x ∷ []) (ok && not a) (set_bit 64 set (x % apart))
   unfolding shares_bit
   once_more a e = record {
     holding = record {
-      long = length_set_bit w set (x % apart) ∙ o.holding.long;
+      long = length_set_bit 64 set (x % apart) ∙ o.holding.long;
       below = below_more;
-      just = λ g. rw (bit_more w set (x % apart) (g % apart) (set_place w n l set o.holding x c), o.holding.just g, shares_append g l (x ∷ []), or-false);
+      just = λ g. rw (bit_more set (x % apart) (g % apart) (set_place n l set o.holding x), o.holding.just g, shares_append g l (x ∷ []), or-false);
     };
     once = rw (distinct_more x l, o.once, e);
   }
@@ -150,31 +149,31 @@ module _ (w n : ℕ) (l set : List ℕ) (ok : Bool) (o : HoldingOnce w n l ok se
 -- ---- the ways out of `add_entry`
 
 module _ (w k : ℕ) (l : List ℕ) (z : Sized w k l) (packed : Packed (image_of w k l)) (p e x : ℕ) (ok : Bool) (set : List ℕ)
-    (o : HoldingOnce w (64 * k) (entries_upto (image_of w k l).packets p e) ok set) (hp : p < 32) (he : e < count (image_of w k l) p) (ex : x ≡ nth (image_of w k l).packets (32 * p + 2 + e)) where
-  pub entry_place : x % apart / w < length set
-  entry_place = set_place w (64 * k) (entries_upto (image_of w k l).packets p e) set o.holding x (sized_width z)
+    (o : HoldingOnce (64 * k) (entries_upto (image_of w k l).packets p e) ok set) (hp : p < 32) (he : e < count (image_of w k l) p) (ex : x ≡ nth (image_of w k l).packets (32 * p + 2 + e)) where
+  pub entry_place : x % apart / 64 < length set
+  entry_place = set_place (64 * k) (entries_upto (image_of w k l).packets p e) set o.holding x
 
   entry_inside : x < 64 * k
   unfolding entry
   entry_inside = omega (arith, packed.below p e hp he, granules_image w k l)
 
-  entry_more : (a : Bool) → a ≡ elem x (entries_upto (image_of w k l).packets p e) → HoldingOnce w (64 * k) (entries_upto (image_of w k l).packets p (e + 1)) (ok && not a) (set_bit w set (x % apart))
+  entry_more : (a : Bool) → a ≡ elem x (entries_upto (image_of w k l).packets p e) → HoldingOnce (64 * k) (entries_upto (image_of w k l).packets p (e + 1)) (ok && not a) (set_bit 64 set (x % apart))
   unfolding entries_upto
   entry_more a q =
       rw (add-one e, part_more w k l z p e x hp (omega (arith, packed.counts p hp)) ex, ← (append_assoc (entries_of p (image_of w k l).packets) (take e (drop (32 * p + 2) (image_of w k l).packets)) (x ∷ [])))
-      (once_more w (64 * k) (entries_upto (image_of w k l).packets p e) set ok o (sized_width z) x entry_inside a q)
+      (once_more (64 * k) (entries_upto (image_of w k l).packets p e) set ok o x entry_inside a q)
 
-  module _ (t : Bool) (set' : List ℕ) (et : t ≡ not (bit w set (x % apart))) (es : set' ≡ set_bit w set (x % apart)) where
-    pub entry_new : t ≡ true → HoldingOnce w (64 * k) (entries_upto (image_of w k l).packets p (e + 1)) ok set'
+  module _ (t : Bool) (set' : List ℕ) (et : t ≡ not (bit 64 set (x % apart))) (es : set' ≡ set_bit 64 set (x % apart)) where
+    pub entry_new : t ≡ true → HoldingOnce (64 * k) (entries_upto (image_of w k l).packets p (e + 1)) ok set'
     entry_new h =
-        rw es (rw (and-true ok) at (entry_more false (sym (new_elem w (64 * k) (entries_upto (image_of w k l).packets p e) set o.holding x (not-true _ (sym et ∙ h))))))
+        rw es (rw (and-true ok) at (entry_more false (sym (new_elem (64 * k) (entries_upto (image_of w k l).packets p e) set o.holding x (not-true _ (sym et ∙ h))))))
 
-    pub entry_hit : t ≡ false → k ≤ 512 → HoldingOnce w (64 * k) (entries_upto (image_of w k l).packets p (e + 1)) false set'
+    pub entry_hit : t ≡ false → k ≤ 512 → HoldingOnce (64 * k) (entries_upto (image_of w k l).packets p (e + 1)) false set'
     entry_hit h q =
-        rw es (rw (and-false ok) at (entry_more true (sym (not-false _ (sym et ∙ h)) ∙ few_elem w (64 * k) (entries_upto (image_of w k l).packets p e) set o.holding x entry_inside (omega arith))))
+        rw es (rw (and-false ok) at (entry_more true (sym (not-false _ (sym et ∙ h)) ∙ few_elem (64 * k) (entries_upto (image_of w k l).packets p e) set o.holding x entry_inside (omega arith))))
 
     pub entry_look : (a b : Bool) → a ≡ elem x (entries_of p (image_of w k l).packets) → b ≡ elem x (take e (drop (32 * p + 2) (image_of w k l).packets))
-        → HoldingOnce w (64 * k) (entries_upto (image_of w k l).packets p (e + 1)) (ok && not (a || b)) set'
+        → HoldingOnce (64 * k) (entries_upto (image_of w k l).packets p (e + 1)) (ok && not (a || b)) set'
     unfolding entries_upto
     entry_look a b ea eb = rw es (entry_more (a || b) (rw (ea, eb) (sym (elem_append x (entries_of p (image_of w k l).packets) _))))
 
@@ -184,53 +183,53 @@ pub in_count : (m : Image) (p n e : ℕ) → n ≡ nth m.packets (32 * p) → e 
 unfolding count
 in_count m p n e q h = omega arith
 
-module _ (w n : ℕ) (ps : List ℕ) where
+module _ (n : ℕ) (ps : List ℕ) where
   -- `set` holds the entries of the first p packets, and the first e of the c entries of packet p
   pub record EntriesHeld (p c : ℕ) (ok : Bool) (e : ℕ) (set : List ℕ) : Type 0 where
     pub within : e ≤ c
-    pub so_far : HoldingOnce w n (entries_upto ps p e) ok set
+    pub so_far : HoldingOnce n (entries_upto ps p e) ok set
 
   module _ (p c : ℕ) (ok : Bool) (set : List ℕ) where
-    pub entries_none : HoldingOnce w n (entries_of p ps) ok set → EntriesHeld p c ok 0 set
+    pub entries_none : HoldingOnce n (entries_of p ps) ok set → EntriesHeld p c ok 0 set
     unfolding entries_upto
     entries_none o = record { within = omega arith; so_far = rw (append-nil (entries_of p ps)) o }
 
-    pub entries_end : (e : ℕ) → EntriesHeld p c ok e set → c ≤ e → c ≡ nth ps (32 * p) → HoldingOnce w n (entries_of (p + 1) ps) ok set
+    pub entries_end : (e : ℕ) → EntriesHeld p c ok e set → c ≤ e → c ≡ nth ps (32 * p) → HoldingOnce n (entries_of (p + 1) ps) ok set
     unfolding entries_upto
     entries_end e s h q = let o : e ≡ nth ps (32 * p) = omega (arith, s.within) in rw (add-one p, entries_more p ps, ← o) s.so_far
 
   pub record PacketsHeld (ok : Bool) (p : ℕ) (set : List ℕ) : Type 0 where
     pub within : p ≤ 32
-    pub so_far : HoldingOnce w n (entries_of p ps) ok set
+    pub so_far : HoldingOnce n (entries_of p ps) ok set
 
-  pub packets_none : (set : List ℕ) → set ≡ replicate (set_words w) 0 → PacketsHeld true 0 set
+  pub packets_none : (set : List ℕ) → set ≡ replicate set_words 0 → PacketsHeld true 0 set
   unfolding entries_of distinct elem shares_bit
   packets_none set e = record {
     within = omega arith;
     so_far = record {
-      holding = record { long = rw e (length-replicate {A = ℕ} (set_words w) 0); below = λ g q. false≢ q; just = λ g. rw e (bit_zeros w (set_words w) (g % apart)) };
+      holding = record { long = rw e (length-replicate {A = ℕ} set_words 0); below = λ g q. false≢ q; just = λ g. rw e (bit_zeros 64 set_words (g % apart)) };
       once = refl;
     };
   }
 
-pub packets_end : (w n : ℕ) (m : Image) (ok : Bool) (p : ℕ) (set : List ℕ) → PacketsHeld w n m.packets ok p set → 32 ≤ p → HoldingOnce w n (entries m) ok set
+pub packets_end : (n : ℕ) (m : Image) (ok : Bool) (p : ℕ) (set : List ℕ) → PacketsHeld n m.packets ok p set → 32 ≤ p → HoldingOnce n (entries m) ok set
 unfolding entries
-packets_end w n m ok p set s h = let e : p ≡ 32 = omega (arith, s.within) in rw e at s.so_far
+packets_end n m ok p set s h = let e : p ≡ 32 = omega (arith, s.within) in rw e at s.so_far
 
 -- ---- whether a granule is entered
 
-module _ (w k : ℕ) (l set : List ℕ) (z : Sized w k l) (s : EnteredSet w k (image_of w k l) set) (g : ℕ) where
-  pub entered_place : g % apart / w < length set
-  entered_place = set_place w (64 * k) (entries (image_of w k l)) set s.holding g (sized_width z)
+module _ (w k : ℕ) (l set : List ℕ) (s : EnteredSet k (image_of w k l) set) (g : ℕ) where
+  pub entered_place : g % apart / 64 < length set
+  entered_place = set_place (64 * k) (entries (image_of w k l)) set s.holding g
 
-  module _ (b : Bool) (e : b ≡ bit w set (g % apart)) where
+  module _ (b : Bool) (e : b ≡ bit 64 set (g % apart)) where
     pub entered_no : b ≡ false → false ≡ entered (image_of w k l) g
     unfolding entered
-    entered_no h = sym (new_elem w (64 * k) (entries (image_of w k l)) set s.holding g (sym e ∙ h))
+    entered_no h = sym (new_elem (64 * k) (entries (image_of w k l)) set s.holding g (sym e ∙ h))
 
     pub entered_yes : g < 64 * k → b ≡ true → k ≤ 512 → true ≡ entered (image_of w k l) g
     unfolding entered
-    entered_yes h t q = sym t ∙ (e ∙ few_elem w (64 * k) (entries (image_of w k l)) set s.holding g h (omega arith))
+    entered_yes h t q = sym t ∙ (e ∙ few_elem (64 * k) (entries (image_of w k l)) set s.holding g h (omega arith))
 
 pub entered_look : (m : Image) (g : ℕ) (r : Bool) → r ≡ elem g (entries_of 32 m.packets) → r ≡ entered m g
 unfolding entered entries

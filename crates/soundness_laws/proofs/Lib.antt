@@ -1,6 +1,7 @@
 pub mod Checks
 pub mod Ones
 pub mod Starts
+pub mod Joined
 pub mod Sets
 pub mod Marks
 pub mod Pieces

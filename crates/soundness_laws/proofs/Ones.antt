@@ -46,7 +46,7 @@ module _ (w : ℕ) (ws : List ℕ) (i : ℕ) (small : nth ws i < 2 ^ w) where
       let b : digit (bit w ws (w * i + j)) ≡ nth ws i / 2 ^ j % 2 = rw (bit_at w ws i j (omega arith)) (bit_digit (nth ws i) j) in
       ones_step (nth ws i / 2 ^ j) ∙ (rw (← b, shr-shr (nth ws i) j 1, ones_from n (j + 1) (omega arith), ← t) refl ∙ sym (many_first (bit w ws) (w * i + j) n))
 
-  word_ones : ones (nth ws i) ≡ how_many (onward (w * i) (bit w ws)) w
+  pub word_ones : ones (nth ws i) ≡ how_many (onward (w * i) (bit w ws)) w
   word_ones = rw (add-zero (w * i), div-one (nth ws i)) at (ones_from w 0 (zero-add w))
 
 -- `n` bits are set in the first i of the words from word a on, which are t

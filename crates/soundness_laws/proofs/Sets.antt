@@ -3,74 +3,63 @@ use mathlib.Core.Path.{◌≡◌, refl, sym, ap, ◌∙◌}
 use mathlib.Core.Bool.{Bool, true, false, ◌&&◌, ◌||◌, and-true}
 use mathlib.Core.List.{List}
 use mathlib.Core.Logic.{inl, inr}
-use Prim.Native.Nat.{ℕ, ◌+◌, ◌*◌, ◌-◌, ◌<◌, ◌≤◌, min, ◌/◌}
+use Prim.Native.Nat.{ℕ, ◌+◌, ◌*◌, ◌-◌, ◌<◌, ◌≤◌, min, ◌/◌, ◌%◌}
 use native.Mathlib.Omega.{arith}
 use lib.Dec.{eqb, ltb, leb}
 use lib.ListN.{take, drop, length, replicate, length-replicate}
-use Rattle.model.specs.Base.{nth, all, either, zeroes, put, test_bit, with_bit, bit, set_bit}
+use Rattle.model.specs.Base.{nth, all, either, zeroes, put, with_bit, bit, set_bit}
 use Rattle.model.specs.Image.{Image, image, image_of, granules, most_cards, is_start, marked}
 use Rattle.model.specs.Undamaged.{nil_or_start, reg_ok}
-use Rattle.model.proofs.Laws.{or_split, all_make, zeroes_use, nth_out, nth_replicate, nth_put_same, nth_put_other, length_put}
+use Rattle.model.proofs.Laws.{or_split, all_make, zeroes_use, nth_replicate, nth_put_same, nth_put_other, length_put}
 use Rattle.image_laws.specs.Sized.{Sized}
-use Rattle.image_laws.proofs.Bits.{start_past, mark_past}
-use Rattle.image_laws.proofs.Lengths.{sized_width}
-use Rattle.image_laws.proofs.Places.{by_width}
+use Rattle.image_laws.proofs.Bits.{zero_bit, start_past, mark_past}
 use Rattle.soundness_laws.proofs.Checks.{test_inside, nth_part, all_append, clamped}
-use Rattle.soundness_laws.specs.Sets.{table_words, Named}
-use Rattle.model.proofs.Bits.{set_bit_same, set_bit_other}
+use Rattle.soundness_laws.specs.Sets.{CardBits, table_words, Named}
+use Rattle.model.proofs.Bits.{set_bit_same, set_bit_other, bit_past}
 use borrow.Author.Tests.{ne_eqb, leb-true}
 use native.Mathlib.Decide.{ℕ_discrete, dec_lt}
-use native.Mathlib.Nat.{zero-mod, zero-div}
 
--- ---- a table made of bit words
+-- ---- a table filled card by card
 
--- the first i of m words stand in the table, and zeros behind them
-pub record Copied (w m : ℕ) (ws table : List ℕ) (i : ℕ) : Type 0 where
-  pub words : length ws ≡ m
-  pub within : i ≤ m
-  pub long : length table ≡ table_words w
-  pub copied : (j : ℕ) → j < i → nth table j ≡ nth ws j
-  pub rest : (j : ℕ) → i ≤ j → nth table j ≡ 0
+-- the first i of k cards stand in the table, and zeros behind them
+pub record Filled (w k : ℕ) (ws table : List ℕ) (i : ℕ) : Type 0 where
+  pub within : i ≤ k
+  pub long : length table ≡ table_words
+  pub filled : (c : ℕ) → c < i → CardBits w ws c (nth table c)
+  pub rest : (c : ℕ) → i ≤ c → nth table c ≡ 0
 
-module _ (w m : ℕ) (ws : List ℕ) where
-  pub copied_none : (table : List ℕ) → length ws ≡ m → table ≡ replicate (table_words w) 0 → Copied w m ws table 0
-  copied_none table el e = record { words = el; within = omega arith; long = rw e (length-replicate {A = ℕ} (table_words w) 0); copied = λ j q. absurd (omega arith); rest = λ j q. rw e (nth_replicate (table_words w) j) }
+module _ (w k : ℕ) (ws : List ℕ) where
+  pub filled_none : (table : List ℕ) → table ≡ replicate table_words 0 → Filled w k ws table 0
+  filled_none table e = record { within = omega arith; long = rw e (length-replicate {A = ℕ} table_words 0); filled = λ c q. absurd (omega arith); rest = λ c q. rw e (nth_replicate table_words c) }
 
-  module _ (table : List ℕ) (i : ℕ) (c : Copied w m ws table i) where
-    pub copied_more : (v n : ℕ) → n ≡ min m (table_words w) → i < n → v ≡ nth ws i → Copied w m ws (put table i v) (i + 1)
-    copied_more v n en h e = record {
-      words = c.words;
+  module _ (table : List ℕ) (i : ℕ) (s : Filled w k ws table i) where
+    pub filled_more : (v n : ℕ) → n ≡ min k table_words → i < n → CardBits w ws i v → Filled w k ws (put table i v) (i + 1)
+    filled_more v n en h b = record {
       within = omega arith;
-      long = length_put table i v ∙ c.long;
-      copied = λ j q. elim (ℕ_discrete j i) [
-        | yes o ↦ rw o (nth_put_same table i v (omega (arith, c.long)) ∙ e)
-        | no o ↦ nth_put_other table i j v o ∙ c.copied j (omega arith)
+      long = length_put table i v ∙ s.long;
+      filled = λ c q. elim (ℕ_discrete c i) [
+        | yes o ↦ rw (o, nth_put_same table i v (omega (arith, s.long))) b
+        | no o ↦ rw (nth_put_other table i c v o) (s.filled c (omega arith))
       ];
-      rest = λ j q. nth_put_other table i j v (λ o. absurd (omega arith)) ∙ c.rest j (omega arith);
+      rest = λ c q. nth_put_other table i c v (λ o. absurd (omega arith)) ∙ s.rest c (omega arith);
     }
 
-    pub copied_place : (j : ℕ) → j < table_words w → j < length table
-    copied_place j h = omega (arith, c.long)
-
-    pub copied_same : (was : List ℕ) (v : ℕ) → was ≡ replicate (table_words w) 0 → length (put table 0 v) ≡ length was
-    copied_same was v e = rw (length_put table 0 v, e, length-replicate {A = ℕ} (table_words w) 0) c.long
-
-    copied_bit : (a n : ℕ) → n ≡ min m (table_words w) → n ≤ i → a / w < table_words w → bit w table a ≡ bit w ws a
-    unfolding bit test_bit
-    copied_bit a n en h b = elim (dec_lt (a / w) i) [
-      | yes q ↦ rw (c.copied (a / w) q)
-      | no q ↦ rw (c.rest (a / w) (omega arith), nth_out ws (a / w) (omega (arith, c.words)))
+    filled_bit : length ws ≡ 64 * k / w → (a n : ℕ) → n ≡ min k table_words → n ≤ i → a / 64 < table_words → bit 64 table a ≡ bit w ws a
+    unfolding bit
+    filled_bit el a n en h b = elim (dec_lt (a / 64) i) [
+      | yes q ↦ let e : 64 * (a / 64) + a % 64 ≡ a = omega arith in rw e at ((s.filled (a / 64) q).each (a % 64) (omega arith))
+      | no q ↦ zero_bit _ (a % 64) (s.rest (a / 64) (omega arith)) ∙ sym (bit_past w (64 * k) ws a el (omega arith))
     ]
 
-    pub copied_end : (v n : ℕ) → 0 < table_words w → n ≡ min m (table_words w) → n ≤ i → v ≡ with_bit (nth table 0) 0 → Named w ws (put table 0 v)
+    pub filled_end : (v n : ℕ) → length ws ≡ 64 * k / w → n ≡ min k table_words → n ≤ i → v ≡ with_bit (nth table 0) 0 → Named w ws (put table 0 v)
     unfolding set_bit
-    copied_end v n some en h e =
-        let zeroth : put table 0 v ≡ set_bit w table 0 = rw (e, zero-div w, zero-mod w) in
+    filled_end v n el en h e =
+        let zeroth : put table 0 v ≡ set_bit 64 table 0 = rw e in
         record {
-          long = length_put table 0 v ∙ c.long;
+          long = length_put table 0 v ∙ s.long;
           bits = λ a q. rw zeroth (elim (ℕ_discrete a 0) [
-            | yes o ↦ rw o (set_bit_same w table 0 (rw (zero-div w) (omega (arith, c.long))))
-            | no o ↦ rw (set_bit_other w table 0 a o, ne_eqb a 0 o) (copied_bit a n en h q)
+            | yes o ↦ rw o (set_bit_same 64 table 0 (omega (arith, s.long)))
+            | no o ↦ rw (set_bit_other 64 table 0 a o, ne_eqb a 0 o) (filled_bit el a n en h q)
           ]);
         }
 
@@ -91,16 +80,12 @@ module _ (w k : ℕ) (l : List ℕ) (z : Sized w k l) (a : ℕ) where
       (elim (eqb a 0) as (λ c. either c true (is_start (image_of w k l) a) ≡ (c || is_start (image_of w k l) a)) [ true ↦ refl | false ↦ refl ])
 
   module _ (table : List ℕ) (r : Bool) where
-    pub target_bit : Named w (image_of w k l).starts table → a / w < table_words w → r ≡ bit w table a → r ≡ nil_or_start (image_of w k l) a
+    pub target_bit : Named w (image_of w k l).starts table → a / 64 < table_words → r ≡ bit 64 table a → r ≡ nil_or_start (image_of w k l) a
     unfolding is_start image_of image
     target_bit t h e = e ∙ (t.bits a h ∙ sym nil-or-start)
 
     pub target_asked : r ≡ is_start (image_of w k l) a → (eqb a 0 || r) ≡ nil_or_start (image_of w k l) a
     target_asked e = rw (nil-or-start, e)
-
-    pub marked_bit : Named w (image_of w k l).marks table → a / w < table_words w → r ≡ bit w table a → r ≡ (eqb a 0 || marked (image_of w k l) a)
-    unfolding marked image_of image
-    marked_bit t h e = e ∙ t.bits a h
 
     pub marked_asked : r ≡ marked (image_of w k l) a → (eqb a 0 || r) ≡ (eqb a 0 || marked (image_of w k l) a)
     marked_asked e = rw e
@@ -111,17 +96,17 @@ module _ (w k : ℕ) (l : List ℕ) (z : Sized w k l) (a : ℕ) where
 few_cards : (n k : ℕ) (t : Bool) → k ≤ n → t ≡ (leb n 1024 || leb k 1024) → t ≡ true → k ≤ 1024
 few_cards n k t h e q = elim (or_split (leb n 1024) (leb k 1024) (sym e ∙ q)) [ inl u ↦ omega (arith, leb-true n 1024 u) | inr u ↦ leb-true k 1024 u ]
 
-pub table_bit : (w : ℕ) (table : List ℕ) (a b : ℕ) (t : Bool) → b ≡ min a 65535 → t ≡ bit w table b → (ltb a 65536 && t) ≡ (ltb a 65536 && bit w table (min a 65535))
-table_bit w table a b t eb et = rw (et, eb)
+pub table_bit : (table : List ℕ) (a b : ℕ) (t : Bool) → b ≡ min a 65535 → t ≡ bit 64 table b → (ltb a 65536 && t) ≡ (ltb a 65536 && bit 64 table (min a 65535))
+table_bit table a b t eb et = rw (et, eb)
 
 pub marked_tabled : (w k : ℕ) (l : List ℕ) → Sized w k l → (table : List ℕ) → Named w (image_of w k l).marks table → (a n : ℕ) → n ≡ most_cards w → (t : Bool) → t ≡ (leb n 1024 || leb k 1024) → t ≡ true
-    → (r : Bool) → r ≡ (ltb a 65536 && bit w table (min a 65535)) → r ≡ (eqb a 0 || marked (image_of w k l) a)
+    → (r : Bool) → r ≡ (ltb a 65536 && bit 64 table (min a 65535)) → r ≡ (eqb a 0 || marked (image_of w k l) a)
 unfolding marked image_of image
 marked_tabled w k l z table s a n en t et is r er =
     let few : k ≤ 1024 = few_cards n k t (rw en z.high) et is in
-    er ∙ clamped (λ a. eqb a 0 || marked (image_of w k l) a) 65536 a (min a 65535) (bit w table (min a 65535))
+    er ∙ clamped (λ a. eqb a 0 || marked (image_of w k l) a) 65536 a (min a 65535) (bit 64 table (min a 65535))
     (λ h. rw (ne_eqb a 0 (λ e. omega arith)) (mark_past w k l z a (omega arith))) refl
-    (s.bits (min a 65535) (by_width (λ w. min a 65535 / w < table_words w) (omega arith) (omega arith) (sized_width z)))
+    (s.bits (min a 65535) (omega arith))
 
 pub target_word : (m : Image) (a v : ℕ) (r : Bool) → v ≡ a → r ≡ nil_or_start m v → r ≡ nil_or_start m a
 target_word m a v r e q = q ∙ ap (nil_or_start m) e
