@@ -24,7 +24,7 @@ pub bad_none : {n : ℕ} {p : ℕ → Bool} → NoneBad n p false 0
 unfolding all
 bad_none {n} = record { within = omega arith; so_far = refl }
 
-bad_more : (n : ℕ) (p : ℕ → Bool) (bad : Bool) (i : ℕ) (bad' : Bool) → NoneBad n p bad i → i < n → not bad' ≡ (not bad && p i) → NoneBad n p bad' (i + 1)
+pub bad_more : (n : ℕ) (p : ℕ → Bool) (bad : Bool) (i : ℕ) (bad' : Bool) → NoneBad n p bad i → i < n → not bad' ≡ (not bad && p i) → NoneBad n p bad' (i + 1)
 unfolding all
 bad_more n p bad i bad' s h e = rw add-one (record { within = omega arith; so_far = rw (e, s.so_far) })
 
@@ -43,7 +43,7 @@ not_less a b =
 not_most : (a b : ℕ) → not (leb a b) ≡ ltb b a
 not_most a b = rw (← (not_less b a)) (not-not (ltb b a))
 
-not_or : (a b : Bool) → not (a || b) ≡ (not a && not b)
+pub not_or : (a b : Bool) → not (a || b) ≡ (not a && not b)
 not_or true b = refl
 not_or false b = refl
 

@@ -3,53 +3,49 @@ ghost use Rattle.std.specs.Prelude.{◌≡◌, ◌*◌, ◌-◌, ◌≤◌, leng
 ghost use Rattle.model.specs.Image.{image_of};
 ghost use Rattle.image_laws.specs.Sized.{Sized};
 ghost use Rattle.image_laws.specs.Compare.{within, near};
-ghost use Rattle.image.specs.Layout.{width};
 
-use image::layout::Word;
+use image::word::Word;
 
 // Each word of s lies between those of low and high at its place.
-pub fn are_within(s: &[Word], low: &[Word], high: &[Word]) -> bool
+pub fn are_within<W: Word>(s: &[W], low: &[W], high: &[W]) -> bool
     requires { (length s.now ≤ length low.now) × (length s.now ≤ length high.now) }
-    ensures { result ≡ within low.now high.now s.now }
+    ensures { result ≡ within (W.words low.now) (W.words high.now) (W.words s.now) }
 {
     let mut bad = false;
-    let mut i = 0;
-    while i < s.len() {
-        bad = bad | (s[i] < low[i]) | (high[i] < s[i]);
-        i += 1;
+    for i in 0..s.len() {
+        let x = s[i].value();
+        bad = bad | (x < low[i].value()) | (high[i].value() < x);
     }
     !bad
 }
 
 // Each word of s is at most 2, or not below from and below the end.
-pub fn are_near(s: &[Word], from: Word, end: Word) -> bool
-    ensures { result ≡ near from end s.now }
+pub fn are_near<W: Word>(s: &[W], from: W, end: W) -> bool
+    ensures { result ≡ near (W.value from) (W.value end) (W.words s.now) }
 {
     let mut bad = false;
-    let mut i = 0;
-    while i < s.len() {
-        let x = s[i];
-        bad = bad | ((2 < x) & ((x < from) | (end <= x)));
-        i += 1;
+    for i in 0..s.len() {
+        let x = s[i].value();
+        bad = bad | ((2 < x) & ((x < from.value()) | (end.value() <= x)));
     }
     !bad
 }
 
 // heap words a to e - 1
-pub fn heap_within(im: &[Word], k: usize, a: usize, e: usize, low: &[Word], high: &[Word]) -> bool
-    requires sized { Sized width k im.now }
+pub fn heap_within<W: Word>(im: &[W], k: usize, a: usize, e: usize, low: &[W], high: &[W]) -> bool
+    requires sized { Sized W.BITS k (W.words im.now) }
     requires a_le_e { (a ≤ e) × (e ≤ 256 * k) }
     requires a_in_bounds { (e - a ≤ length low.now) × (e - a ≤ length high.now) }
-    ensures { result ≡ within low.now high.now (take (e - a) (drop a (image_of width k im.now).heap)) }
+    ensures { result ≡ within (W.words low.now) (W.words high.now) (take (e - a) (drop a (image_of W.BITS k (W.words im.now)).heap)) }
 {
     are_within(&im[a..e], low, high)
 }
 
 // heap words a to e - 1
-pub fn heap_near(im: &[Word], k: usize, a: usize, e: usize, from: Word, end: Word) -> bool
-    requires sized { Sized width k im.now }
+pub fn heap_near<W: Word>(im: &[W], k: usize, a: usize, e: usize, from: W, end: W) -> bool
+    requires sized { Sized W.BITS k (W.words im.now) }
     requires a_le_e { (a ≤ e) × (e ≤ 256 * k) }
-    ensures { result ≡ near from end (take (e - a) (drop a (image_of width k im.now).heap)) }
+    ensures { result ≡ near (W.value from) (W.value end) (take (e - a) (drop a (image_of W.BITS k (W.words im.now)).heap)) }
 {
     are_near(&im[a..e], from, end)
 }

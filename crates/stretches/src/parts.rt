@@ -3,42 +3,35 @@ ghost use Rattle.std.specs.Prelude.{◌≡◌, ◌*◌, ◌-◌, ◌≤◌, take
 ghost use Rattle.model.specs.Base.{zeroes};
 ghost use Rattle.model.specs.Image.{image_of};
 ghost use Rattle.image_laws.specs.Sized.{Sized};
-ghost use Rattle.image.specs.Layout.{width};
 
-use image::layout::{
-    BEHIND, CARDS, COUNTS, GENERAL, MARKS, PACKETS, PER_CARD, PLAYERS, TRACERS, Word,
-};
+use image::word::Word;
 
 // Word by word: for a few words.
-fn few_zeros(s: &[Word]) -> bool
-    ensures { result ≡ zeroes s.now }
+fn few_zeros<W: Word>(s: &[W]) -> bool
+    ensures { result ≡ zeroes (W.words s.now) }
 {
-    let mut bad: Word = 0;
-    let mut i = 0;
-    while i < s.len() {
-        bad |= s[i];
-        i += 1;
+    let mut bad = false;
+    for i in 0..s.len() {
+        bad = bad | (s[i].value() != 0);
     }
-    bad == 0
+    !bad
 }
 
 // A word of each half at a time: a loop that long runs as fast wherever it lies in the program.
-fn many_zeros(s: &[Word]) -> bool
-    ensures { result ≡ zeroes s.now }
+fn many_zeros<W: Word>(s: &[W]) -> bool
+    ensures { result ≡ zeroes (W.words s.now) }
 {
     let h = s.len() / 2;
     let n = s.len() - h;
-    let mut bad: Word = 0;
-    let mut i = 0;
-    while i < n {
-        bad |= s[i] | s[h + i];
-        i += 1;
+    let mut bad = false;
+    for i in 0..n {
+        bad = bad | (s[i].value() | s[h + i].value() != 0);
     }
-    bad == 0
+    !bad
 }
 
-pub fn zeros(s: &[Word]) -> bool
-    ensures { result ≡ zeroes s.now }
+pub fn zeros<W: Word>(s: &[W]) -> bool
+    ensures { result ≡ zeroes (W.words s.now) }
 {
     if s.len() < 256 {
         return few_zeros(s);
@@ -46,77 +39,77 @@ pub fn zeros(s: &[Word]) -> bool
     many_zeros(s)
 }
 
-pub fn zero_marks(im: &[Word], k: usize) -> bool
-    requires { Sized width k im.now }
-    ensures { result ≡ zeroes (image_of width k im.now).marks }
+pub fn zero_marks<W: Word>(im: &[W], k: usize) -> bool
+    requires { Sized W.BITS k (W.words im.now) }
+    ensures { result ≡ zeroes (image_of W.BITS k (W.words im.now)).marks }
 {
-    let a = MARKS * k;
-    let e = CARDS * k;
+    let a = image::layout::marks_at::<W>(k);
+    let e = image::layout::cards_at::<W>(k);
     zeros(&im[a..e])
 }
 
-pub fn zero_counts(im: &[Word], k: usize) -> bool
-    requires { Sized width k im.now }
-    ensures { result ≡ zeroes (image_of width k im.now).counts }
+pub fn zero_counts<W: Word>(im: &[W], k: usize) -> bool
+    requires { Sized W.BITS k (W.words im.now) }
+    ensures { result ≡ zeroes (image_of W.BITS k (W.words im.now)).counts }
 {
-    let a = COUNTS * k;
-    let e = PER_CARD * k;
+    let a = image::layout::counts_at::<W>(k);
+    let e = image::layout::regs_at::<W>(k);
     zeros(&im[a..e])
 }
 
 // registers a to e - 1
-pub fn zero_regs(im: &[Word], k: usize, a: usize, e: usize) -> bool
-    requires sized { Sized width k im.now }
+pub fn zero_regs<W: Word>(im: &[W], k: usize, a: usize, e: usize) -> bool
+    requires sized { Sized W.BITS k (W.words im.now) }
     requires a_le_e { (a ≤ e) × (e ≤ 256) }
-    ensures { result ≡ zeroes (take (e - a) (drop a (image_of width k im.now).regs)) }
+    ensures { result ≡ zeroes (take (e - a) (drop a (image_of W.BITS k (W.words im.now)).regs)) }
 {
-    zeros(&im[PER_CARD * k + a..PER_CARD * k + e])
+    let b = image::layout::regs_at::<W>(k);
+    zeros(&im[b + a..b + e])
 }
 
-pub fn zero_packets(im: &[Word], k: usize) -> bool
-    requires { Sized width k im.now }
-    ensures { result ≡ zeroes (image_of width k im.now).packets }
+pub fn zero_packets<W: Word>(im: &[W], k: usize) -> bool
+    requires { Sized W.BITS k (W.words im.now) }
+    ensures { result ≡ zeroes (image_of W.BITS k (W.words im.now)).packets }
 {
-    let a = PER_CARD * k + PACKETS;
-    let e = PER_CARD * k + TRACERS;
+    let a = image::layout::packets_at::<W>(k);
+    let e = image::layout::tracers_at::<W>(k);
     zeros(&im[a..e])
 }
 
-pub fn zero_tracers(im: &[Word], k: usize) -> bool
-    requires { Sized width k im.now }
-    ensures { result ≡ zeroes (image_of width k im.now).tracers }
+pub fn zero_tracers<W: Word>(im: &[W], k: usize) -> bool
+    requires { Sized W.BITS k (W.words im.now) }
+    ensures { result ≡ zeroes (image_of W.BITS k (W.words im.now)).tracers }
 {
-    let a = PER_CARD * k + TRACERS;
-    let e = PER_CARD * k + PLAYERS;
+    let a = image::layout::tracers_at::<W>(k);
+    let e = image::layout::players_at::<W>(k);
     zeros(&im[a..e])
 }
 
 // heap words a to e - 1
-pub fn zero_heap(im: &[Word], k: usize, a: usize, e: usize) -> bool
-    requires sized { Sized width k im.now }
+pub fn zero_heap<W: Word>(im: &[W], k: usize, a: usize, e: usize) -> bool
+    requires sized { Sized W.BITS k (W.words im.now) }
     requires a_le_e { (a ≤ e) × (e ≤ 256 * k) }
-    ensures { result ≡ zeroes (take (e - a) (drop a (image_of width k im.now).heap)) }
+    ensures { result ≡ zeroes (take (e - a) (drop a (image_of W.BITS k (W.words im.now)).heap)) }
 {
     zeros(&im[a..e])
 }
 
 // words a to e - 1 of the packets
-pub fn zero_entries(im: &[Word], k: usize, a: usize, e: usize) -> bool
-    requires sized { Sized width k im.now }
+pub fn zero_entries<W: Word>(im: &[W], k: usize, a: usize, e: usize) -> bool
+    requires sized { Sized W.BITS k (W.words im.now) }
     requires a_le_e { (a ≤ e) × (e ≤ 1024) }
-    ensures { result ≡ zeroes (take (e - a) (drop a (image_of width k im.now).packets)) }
+    ensures { result ≡ zeroes (take (e - a) (drop a (image_of W.BITS k (W.words im.now)).packets)) }
 {
-    let b = PER_CARD * k + PACKETS + a;
-    let d = PER_CARD * k + PACKETS + e;
-    zeros(&im[b..d])
+    let b = image::layout::packets_at::<W>(k);
+    zeros(&im[b + a..b + e])
 }
 
 // the words of the last section behind its first two
-pub fn zero_spares(im: &[Word], k: usize) -> bool
-    requires { Sized width k im.now }
-    ensures { result ≡ zeroes (take 6 (drop 2 (image_of width k im.now).general)) }
+pub fn zero_spares<W: Word>(im: &[W], k: usize) -> bool
+    requires { Sized W.BITS k (W.words im.now) }
+    ensures { result ≡ zeroes (take 6 (drop 2 (image_of W.BITS k (W.words im.now)).general)) }
 {
-    let a = PER_CARD * k + GENERAL + 2;
-    let e = PER_CARD * k + BEHIND;
+    let a = image::layout::general_at::<W>(k) + 2;
+    let e = image::layout::image_length::<W>(k);
     zeros(&im[a..e])
 }

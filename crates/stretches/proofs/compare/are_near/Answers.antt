@@ -1,16 +1,21 @@
-use Rattle.model.specs.Base.{nth}
+use borrow.Author.Rules.{rules}
+use Rattle.image.proofs.Words.{words_length}
 use Rattle.image_laws.specs.Compare.{near}
 use Rattle.image_laws.proofs.Compare.{bad_none, bad_end, near_more}
+use Rattle.std.proofs.Common.{arith}
+use Rattle.stretches.proofs.Words.{read}
 use Rattle.stretches.proofs.compare.are_near.Goals as goal
 
 pub loop-i-init : goal.loop-i-init
-unfolding nth near
-loop-i-init c = bad_none
+loop-i-init g c = bad_none
 
 pub loop-i-preserved : goal.loop-i-preserved
-unfolding nth near
-loop-i-preserved c = search near_more
+loop-i-preserved g c =
+    let by = g.met.W.Word.laws.by_value in
+    let s = c.args.s.now in
+    rw (read by s c.loop-i.i c.value-x.result _ (search rules) c.index-s-i.is c.value-x.ensures.value, c.value.ensures.value, c.value-in-loop-i.ensures.value)
+    (near_more _ _ _ (omega (arith, words_length by s)) _ _ c.loop-i.invariant)
 
 pub returns : goal.returns
-unfolding nth near
-returns c = search bad_end
+unfolding near
+returns g c = bad_end c.loop-i.invariant (omega (arith, words_length g.met.W.Word.laws.by_value c.args.s.now))

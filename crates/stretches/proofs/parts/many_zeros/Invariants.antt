@@ -1,10 +1,6 @@
 use Rattle.image_laws.specs.Parts.{both_zero}
-use Rattle.image_laws.proofs.Parts.{Gathered}
-use Prim.Native.Nat.{◌-◌}
+use Rattle.image_laws.proofs.Compare.{NoneBad}
 use Rattle.stretches.proofs.parts.many_zeros.Given as goal
 
 abbrev pub invariant-loop-i : goal.invariant-loop-i
-invariant-loop-i l = Gathered l.n (both_zero l.s l.h) l.bad l.i
-
-abbrev pub decreases-loop-i : goal.decreases-loop-i
-decreases-loop-i l = l.n - l.i
+invariant-loop-i g l = NoneBad l.n (both_zero (g.W.Word.words l.s) l.h) l.bad l.i

@@ -1,10 +1,10 @@
 use borrow.Author.Rules.{rules}
-use Prim.Native.Nat.{◌-◌}
+use Rattle.std.proofs.Common.{◌∙◌, ap, ◌-◌}
+use Rattle.model.specs.Base.{zeroes}
 use Rattle.model.specs.Image.{heap_at, image_of, image, split}
-use Rattle.image_laws.proofs.Parts.{part_zero}
-use Rattle.image.specs.Layout.{width}
+use Rattle.stretches.proofs.Words.{part_of}
 use Rattle.stretches.proofs.parts.zero_heap.Goals as goal
 
 pub returns : goal.returns
 unfolding image_of image split
-returns c = let A = c.args in part_zero width A.k A.im.now _ heap_at A.a (A.e - A.a) A.a A.e (search rules) (search rules) (search rules) c.zeros.ensures
+returns g c = let A = c.args in c.zeros.ensures ∙ ap zeroes (part_of g.met.W.Word.laws.by_value g.W.Word.BITS A.k A.im.now heap_at _ _ A.a (A.e - A.a) (search rules) (search rules) (search rules))

@@ -1,10 +1,8 @@
 use borrow.Author.Rules.{rules}
-use Prim.Native.Nat.{◌+◌, ◌*◌}
-use Rattle.image.specs.Layout.{width, per_card, packets_from, tracers_from}
 use Rattle.model.specs.Image.{packets_at, image_of, image, split}
-use Rattle.image_laws.proofs.Parts.{section_zero}
+use Rattle.stretches.proofs.Words.{section_zero_words}
 use Rattle.stretches.proofs.parts.zero_packets.Goals as goal
 
 pub returns : goal.returns
 unfolding image_of image split
-returns c = let A = c.args in section_zero width A.k A.im.now _ packets_at (per_card * A.k + packets_from) (per_card * A.k + tracers_from) (search rules) (search rules) c.zeros.ensures
+returns g c = section_zero_words g.met.W.Word.laws.by_value g.W.Word.BITS c.args.k c.args.im.now packets_at c.packets_at-a.result c.tracers_at-e.result _ (search rules) (search rules) c.zeros.ensures

@@ -1,10 +1,10 @@
 use borrow.Author.Rules.{rules}
-use Prim.Native.Nat.{◌+◌, ◌*◌}
+use Rattle.std.proofs.Common.{◌∙◌, ap}
+use Rattle.model.specs.Base.{zeroes}
 use Rattle.model.specs.Image.{general_at, image_of, image, split}
-use Rattle.image_laws.proofs.Parts.{part_zero}
-use Rattle.image.specs.Layout.{width, per_card, behind}
+use Rattle.stretches.proofs.Words.{part_of}
 use Rattle.stretches.proofs.parts.zero_spares.Goals as goal
 
 pub returns : goal.returns
 unfolding image_of image split
-returns c = let A = c.args in part_zero width A.k A.im.now _ general_at 2 6 _ (per_card * A.k + behind) (search rules) (search rules) (search rules) c.zeros.ensures
+returns g c = c.zeros.ensures ∙ ap zeroes (part_of g.met.W.Word.laws.by_value g.W.Word.BITS c.args.k c.args.im.now general_at _ _ 2 6 (search rules) (search rules) (search rules))
