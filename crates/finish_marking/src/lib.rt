@@ -4,18 +4,17 @@
 ghost use Rattle.model.specs.Image.{image_of};
 ghost use Rattle.theory.specs.Lines.{Sound};
 ghost use Rattle.image_laws.specs.Sized.{Sized};
-ghost use Rattle.image.specs.Layout.{width};
 ghost use Rattle.finish_marking_laws.specs.Seeds.{KeptMarked};
 
-use image::layout::Word;
+use image::word::Word;
 
 pub mod follow; // follow.rt: links followed from pending objects on, with the cards as a work list
 
 // Marks all that a finish keeps: the seeds become pending, then their links are followed.
-pub fn mark_found(im: &mut [Word], k: usize)
-    requires sized { Sized width k im.old }
-    requires sound { Sound (image_of width k im.old) }
-    ensures { KeptMarked (image_of width k im.old) (image_of width k im.new) }
+pub fn mark_found<W: Word>(im: &mut [W], k: usize)
+    requires sized { Sized W.BITS k (W.words im.old) }
+    requires sound { Sound (image_of W.BITS k (W.words im.old)) }
+    ensures { KeptMarked (image_of W.BITS k (W.words im.old)) (image_of W.BITS k (W.words im.new)) }
 {
     finish_seeds::seeds::open_entries(im, k);
     finish_seeds::seeds::open_hands(im, k);

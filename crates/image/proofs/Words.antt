@@ -27,6 +27,9 @@ module _ {A : Type 0} {value : A → ℕ} {words : List A → List ℕ} (by_valu
   pub words_part : (a n : ℕ) → words (take n (drop a l)) ≡ take n (drop a (words l))
   words_part a n = rw (by_value l, by_value (take n (drop a l)), drop-map value a l) (sym (take-map value n (drop a l)))
 
+  pub same_length : (m : List A) → length m ≡ length l → length (words m) ≡ length (words l)
+  same_length m e = rw (by_value l, by_value m, length-map l value, length-map m value) e
+
   -- word i of section s, which is word o
   module _ (w k s i o : ℕ) (h : i < get_or (lengths w k) s 0) (at_place : place (lengths w k) s + i ≡ o) where
     pub section_read : Sized w k (words l) → (r : A) → r ≡ get_or l o r → value r ≡ nth (get_or (split (lengths w k) (words l)) s []) i

@@ -4,16 +4,15 @@ ghost use Rattle.model.specs.Base.{nth};
 ghost use Rattle.model.specs.Image.{image_of};
 ghost use Rattle.image_laws.specs.Sized.{Sized};
 ghost use Rattle.image_laws.specs.Digits.{mark_bit};
-ghost use Rattle.image.specs.Layout.{width};
 ghost use Rattle.finish_marking_laws.specs.Seeds.{Bared, Refers, WordAt, CardAt, EnteredAt, HandAt, DirtyAt};
 
-use image::layout::{BITS, Word};
+use image::word::Word;
 
 // The object a, if it is one, loses its start bit.
-pub fn open_one(im: &mut [Word], k: usize, a: usize)
-    requires sized { Sized width k im.old }
+pub fn open_one<W: Word>(im: &mut [W], k: usize, a: usize)
+    requires sized { Sized W.BITS k (W.words im.old) }
     requires a_bound { a < 64 * k }
-    ensures { Bared (image_of width k im.old) (image_of width k im.new) (Refers a) }
+    ensures { Bared (image_of W.BITS k (W.words im.old)) (image_of W.BITS k (W.words im.new)) (Refers a) }
 {
     if a == 0 {
         return;
@@ -22,50 +21,50 @@ pub fn open_one(im: &mut [Word], k: usize, a: usize)
 }
 
 // The marked granules of bit word i lose their start bits.
-pub fn open_word(im: &mut [Word], k: usize, i: usize)
-    requires sized { Sized width k im.old }
-    requires i_bound { i < 64 * k / width }
-    ensures { Bared (image_of width k im.old) (image_of width k im.new) (WordAt width (mark_bit (image_of width k im.old)) i) }
+pub fn open_word<W: Word>(im: &mut [W], k: usize, i: usize)
+    requires sized { Sized W.BITS k (W.words im.old) }
+    requires i_bound { i < 64 * k / W.BITS }
+    ensures { Bared (image_of W.BITS k (W.words im.old)) (image_of W.BITS k (W.words im.new)) (WordAt W.BITS (mark_bit (image_of W.BITS k (W.words im.old))) i) }
 {
-    let m = image::sections::mark_word(im, k, i);
-    let s = image::sections::start_word(im, k, i);
-    image::sections::set_start_word(im, k, i, s & !m);
+    let m = image::sections::mark_word(im, k, i).value();
+    let s = image::sections::start_word(im, k, i).value();
+    image::sections::set_start_word(im, k, i, W::of(s & !m));
 }
 
 // The marked granules of card c lose their start bits.
-pub fn open_card(im: &mut [Word], k: usize, c: usize)
-    requires sized { Sized width k im.old }
+pub fn open_card<W: Word>(im: &mut [W], k: usize, c: usize)
+    requires sized { Sized W.BITS k (W.words im.old) }
     requires c_lt_k { c < k }
-    ensures { Bared (image_of width k im.old) (image_of width k im.new) (CardAt (mark_bit (image_of width k im.old)) c) }
+    ensures { Bared (image_of W.BITS k (W.words im.old)) (image_of W.BITS k (W.words im.new)) (CardAt (mark_bit (image_of W.BITS k (W.words im.old))) c) }
 {
-    for i in 0..64 / BITS {
-        open_word(im, k, 64 / BITS * c + i);
+    for i in 0..W::CARD_BITS {
+        open_word(im, k, W::CARD_BITS * c + i);
     }
 }
 
 // Word i of the packets, if it is an entry.
-pub fn open_entry(im: &mut [Word], k: usize, i: usize)
-    requires sized { Sized width k im.old }
+pub fn open_entry<W: Word>(im: &mut [W], k: usize, i: usize)
+    requires sized { Sized W.BITS k (W.words im.old) }
     requires i_bound { i < 1024 }
-    requires i_bound_2 { 2 ≤ i % 32 → nth (image_of width k im.old).packets i < 64 * k }
-    ensures { Bared (image_of width k im.old) (image_of width k im.new) (EnteredAt (image_of width k im.old).packets i) }
+    requires i_bound_2 { 2 ≤ i % 32 → nth (image_of W.BITS k (W.words im.old)).packets i < 64 * k }
+    ensures { Bared (image_of W.BITS k (W.words im.old)) (image_of W.BITS k (W.words im.new)) (EnteredAt (image_of W.BITS k (W.words im.old)).packets i) }
 {
     if i % 32 < 2 {
         return;
     }
-    let a = image::sections::packet_word(im, k, i) as usize;
+    let a = image::sections::packet_word(im, k, i).value();
     open_one(im, k, a);
 }
 
 // The object and the card in tracer t's hand.
-pub fn open_hand(im: &mut [Word], k: usize, t: usize)
-    requires sized { Sized width k im.old }
+pub fn open_hand<W: Word>(im: &mut [W], k: usize, t: usize)
+    requires sized { Sized W.BITS k (W.words im.old) }
     requires t_bound { t < 8 }
-    requires t_bound_2 { (nth (image_of width k im.old).tracers (8 * t + 2) < 64 * k) × (nth (image_of width k im.old).tracers (8 * t + 4) ≤ k) }
-    ensures { Bared (image_of width k im.old) (image_of width k im.new) (HandAt (image_of width k im.old).tracers (mark_bit (image_of width k im.old)) t) }
+    requires t_bound_2 { (nth (image_of W.BITS k (W.words im.old)).tracers (8 * t + 2) < 64 * k) × (nth (image_of W.BITS k (W.words im.old)).tracers (8 * t + 4) ≤ k) }
+    ensures { Bared (image_of W.BITS k (W.words im.old)) (image_of W.BITS k (W.words im.new)) (HandAt (image_of W.BITS k (W.words im.old)).tracers (mark_bit (image_of W.BITS k (W.words im.old))) t) }
 {
-    let c = image::sections::tracer_word(im, k, 8 * t + 4) as usize;
-    let a = image::sections::tracer_word(im, k, 8 * t + 2) as usize;
+    let c = image::sections::tracer_word(im, k, 8 * t + 4).value();
+    let a = image::sections::tracer_word(im, k, 8 * t + 2).value();
     open_one(im, k, a);
     if c == 0 {
         return;
@@ -74,10 +73,10 @@ pub fn open_hand(im: &mut [Word], k: usize, t: usize)
 }
 
 // Card c, if it is dirty.
-pub fn open_dirty(im: &mut [Word], k: usize, c: usize)
-    requires sized { Sized width k im.old }
+pub fn open_dirty<W: Word>(im: &mut [W], k: usize, c: usize)
+    requires sized { Sized W.BITS k (W.words im.old) }
     requires c_lt_k { c < k }
-    ensures { Bared (image_of width k im.old) (image_of width k im.new) (DirtyAt (image_of width k im.old).cards (mark_bit (image_of width k im.old)) c) }
+    ensures { Bared (image_of W.BITS k (W.words im.old)) (image_of W.BITS k (W.words im.new)) (DirtyAt (image_of W.BITS k (W.words im.old)).cards (mark_bit (image_of W.BITS k (W.words im.old))) c) }
 {
     if bits_and_cards::cards::is_dirty(im, k, c) {
         open_card(im, k, c);

@@ -3,28 +3,27 @@
 ghost use Rattle.std.specs.Prelude.{◌≡◌, ◌+◌, ◌*◌, ◌/◌, ◌≤◌, ◌<◌};
 ghost use Rattle.model.specs.Image.{image_of};
 ghost use Rattle.image_laws.specs.Sized.{Sized};
-ghost use Rattle.image.specs.Layout.{width};
 ghost use Rattle.finish_marking_laws.specs.Follow.{headed, visited, settled, PendingWord, LinksIn};
 ghost use Rattle.finish_marking_laws.specs.Marking.{Underway, SettledTo};
 
-use image::layout::{BITS, Word};
+use image::word::Word;
 
 // The pending objects of bit word i: its marks without its starts.
-pub fn pending_word(im: &[Word], k: usize, i: usize) -> Word
-    requires sized { Sized width k im.now }
-    requires i_bound { i < 64 * k / width }
-    ensures { PendingWord width (image_of width k im.now) i result }
+pub fn pending_word<W: Word>(im: &[W], k: usize, i: usize) -> W
+    requires sized { Sized W.BITS k (W.words im.now) }
+    requires i_bound { i < 64 * k / W.BITS }
+    ensures { PendingWord W.BITS (image_of W.BITS k (W.words im.now)) i (W.value result) }
 {
-    let m = image::sections::mark_word(im, k, i);
-    let s = image::sections::start_word(im, k, i);
-    m & !s
+    let m = image::sections::mark_word(im, k, i).value();
+    let s = image::sections::start_word(im, k, i).value();
+    W::of(m & !s)
 }
 
 // The link a is followed: to nil or a marked object nothing; else the object becomes pending, and its card is listed.
-pub fn visit(im: &mut [Word], k: usize, head: usize, a: usize) -> usize
-    requires sized { Sized width k im.old }
+pub fn visit<W: Word>(im: &mut [W], k: usize, head: usize, a: usize) -> usize
+    requires sized { Sized W.BITS k (W.words im.old) }
     requires a_bound { (a < 64 * k) × (head ≤ k + 1) }
-    ensures im_after { headed result (image_of width k im.new) ≡ visited (image_of width k im.old) head a }
+    ensures im_after { headed result (image_of W.BITS k (W.words im.new)) ≡ visited (image_of W.BITS k (W.words im.old)) head a }
     ensures upper_bound { result ≤ k + 1 }
 {
     if a == 0 {
@@ -36,26 +35,25 @@ pub fn visit(im: &mut [Word], k: usize, head: usize, a: usize) -> usize
     bits_and_cards::bits::set_mark(im, k, a);
     bits_and_cards::bits::clear_start(im, k, a);
     let c = a / 64;
-    let v = image::sections::card(im, k, c);
-    if v != 0 {
+    if image::sections::card(im, k, c).value() != 0 {
         return head;
     }
-    image::sections::set_card(im, k, c, head as Word);
+    image::sections::set_card(im, k, c, W::of(head));
     c + 2
 }
 
 // All links of g are followed, then its start bit stands again.
-pub fn settle(im: &mut [Word], k: usize, head: usize, g: usize) -> usize
-    requires sized { Sized width k im.old }
+pub fn settle<W: Word>(im: &mut [W], k: usize, head: usize, g: usize) -> usize
+    requires sized { Sized W.BITS k (W.words im.old) }
     requires g_bound { (g < 64 * k) × (head ≤ k + 1) }
-    requires links_in { LinksIn k (image_of width k im.old) g }
-    ensures im_after { headed result (image_of width k im.new) ≡ settled (image_of width k im.old) head g }
+    requires links_in { LinksIn k (image_of W.BITS k (W.words im.old)) g }
+    ensures im_after { headed result (image_of W.BITS k (W.words im.new)) ≡ settled (image_of W.BITS k (W.words im.old)) head g }
     ensures upper_bound { result ≤ k + 1 }
 {
     let n = image::sections::links(im, k, g);
     let mut h = head;
     for i in 0..n {
-        let a = image::sections::word(im, k, g, 2 + i) as usize;
+        let a = image::sections::word(im, k, g, 2 + i).value();
         h = visit(im, k, h, a);
     }
     bits_and_cards::bits::set_start(im, k, g);
@@ -65,20 +63,20 @@ pub fn settle(im: &mut [Word], k: usize, head: usize, g: usize) -> usize
 // The pending objects of bit word i, the bits of x, are settled, then those that became pending in it meanwhile: so a list of
 // neighbours is followed without a turn for each. None of x hangs on another: the links of the next are read while those of the one
 // before are still followed.
-pub fn settle_bits(im: &mut [Word], k: usize, head: usize, i: usize, x: Word) -> usize
-    requires sized { Sized width k im.old }
-    requires i_bound { i < 64 * k / width }
-    requires underway { Underway k (image_of width k im.old) (width * i) head }
-    requires pending_word { PendingWord width (image_of width k im.old) i x }
-    ensures { SettledTo k (image_of width k im.old) (width * i) head (width * i + width) (headed result (image_of width k im.new)) }
+pub fn settle_bits<W: Word>(im: &mut [W], k: usize, head: usize, i: usize, x: W) -> usize
+    requires sized { Sized W.BITS k (W.words im.old) }
+    requires i_bound { i < 64 * k / W.BITS }
+    requires underway { Underway k (image_of W.BITS k (W.words im.old)) (W.BITS * i) head }
+    requires pending_word { PendingWord W.BITS (image_of W.BITS k (W.words im.old)) i (W.value x) }
+    ensures { SettledTo k (image_of W.BITS k (W.words im.old)) (W.BITS * i) head (W.BITS * i + W.BITS) (headed result (image_of W.BITS k (W.words im.new))) }
 {
     let mut h = head;
     let mut left = x;
-    while left != 0 {
-        let j = u64::trailing_zeros(left as u64) as usize;
-        h = settle(im, k, h, BITS * i + j);
-        left = bits_and_cards::bits::without_bit(left, j as Word);
-        if left == 0 {
+    while left.value() != 0 {
+        let j = left.value().trailing_zeros() as usize;
+        h = settle(im, k, h, W::BITS * i + j);
+        left = bits_and_cards::bits::without_bit(left, j);
+        if left.value() == 0 {
             left = pending_word(im, k, i);
         }
     }

@@ -69,19 +69,19 @@ links_end t m' e = rw (← t.number, ← t.state, e)
 
 -- ---- the pending objects of a word
 
--- marks x without starts s, whose complement is y
-pub pending_word : (w : ℕ) (m : Image) → m.width ≡ w → (i x s y : ℕ) → x ≡ nth m.marks i → s ≡ nth m.starts i → s + y + 1 ≡ 2 ^ w → PendingWord w m i (bit_and x y)
-pending_word w m e i x s y ex es h = record {
+-- marks x without starts s, whose complement in 64 bits is y
+pub pending_word : (w : ℕ) (m : Image) → m.width ≡ w → w ≤ 64 → (i x s y v : ℕ) → x ≡ nth m.marks i → s ≡ nth m.starts i → s + y + 1 ≡ 2 ^ 64 → v ≡ bit_and x y → PendingWord w m i v
+pending_word w m e o i x s y v ex es h ev = rw ev (record {
   some = λ j l q.
       let b : 1 ≡ min (mark_bit m (w * i + j)) (1 - start_bit m (w * i + j)) = sym (digit_on q) ∙ bits j l in
       record { is_marked = omega (arith, digit_le (marked m (w * i + j))); bare = omega (arith, digit_le (is_start m (w * i + j))) };
   all = λ j l p. on_digit _ (bits j l ∙ omega (arith, p.is_marked, p.bare));
-}
+})
   where
     bits : (j : ℕ) → j < w → bit_of (bit_and x y) j ≡ min (mark_bit m (w * i + j)) (1 - start_bit m (w * i + j))
     bits j l =
         rw (mark_digit w m e (w * i + j), start_digit w m e (w * i + j), place_word w i j l, place_bit w i j l, ← ex, ← es, bit-and x y j)
-        (ap (min (bit_of x j)) (omega (arith, bit_not w s y j h l)))
+        (ap (min (bit_of x j)) (omega (arith, bit_not 64 s y j h (omega arith))))
 
 -- ---- the loop over them
 

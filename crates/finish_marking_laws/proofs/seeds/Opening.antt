@@ -21,7 +21,7 @@ use Rattle.image_laws.specs.Sized.{Sized}
 use Rattle.image_laws.proofs.Digits.{digit_two, digit_le, digit_off, bit-and, bit_not, mark_digit, start_digit}
 use Rattle.image_laws.proofs.Lengths.{width_image, sized_width, starts_words}
 use Rattle.image_laws.proofs.Masks.{clear_same, clear_other}
-use Rattle.image_laws.proofs.Places.{some_bits, word_on_card, card_in_word}
+use Rattle.image_laws.proofs.Places.{by_width, word_on_card, card_in_word}
 
 -- ---- one object
 
@@ -41,18 +41,18 @@ one_some k m m' a s h n e =
       only = λ g. elim (ℕ_discrete g a) [ yes q ↦ inl (record { eq = q; some = n }) | no q ↦ inr (ap digit (clear_other m.width m.starts a g q)) ];
     })
 
--- ---- one word of w bits, with marks x, whose complement is y, and starts s
+-- ---- one word of w bits, with marks x, whose complement in 64 bits is y, and starts s
 
-module _ (w : ℕ) (m : Image) (e : m.width ≡ w) (o : 0 < w) (i x s y : ℕ) (ex : x ≡ nth m.marks i) (es : s ≡ nth m.starts i) (h : i < length m.starts) (f : x + y + 1 ≡ 2 ^ w) where
+module _ (w : ℕ) (m : Image) (e : m.width ≡ w) (o : (0 < w) × (w ≤ 64)) (i x s y v : ℕ) (ex : x ≡ nth m.marks i) (es : s ≡ nth m.starts i) (h : i < length m.starts) (f : x + y + 1 ≡ 2 ^ 64) (ev : v ≡ bit_and s y) where
   abbrev after_word : Image
-  after_word = with_starts m (put m.starts i (bit_and s y))
+  after_word = with_starts m (put m.starts i v)
 
   after : (g : ℕ) → g / w ≡ i → start_bit after_word g ≡ min (start_bit m g) (1 - mark_bit m g)
   unfolding with_starts
   after g q =
       start_digit w after_word e g
-      ∙ rw (mark_digit w m e g, start_digit w m e g, q, nth_put_same, bit-and s y (g % w), ← ex, ← es)
-      (ap (min (bit_of s (g % w))) (omega (arith, bit_not w x y (g % w) f (mod-lt g o))))
+      ∙ rw (mark_digit w m e g, start_digit w m e g, q, nth_put_same, ev, bit-and s y (g % w), ← ex, ← es)
+      (ap (min (bit_of s (g % w))) (omega (arith, bit_not 64 x y (g % w) f (omega (arith, mod-lt g o.0, o.1)))))
 
   word_bared : Bared m after_word (WordAt w (mark_bit m) i)
   unfolding with_starts marked
@@ -68,10 +68,11 @@ module _ (w : ℕ) (m : Image) (e : m.width ≡ w) (o : 0 < w) (i x s y : ℕ) (
     ];
   }
 
-pub open_word : (w k : ℕ) (ws : List ℕ) → Sized w k ws → (i x s y : ℕ) → i < 64 * k / w → x ≡ nth (image_of w k ws).marks i → s ≡ nth (image_of w k ws).starts i → x + y + 1 ≡ 2 ^ w → (m : Image)
-    → m ≡ with_starts (image_of w k ws) (put (image_of w k ws).starts i (bit_and s y)) → Bared (image_of w k ws) m (WordAt w (mark_bit (image_of w k ws)) i)
-open_word w k ws z i x s y h ex es f m e =
-    rw e (word_bared w (image_of w k ws) (width_image w k ws) (some_bits w k (sized_width z)) i x s y ex es (omega (arith, starts_words z)) f)
+pub open_word : (w k : ℕ) (ws : List ℕ) → Sized w k ws → (i x s y v : ℕ) → i < 64 * k / w → x ≡ nth (image_of w k ws).marks i → s ≡ nth (image_of w k ws).starts i → x + y + 1 ≡ 2 ^ 64 → v ≡ bit_and s y → (m : Image)
+    → m ≡ with_starts (image_of w k ws) (put (image_of w k ws).starts i v) → Bared (image_of w k ws) m (WordAt w (mark_bit (image_of w k ws)) i)
+open_word w k ws z i x s y v h ex es f ev m e =
+    let o : (0 < w) × (w ≤ 64) = by_width (λ w. (0 < w) × (w ≤ 64)) (omega arith, omega arith) (omega arith, omega arith) (sized_width z) in
+    rw e (word_bared w (image_of w k ws) (width_image w k ws) o i x s y v ex es (omega (arith, starts_words z)) f ev)
 
 -- ---- a card, word by word
 

@@ -3,13 +3,13 @@ use Rattle.finish_marking_laws.proofs.follow.Visits.{visit_nil, visit_marked, vi
 use Rattle.settled_objects.proofs.settling.visit.Goals as goal
 
 pub returns-then-a-eq0 : goal.returns-then-a-eq0
-returns-then-a-eq0 c = record { im_after = search visit_nil; upper_bound = search rules }
+returns-then-a-eq0 g c = record { im_after = search (rules, visit_nil); upper_bound = search rules }
 
 pub returns-then-is_marked : goal.returns-then-is_marked
-returns-then-is_marked c = record { im_after = search visit_marked; upper_bound = search rules }
+returns-then-is_marked g c = record { im_after = search (rules, visit_marked); upper_bound = search rules }
 
 pub returns-then-v-ne0 : goal.returns-then-v-ne0
-returns-then-v-ne0 c = record { im_after = search visit_on; upper_bound = search rules }
+returns-then-v-ne0 g c = record { im_after = search (rules, visit_on); upper_bound = search rules }
 
 pub returns : goal.returns
-returns c = record { im_after = search visit_new; upper_bound = search rules }
+returns g c = record { im_after = search (rules, visit_new); upper_bound = search rules }
