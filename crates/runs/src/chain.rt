@@ -4,25 +4,24 @@ ghost use Rattle.model.specs.Image.{image_of, word, first_run};
 ghost use Rattle.model.specs.Mutate.{tightest, room_for};
 ghost use Rattle.image_laws.specs.Sized.{Sized};
 ghost use Rattle.runs_laws.specs.Chain.{Linked, room_of};
-ghost use Rattle.image.specs.Layout.{width};
 
-use image::layout::Word;
+use image::word::Word;
 use runs_laws::Room;
 
-pub fn run_length(im: &[Word], k: usize, g: usize) -> usize
-    requires sized { Sized width k im.now }
+pub fn run_length<W: Word>(im: &[W], k: usize, g: usize) -> usize
+    requires sized { Sized W.BITS k (W.words im.now) }
     requires g_bound { g < 64 * k }
-    ensures { result ≡ word (image_of width k im.now) g 0 }
+    ensures { result ≡ word (image_of W.BITS k (W.words im.now)) g 0 }
 {
-    image::sections::word(im, k, g, 0) as usize
+    image::sections::word(im, k, g, 0).value()
 }
 
-pub fn next_run(im: &[Word], k: usize, g: usize) -> usize
-    requires sized { Sized width k im.now }
+pub fn next_run<W: Word>(im: &[W], k: usize, g: usize) -> usize
+    requires sized { Sized W.BITS k (W.words im.now) }
     requires g_bound { g < 64 * k }
-    ensures { result ≡ word (image_of width k im.now) g 1 }
+    ensures { result ≡ word (image_of W.BITS k (W.words im.now)) g 1 }
 {
-    image::sections::word(im, k, g, 1) as usize
+    image::sections::word(im, k, g, 1).value()
 }
 
 // A run of `length` granules suffices for b, and is shorter than run `run`, which has `least`, or `run` is 0: there is none yet.
@@ -33,15 +32,15 @@ fn tighter(b: usize, length: usize, run: usize, least: usize) -> bool
 }
 
 // "the shortest run that suffices, the lowest of equals"; none is shorter than one of just b granules.
-pub fn find_room(im: &[Word], k: usize, b: usize) -> Room
-    requires sized { Sized width k im.now }
-    requires linked { Linked (image_of width k im.now) (first_run (image_of width k im.now)) }
-    ensures { room_of result ≡ room_for tightest (image_of width k im.now) b }
+pub fn find_room<W: Word>(im: &[W], k: usize, b: usize) -> Room
+    requires sized { Sized W.BITS k (W.words im.now) }
+    requires linked { Linked (image_of W.BITS k (W.words im.now)) (first_run (image_of W.BITS k (W.words im.now))) }
+    ensures { room_of result ≡ room_for tightest (image_of W.BITS k (W.words im.now)) b }
 {
     let mut best = Room { run: 0, before: 0 };
     let mut least: usize = 0;
     let mut before: usize = 0;
-    let mut g = image::sections::first_run(im, k) as usize;
+    let mut g = image::sections::first_run(im, k).value();
     while g != 0 {
         let length = run_length(im, k, g);
         if tighter(b, length, best.run, least) {

@@ -3,16 +3,16 @@ ghost use Rattle.std.specs.Prelude.{◌≡◌};
 ghost use Rattle.model.specs.Image.{Image};
 ghost use Rattle.model.specs.Mutate.{tightest, usable_granules};
 ghost use Rattle.model.specs.Steps.{step};
-ghost use Rattle.request_laws.specs.Answer.{asked};
-ghost use Rattle.request.specs.Answer.{done_of};
+ghost use Rattle.request_laws.specs.Answer.{asked, done_of};
 
-use request::answer::Answer;
+use image::word::Word;
+use request_laws::Refusal;
 
-pub fn due(usable: usize, a: usize) -> Answer
-    ensures { (m : Image) → usable ≡ usable_granules m → done_of result m ≡ step tightest m (asked 14 0 a 0 0) }
+pub fn due<W: Word>(usable: usize, a: usize) -> Result<W, Refusal>
+    ensures { (m : Image) → usable ≡ usable_granules m → done_of W.value result m ≡ step tightest m (asked 14 0 a 0 0) }
 {
     if usable < a {
-        return Answer::Done(1);
+        return Ok(W::of(1));
     }
-    Answer::Done(0)
+    Ok(W::of(0))
 }

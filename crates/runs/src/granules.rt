@@ -4,10 +4,9 @@ ghost use Rattle.model.specs.Image.{image_of};
 ghost use Rattle.model.specs.Mutate.{if_long, usable_run};
 ghost use Rattle.theory.specs.Lines.{Sound};
 ghost use Rattle.image_laws.specs.Sized.{Sized};
-ghost use Rattle.image.specs.Layout.{width};
 ghost use Rattle.runs_laws.specs.Granules.{free_of, grown};
 
-use image::layout::Word;
+use image::word::Word;
 use runs_laws::Free;
 
 // "only runs of 8 granules or more count"
@@ -35,19 +34,19 @@ pub fn grow(f: Free, n: usize) -> Free
 }
 
 // Along the chain of all runs.
-pub fn count(im: &[Word], k: usize) -> Free
-    requires sized { Sized width k im.now }
-    requires sound { Sound (image_of width k im.now) }
-    ensures { result ≡ free_of (image_of width k im.now) }
+pub fn count<W: Word>(im: &[W], k: usize) -> Free
+    requires sized { Sized W.BITS k (W.words im.now) }
+    requires sound { Sound (image_of W.BITS k (W.words im.now)) }
+    ensures { result ≡ free_of (image_of W.BITS k (W.words im.now)) }
 {
     let mut f = Free {
         granules: 0,
         usable: 0,
     };
-    let mut g = image::sections::first_run(im, k) as usize;
+    let mut g = image::sections::first_run(im, k).value();
     while g != 0 {
-        let length = image::sections::word(im, k, g, 0);
-        f = grow(f, length as usize);
+        let length = image::sections::word(im, k, g, 0).value();
+        f = grow(f, length);
         g = crate::chain::next_run(im, k, g);
     }
     f

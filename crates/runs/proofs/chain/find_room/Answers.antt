@@ -7,27 +7,27 @@ use Rattle.runs.proofs.chain.find_room.Goals.{then-tighter+else-length-b, else-t
 
 pub loop-g-init : goal.loop-g-init
 unfolding granules image_of image
-loop-g-init c = search walk_first
+loop-g-init g c = search (rules, walk_first)
 
 pub run_length-length-requires : goal.run_length-length-requires
 unfolding granules image_of image
-run_length-length-requires c = record { sized = search rules; g_bound = omega (arith, walk_in _ _ _ _ _ _ c.loop-g.invariant c.loop-g-test.true) }
+run_length-length-requires g c = record { sized = search rules; g_bound = omega (arith, walk_in _ _ _ _ _ _ c.loop-g.invariant c.loop-g-test.true) }
 
 pub returns-then-length-b : goal.returns-then-length-b
 unfolding granules image_of image
-returns-then-length-b c = walk_exact _ _ _ _ _ _ c.loop-g.invariant c.loop-g-test.true _ c.run_length-length.ensures _ c.tighter.ensures c.if-tighter.true (omega arith)
+returns-then-length-b g c = walk_exact _ _ _ _ _ _ c.loop-g.invariant c.loop-g-test.true _ c.run_length-length.ensures _ c.tighter.ensures c.if-tighter.true (omega arith)
 
 pub next_run-g-requires : goal.next_run-g-requires
 unfolding granules image_of image
-next_run-g-requires c = record { sized = search rules; g_bound = omega (arith, walk_in _ _ _ _ _ _ c.loop-g.invariant c.loop-g-test.true) }
+next_run-g-requires g c = record { sized = search rules; g_bound = omega (arith, walk_in _ _ _ _ _ _ c.loop-g.invariant c.loop-g-test.true) }
 
 pub loop-g-smaller : goal.loop-g-smaller
 unfolding granules image_of image
-loop-g-smaller c = rw c.next_run-g.ensures (walk_less _ _ _ _ _ _ c.loop-g.invariant c.loop-g-test.true)
+loop-g-smaller g c = rw c.next_run-g.ensures (walk_less _ _ _ _ _ _ c.loop-g.invariant c.loop-g-test.true)
 
 pub loop-g-preserved : goal.loop-g-preserved
 unfolding granules image_of image
-loop-g-preserved c =
+loop-g-preserved g c =
     let w = c.loop-g.invariant in
     let h = c.loop-g-test.true in
     rw c.next_run-g.ensures (elim c.if-tighter.branch [
@@ -37,4 +37,4 @@ loop-g-preserved c =
 
 pub returns : goal.returns
 unfolding granules image_of image
-returns c = search walk_end
+returns g c = search (rules, walk_end)
