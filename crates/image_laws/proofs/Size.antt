@@ -1,6 +1,6 @@
 -- The number of cards from the number of words, and what it says of a slice.
 use mathlib.Core.Path.{◌≡◌, sym, ap, ◌∙◌}
-use mathlib.Core.Logic.{inl, inr}
+use mathlib.Core.Logic.{◌⊎◌, inl, inr}
 use mathlib.Core.Bool.{Bool, true, false}
 use mathlib.Core.List.{List, [], ◌∷◌}
 use Prim.Native.Nat.{ℕ, ◌+◌, ◌*◌, ◌-◌, ◌/◌, ◌<◌, ◌≤◌}
@@ -16,41 +16,47 @@ use native.Mathlib.Nat.{div-eq_of_lt, le-div_iff_mul-le}
 use Rattle.std.proofs.Common.{Option, Some, None}
 use Rattle.image_laws.specs.Size.{extent_by, extent_of}
 use Rattle.image_laws.specs.Sized.{Sized}
+use Rattle.image_laws.proofs.Places.{by_width}
 
--- ---- the ways out of `cards`, where a card has u words, r words lie behind, and a store has at most `most` cards
+-- the words that each card has, with b words of start bits, and those behind the cards
+words_per_card : {w b : ℕ} → (w ≡ 16) ⊎ (w ≡ 32) → b ≡ 64 / w → (k : ℕ) → image_length w k ≡ (258 + 2 * b) * k + 1384
+words_per_card o e k = rw e (by_width (λ w. image_length w k ≡ (258 + 2 * (64 / w)) * k + 1384) (omega arith) (omega arith) o)
 
-module _ (w u r most n : ℕ) (per : (k : ℕ) → image_length w k ≡ u * k + r) (lim : most_cards w ≡ most) (pos : 1 ≤ u) where
-  size_by : (b : Bool) → every (leb 1 ((n - r) / u) ∷ leb ((n - r) / u) most ∷ eqb n (u * ((n - r) / u) + r) ∷ []) ≡ b → extent_by b ((n - r) / u) ≡ extent_of w n
+-- ---- the ways out of `cards`
+
+module _ {w b most : ℕ} (n : ℕ) (o : (w ≡ 16) ⊎ (w ≡ 32)) (e : b ≡ 64 / w) (lim : most ≡ most_cards w) where
+  size_by : (fit : Bool) → every (leb 1 ((n - 1384) / (258 + 2 * b)) ∷ leb ((n - 1384) / (258 + 2 * b)) most ∷ eqb n ((258 + 2 * b) * ((n - 1384) / (258 + 2 * b)) + 1384) ∷ []) ≡ fit → extent_by fit ((n - 1384) / (258 + 2 * b)) ≡ extent_of w n
   unfolding extent_of fits cards_of
-  size_by b e =
-      let z : image_length w 0 ≡ r = per 0 ∙ omega arith in
-      let d : image_length w 1 - image_length w 0 ≡ u = omega (arith, per 1, per 0) in
-      rw (d, z, lim, per, e)
+  size_by fit h =
+      let per : (k : ℕ) → image_length w k ≡ (258 + 2 * b) * k + 1384 = words_per_card o e in
+      let z : image_length w 0 ≡ 1384 = per 0 ∙ omega arith in
+      let d : image_length w 1 - image_length w 0 ≡ 258 + 2 * b = omega (arith, per 1, per 0) in
+      rw (d, z, ← lim, per, h)
 
-  some_cards : u + r ≤ n → 1 ≤ (n - r) / u
-  some_cards h = (le-div_iff_mul-le pos).1 (omega arith)
+  some_cards : 258 + 2 * b + 1384 ≤ n → 1 ≤ (n - 1384) / (258 + 2 * b)
+  some_cards h = (le-div_iff_mul-le (omega arith)).1 (omega arith)
 
-  pub cards_few : n < u + r → None ≡ extent_of w n
+  pub cards_few : n < 258 + 2 * b + 1384 → None ≡ extent_of w n
   unfolding extent_by every
   cards_few h =
-      let z : (n - r) / u ≡ 0 = div-eq_of_lt (omega arith) in
-      size_by false (rw (lt-leb 1 ((n - r) / u) (omega arith)))
+      let z : (n - 1384) / (258 + 2 * b) ≡ 0 = div-eq_of_lt (omega arith) in
+      size_by false (rw (lt-leb 1 ((n - 1384) / (258 + 2 * b)) (omega arith)))
 
-  pub cards_many : most < (n - r) / u → None ≡ extent_of w n
+  pub cards_many : most < (n - 1384) / (258 + 2 * b) → None ≡ extent_of w n
   unfolding extent_by every
-  cards_many h = size_by false (rw (le-leb 1 ((n - r) / u) (omega arith), lt-leb ((n - r) / u) most h))
+  cards_many h = size_by false (rw (le-leb 1 ((n - 1384) / (258 + 2 * b)) (omega arith), lt-leb ((n - 1384) / (258 + 2 * b)) most h))
 
-  pub cards_odd : u + r ≤ n → (n - r) / u ≤ most → (u * ((n - r) / u) + r ≡ n → ⊥) → None ≡ extent_of w n
+  pub cards_odd : 258 + 2 * b + 1384 ≤ n → (n - 1384) / (258 + 2 * b) ≤ most → ((258 + 2 * b) * ((n - 1384) / (258 + 2 * b)) + 1384 ≡ n → ⊥) → None ≡ extent_of w n
   unfolding extent_by every
   cards_odd h l q =
-      let k : ℕ = (n - r) / u in
-      size_by false (rw (le-leb 1 k (some_cards h), le-leb k most l, ne_eqb n (u * k + r) (λ e. q (sym e))))
+      let k : ℕ = (n - 1384) / (258 + 2 * b) in
+      size_by false (rw (le-leb 1 k (some_cards h), le-leb k most l, ne_eqb n ((258 + 2 * b) * k + 1384) (λ e. q (sym e))))
 
-  pub cards_fit : u + r ≤ n → (n - r) / u ≤ most → u * ((n - r) / u) + r ≡ n → Some ((n - r) / u) ≡ extent_of w n
+  pub cards_fit : 258 + 2 * b + 1384 ≤ n → (n - 1384) / (258 + 2 * b) ≤ most → (258 + 2 * b) * ((n - 1384) / (258 + 2 * b)) + 1384 ≡ n → Some ((n - 1384) / (258 + 2 * b)) ≡ extent_of w n
   unfolding extent_by every
   cards_fit h l q =
-      let k : ℕ = (n - r) / u in
-      size_by true (rw (le-leb 1 k (some_cards h), le-leb k most l, eq-eqb n (u * k + r) (sym q)))
+      let k : ℕ = (n - 1384) / (258 + 2 * b) in
+      size_by true (rw (le-leb 1 k (some_cards h), le-leb k most l, eq-eqb n ((258 + 2 * b) * k + 1384) (sym q)))
 
 -- ---- what the answer says
 

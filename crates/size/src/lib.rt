@@ -3,23 +3,25 @@
 
 ghost use Rattle.std.specs.Prelude.{◌≡◌};
 ghost use Rattle.image_laws.specs.Size.{extent_of};
-ghost use Rattle.image.specs.Layout.{width};
 
-use image::layout::{BEHIND, MOST_CARDS, PER_CARD, SHORTEST};
-use image_laws::Extent;
+use image::word::Word;
 
-pub fn cards(n: usize) -> Extent
-    ensures { result ≡ extent_of width n }
+// The words behind those that each card has.
+const BEHIND: usize = 1384;
+
+pub fn cards<W: Word>(n: usize) -> Option<usize>
+    ensures { result ≡ extent_of W.BITS n }
 {
-    if n < SHORTEST {
-        return Extent::Misfit;
+    let per_card = 258 + 2 * W::CARD_BITS;
+    if n < per_card + BEHIND {
+        return None;
     }
-    let k = (n - BEHIND) / PER_CARD;
-    if MOST_CARDS < k {
-        return Extent::Misfit;
+    let k = (n - BEHIND) / per_card;
+    if W::MOST_CARDS < k {
+        return None;
     }
-    if PER_CARD * k + BEHIND != n {
-        return Extent::Misfit;
+    if per_card * k + BEHIND != n {
+        return None;
     }
-    Extent::Cards(k)
+    Some(k)
 }

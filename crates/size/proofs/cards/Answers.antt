@@ -1,17 +1,16 @@
 use borrow.Author.Rules.{rules}
-use Rattle.image.specs.Layout.{width, most, per_card, behind}
-use mathlib.Core.Path.{refl}
+use Rattle.std.proofs.Common.{◌∙◌}
 use Rattle.image_laws.proofs.Size.{cards_few, cards_many, cards_odd, cards_fit}
 use Rattle.size.proofs.cards.Goals as goal
 
-pub returns-then-n-lt-SHORTEST : goal.returns-then-n-lt-SHORTEST
-returns-then-n-lt-SHORTEST c = cards_few width per_card behind most _ (λ k. search rules) refl (search rules) (search rules)
+pub returns-then-n-per_card : goal.returns-then-n-per_card
+returns-then-n-per_card g c = search (rules, g.met.W.Word.laws, cards_few)
 
-pub returns-then-k-gt-MOST_CARDS : goal.returns-then-k-gt-MOST_CARDS
-returns-then-k-gt-MOST_CARDS c = cards_many width per_card behind most _ (λ k. search rules) refl (search rules) (search rules)
+pub returns-then-MOST_CARDS-k : goal.returns-then-MOST_CARDS-k
+returns-then-MOST_CARDS-k g c = search (rules, g.met.W.Word.laws, cards_many)
 
-pub returns-then-k-n : goal.returns-then-k-n
-returns-then-k-n c = cards_odd width per_card behind most _ (λ k. search rules) refl (search rules) (search rules) (search rules) (search rules)
+pub returns-then-per_card-k : goal.returns-then-per_card-k
+returns-then-per_card-k g c = search (rules, g.met.W.Word.laws, cards_odd)
 
 pub returns : goal.returns
-returns c = cards_fit width per_card behind most _ (λ k. search rules) refl (search rules) (search rules) (search rules) (search rules)
+returns g c = search (rules, g.met.W.Word.laws, cards_fit)
