@@ -1,7 +1,6 @@
 -- The words of a section by name.
-use Rattle.std.proofs.Common.{◌≡◌, ◌∙◌, ap, refl, List, [], ℕ, set, get_or}
-use Rattle.model.specs.Base.{put}
-use Rattle.model.specs.Image.{lengths, split, image, image_of, replaced, set_section, sections, with_heap, with_starts, with_marks, with_cards, with_counts, with_regs, with_packets, with_tracers, with_players, with_general}
+use Rattle.std.proofs.Common.{◌≡◌, refl, List, [], ℕ, set, get_or}
+use Rattle.model.specs.Image.{lengths, split, image, image_of, with_heap, with_starts, with_marks, with_cards, with_counts, with_regs, with_packets, with_tracers, with_players, with_general}
 use Rattle.image.specs.declared.section.Section.{Section}
 use Rattle.image.specs.declared.section.Section.TheVariants.{Heap, Starts, Marks, Cards, Counts, Regs, Packets, Tracers, Players, General}
 use Rattle.image.specs.Section.{number_of, part, with_part}

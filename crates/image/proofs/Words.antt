@@ -1,5 +1,5 @@
 -- A slice of words, read and written, by the numbers that they are: word by word, and in the sections of an image.
-use Rattle.std.proofs.Common.{◌≡◌, ◌∙◌, sym, ap, List, [], ◌∷◌, map, ℕ, zero, suc, arith, ◌+◌, ◌<◌, ◌-◌, length, get_or, set, take, drop}
+use Rattle.std.proofs.Common.{◌≡◌, ◌∙◌, sym, ap, List, [], ◌∷◌, map, ℕ, zero, suc, arith, ◌+◌, ◌<◌, length, get_or, set, take, drop}
 use Rattle.std.proofs.lemmas.List.{get_or-map, map-set, length-map, take-map}
 use Rattle.std.specs.List.{drop-map}
 use Rattle.model.specs.Base.{nth, put}

@@ -1,5 +1,5 @@
 -- What a word of a store is.
-use Rattle.std.specs.Prelude.{◌≡◌, ◌⊎◌, refl, List, [], ◌∷◌, map, ℕ, ◌/◌, ◌^◌}
+use Rattle.std.specs.Prelude.{◌≡◌, ◌⊎◌, refl, List, map, ℕ, ◌/◌, ◌^◌}
 use Rattle.std.proofs.Common.{inl, inr, sym}
 use Rattle.std.proofs.lemmas.List.{map-id}
 use Rattle.model.specs.Image.{most_cards}

@@ -9,7 +9,6 @@ pub fn result(r: Result<(), Fault>) -> u16
 {
     match r {
         Ok(()) => 0,
-        Err(Fault::Misfit) => 1,
-        Err(Fault::Damaged) => 2,
+        Err(fault) => fault.into(),
     }
 }

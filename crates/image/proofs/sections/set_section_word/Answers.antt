@@ -1,7 +1,6 @@
 use borrow.Author.Rules.{rules}
-use Rattle.std.proofs.Common.{◌∙◌, ap}
-use Rattle.model.specs.Base.{put}
-use Rattle.image.specs.Section.{number_of, part}
+use Rattle.std.proofs.Common.{◌∙◌}
+use Rattle.image.specs.Section.{number_of}
 use Rattle.image.proofs.Words.{section_written}
 use Rattle.image.proofs.Named.{part_is, with_part_is}
 use Rattle.image.proofs.sections.set_section_word.Goals as goal
