@@ -2,7 +2,8 @@
 use mathlib.Core.Path.{◌≡◌, refl, sym, ap, fun_ext, ◌∙◌}
 use mathlib.Core.List.{List, [], ◌∷◌, ◌++◌}
 use mathlib.Core.Bool.{Bool, true, false, cond, ◌&&◌, ◌||◌}
-use Prim.Native.Nat.{ℕ, zero, suc, ◌+◌, ◌*◌, max, ◌≤◌, ◌<◌}
+use mathlib.Core.Logic.{◌⊎◌}
+use Prim.Native.Nat.{ℕ, zero, suc, ◌+◌, ◌*◌, ◌/◌, max, ◌≤◌, ◌<◌}
 use native.Mathlib.Nat.{mul-zero}
 use native.Mathlib.Decide.{dec_lt}
 use native.Mathlib.Omega.{arith}
@@ -15,6 +16,7 @@ use Rattle.model.specs.Image.{Image, is_start, marked, size, image, image_of}
 use Rattle.model.specs.Map.{in_object, sign_of, sign}
 use Rattle.model.proofs.Laws.{table_length, table_add}
 use Rattle.image_laws.proofs.Bits.{bit_at}
+use Rattle.image_laws.proofs.Places.{by_width}
 use Rattle.service_map_laws.specs.Ends.{end_before}
 use Rattle.service_map_laws.specs.Pasted.{pasted}
 use Rattle.service_map_laws.proofs.Pasted.{Pasting, pasting_none, pasting_more, pasting_end}
@@ -114,11 +116,13 @@ module _ {m : Image} {n at g s : ℕ} where
             ∙ (table_add (s * i) s (λ j. sign m (g + j))
             ∙ ap (λ f. table (s * i) (λ j. sign m (g + j)) ++ table s f) (fun_ext (λ j. ap (sign m) (place j))))
 
-    pub signs_carried : n ≤ i → end ≡ end_before m (g + s * n)
-    signs_carried h = let e : i ≡ n = omega (arith, t.signs.low) in rw e at t.carried
+    -- behind the last turn: l signs are written
+    module _ {l : ℕ} (e : s * n ≡ l) (h : n ≤ i) where
+      pub signs_carried : end ≡ end_before m (g + l)
+      signs_carried = t.carried ∙ ap (end_before m) (let q : i ≡ n = omega (arith, t.signs.low) in rw q (ap (λ x. g + x) e))
 
-    pub signs_end : n ≤ i → out ≡ pasted out₀ at (table (s * n) (λ j. sign m (g + j)))
-    signs_end h = pasting_end t.signs h
+      pub signs_end : out ≡ pasted out₀ at (table l (λ j. sign m (g + j)))
+      signs_end = rw e at (pasting_end t.signs h)
 
 -- one sign more, by the tests that the walk makes of the next granule
 module _ {m : Image} {n at g : ℕ} {out₀ out : List ℕ} {end i : ℕ} (t : SignsTo m n at g 1 out₀ out end i) where
@@ -153,3 +157,19 @@ module _ (w k : ℕ) (ws : List ℕ) (x : ℕ) {at : ℕ} {out₀ out : List ℕ
 
       is_mark : test_bit mw j ≡ marked (image_of w k ws) (w * x + j)
       is_mark = ap (λ y. test_bit y j) emw ∙ (sym (bit_at w (image_of w k ws).marks x j l) ∙ (unfold marked in unfold image_of in unfold image in refl))
+
+-- ---- bit word i of the b = 64 / w words of card c
+
+module _ {w b : ℕ} (o : (w ≡ 16) ⊎ (w ≡ 32)) (e : b ≡ 64 / w) where
+  pub words_card : w * b ≡ 64
+  words_card = rw e (by_width (λ w. w * (64 / w) ≡ 64) (omega arith) (omega arith) o)
+
+  module _ {i : ℕ} (l : i < b) where
+    pub bits_card : w * i + w ≤ 64
+    bits_card = by_width (λ w. i < 64 / w → w * i + w ≤ 64) (λ h. omega arith) (λ h. omega arith) o (rw e at l)
+
+    pub word_store : {c k : ℕ} → c < k → b * c + i < 64 * k / w
+    word_store {c = c} {k = k} h = rw e (by_width (λ w. i < 64 / w → 64 / w * c + i < 64 * k / w) (λ l. omega arith) (λ l. omega arith) o (rw e at l))
+
+  pub word_granule : (c i : ℕ) → w * (b * c + i) ≡ 64 * c + w * i
+  word_granule c i = rw e (by_width (λ w. w * (64 / w * c + i) ≡ 64 * c + w * i) (omega arith) (omega arith) o)

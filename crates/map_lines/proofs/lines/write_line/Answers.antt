@@ -3,4 +3,4 @@ use Rattle.service_map_laws.proofs.Lines.{line_of}
 use Rattle.map_lines.proofs.lines.write_line.Goals as goal
 
 pub returns : goal.returns
-returns c = record { value = search rules; out_after = search line_of }
+returns g c = record { value = search rules; out_after = search (rules, line_of) }
