@@ -1,28 +1,25 @@
 // Granules told by bits: those of the image that a word may name, and sets in tables that are lent.
 #![tactic(auto)]
 
-ghost use Rattle.std.specs.Prelude.{◌≡◌, not, ◌&&◌, ◌||◌, ◌/◌, ◌<◌, min, eqb, leb, ltb, length, replicate};
+ghost use Rattle.std.specs.Prelude.{◌≡◌, not, ◌&&◌, ◌||◌, ◌+◌, ◌*◌, ◌/◌, ◌≤◌, ◌<◌, min, eqb, leb, ltb, length, replicate};
 ghost use Rattle.model.specs.Base.{bit, set_bit};
 ghost use Rattle.model.specs.Image.{image_of, is_start, marked};
 ghost use Rattle.model.specs.Undamaged.{nil_or_start};
 ghost use Rattle.image_laws.specs.Sized.{Sized};
-ghost use Rattle.soundness_laws.specs.Sets.{Named, table_words};
-ghost use Rattle.image.specs.Layout.{width, most};
+ghost use Rattle.soundness_laws.specs.Sets.{CardBits, Named, table_words};
 
-use image::layout::{BITS, MOST_CARDS, Word};
+use image::word::Word;
 
 // How many granules a set of entries tells apart, and its words: one that grew with the store would be large in a large one.
 pub const APART: usize = 32768;
 
-pub const SEEN: usize = APART / BITS;
+pub const SEEN: usize = APART / 64;
 
 // A table has a bit for every number of 16 bits: with words of 16 bits, a link is tested by it alone.
 const NUMBERS: usize = 65536;
 
-pub const TABLE: usize = NUMBERS / BITS;
-
-// The most cards of a store whose granules all have a bit there.
-const TABLED: usize = 1024;
+// A word of it has the bits of a card, so that as many cards have a word there.
+pub const TABLE: usize = NUMBERS / 64;
 
 pub fn least(a: usize, b: usize) -> usize
     ensures { result ≡ min a b }
@@ -32,108 +29,138 @@ pub fn least(a: usize, b: usize) -> usize
 
 // ---- sets
 
-pub fn in_set(set: &[Word], g: usize) -> bool
-    requires { g / width < length set.now }
-    ensures { result ≡ bit width set.now g }
+pub fn in_set(set: &[u64], g: usize) -> bool
+    requires { g / 64 < length set.now }
+    ensures { result ≡ bit 64 set.now g }
 {
-    bits_and_cards::bits::has_bit(set[g / BITS], (g % BITS) as Word)
+    (set[g / 64] >> (g % 64)) & 1 == 1
 }
 
 // whether g was not yet seen; it is now
-pub fn first_time(seen: &mut [Word], g: usize) -> bool
-    requires { g / width < length seen.old }
-    ensures { (result ≡ not (bit width seen.old g)) × (seen.new ≡ set_bit width seen.old g) }
+pub fn first_time(seen: &mut [u64], g: usize) -> bool
+    requires { g / 64 < length seen.old }
+    ensures { (result ≡ not (bit 64 seen.old g)) × (seen.new ≡ set_bit 64 seen.old g) }
 {
-    let w = g / BITS;
-    let j = (g % BITS) as Word;
-    let x = seen[w];
-    seen[w] = bits_and_cards::bits::with_bit(x, j);
-    !bits_and_cards::bits::has_bit(x, j)
+    let is_new = !in_set(seen, g);
+    seen[g / 64] |= 1 << (g % 64);
+    is_new
+}
+
+// ---- bit words of an image, or of a plane that has one for each of its own
+
+pub fn in_plane<W: Word>(plane: &[W], g: usize) -> bool
+    requires { g / W.BITS < length plane.now }
+    ensures { result ≡ bit W.BITS (W.words plane.now) g }
+{
+    bits_and_cards::bits::has_bit(plane[g / W::BITS], g % W::BITS)
+}
+
+pub fn start_words<W: Word>(im: &[W], k: usize) -> &[W]
+    requires { Sized W.BITS k (W.words im.now) }
+    ensures { W.words result.now ≡ (image_of W.BITS k (W.words im.now)).starts }
+{
+    &im[image::layout::starts_at::<W>(k)..image::layout::marks_at::<W>(k)]
+}
+
+pub fn mark_words<W: Word>(im: &[W], k: usize) -> &[W]
+    requires { Sized W.BITS k (W.words im.now) }
+    ensures { W.words result.now ≡ (image_of W.BITS k (W.words im.now)).marks }
+{
+    &im[image::layout::marks_at::<W>(k)..image::layout::cards_at::<W>(k)]
+}
+
+// The bits of card c as one number.
+pub fn card_bits<W: Word>(bits: &[W], c: usize) -> u64
+    requires { W.CARD_BITS * (c + 1) ≤ length bits.now }
+    ensures { CardBits W.BITS (W.words bits.now) c result }
+{
+    let mut x: u64 = 0;
+    for i in 0..W::CARD_BITS {
+        x += (bits[W::CARD_BITS * c + i].value() as u64) << (W::BITS * i);
+    }
+    x
 }
 
 // ---- what a word names: asked of a table, which has nil's bit besides those of the image; in a store with more granules of the image's own bits
 
-pub fn note_starts(im: &[Word], k: usize, table: &mut [Word])
-    requires sized { Sized width k im.now }
-    requires table_value { table.old ≡ replicate (table_words width) 0 }
-    ensures { Named width (image_of width k im.now).starts table.new }
+fn note<W: Word>(bits: &[W], k: usize, table: &mut [u64])
+    requires bits_length { length bits.now ≡ W.CARD_BITS * k }
+    requires table_value { table.old ≡ replicate table_words 0 }
+    ensures { Named W.BITS (W.words bits.now) table.new }
 {
-    let n = least(64 * k / BITS, TABLE);
-    let mut i = 0;
-    while i < n {
-        table[i] = image::sections::start_word(im, k, i);
-        i += 1;
+    for c in 0..least(k, TABLE) {
+        table[c] = card_bits(bits, c);
     }
-    let x = table[0];
-    table[0] = bits_and_cards::bits::with_bit(x, 0);
+    table[0] |= 1;
 }
 
-pub fn note_marks(im: &[Word], k: usize, table: &mut [Word])
-    requires sized { Sized width k im.now }
-    requires table_value { table.old ≡ replicate (table_words width) 0 }
-    ensures { Named width (image_of width k im.now).marks table.new }
+pub fn note_starts<W: Word>(im: &[W], k: usize, table: &mut [u64])
+    requires sized { Sized W.BITS k (W.words im.now) }
+    requires table_value { table.old ≡ replicate table_words 0 }
+    ensures { Named W.BITS (image_of W.BITS k (W.words im.now)).starts table.new }
 {
-    let n = least(64 * k / BITS, TABLE);
-    let mut i = 0;
-    while i < n {
-        table[i] = image::sections::mark_word(im, k, i);
-        i += 1;
-    }
-    let x = table[0];
-    table[0] = bits_and_cards::bits::with_bit(x, 0);
+    note(start_words(im, k), k, table);
+}
+
+pub fn note_marks<W: Word>(im: &[W], k: usize, table: &mut [u64])
+    requires sized { Sized W.BITS k (W.words im.now) }
+    requires table_value { table.old ≡ replicate table_words 0 }
+    ensures { Named W.BITS (image_of W.BITS k (W.words im.now)).marks table.new }
+{
+    note(mark_words(im, k), k, table);
 }
 
 // Whether the table is asked. By the store, not by the word: a branch between nil and granules beyond the table cannot be foretold.
-fn is_tabled(k: usize) -> bool
-    ensures { result ≡ (leb most 1024 || leb k 1024) }
+fn is_tabled<W: Word>(k: usize) -> bool
+    ensures { result ≡ (leb W.MOST_CARDS 1024 || leb k 1024) }
 {
-    (MOST_CARDS <= TABLED) | (k <= TABLED)
+    (W::MOST_CARDS <= TABLE) | (k <= TABLE)
 }
 
 // The bit is read of a number that the table has, or of a granule that the store has, so that no branch hangs on the word.
-fn in_table(table: &[Word], a: usize) -> bool
-    requires { length table.now ≡ table_words width }
-    ensures { result ≡ (ltb a 65536 && bit width table.now (min a 65535)) }
+fn in_table(table: &[u64], a: usize) -> bool
+    requires { length table.now ≡ table_words }
+    ensures { result ≡ (ltb a 65536 && bit 64 table.now (min a 65535)) }
 {
     let b = least(a, NUMBERS - 1);
     (a < NUMBERS) & in_set(table, b)
 }
 
-fn start_at(im: &[Word], k: usize, a: usize) -> bool
-    requires { Sized width k im.now }
-    ensures { result ≡ is_start (image_of width k im.now) a }
+fn start_at<W: Word>(im: &[W], k: usize, a: usize) -> bool
+    requires { Sized W.BITS k (W.words im.now) }
+    ensures { result ≡ is_start (image_of W.BITS k (W.words im.now)) a }
 {
     let b = least(a, 64 * k - 1);
     (a < 64 * k) & bits_and_cards::bits::is_start(im, k, b)
 }
 
-pub fn marked_at(im: &[Word], k: usize, a: usize) -> bool
-    requires { Sized width k im.now }
-    ensures { result ≡ marked (image_of width k im.now) a }
+pub fn marked_at<W: Word>(im: &[W], k: usize, a: usize) -> bool
+    requires { Sized W.BITS k (W.words im.now) }
+    ensures { result ≡ marked (image_of W.BITS k (W.words im.now)) a }
 {
     let b = least(a, 64 * k - 1);
     (a < 64 * k) & bits_and_cards::bits::is_marked(im, k, b)
 }
 
-pub fn is_target(im: &[Word], k: usize, table: &[Word], a: usize) -> bool
-    requires sized { Sized width k im.now }
-    requires named { Named width (image_of width k im.now).starts table.now }
-    ensures { result ≡ nil_or_start (image_of width k im.now) a }
+pub fn is_target<W: Word>(im: &[W], k: usize, table: &[u64], a: usize) -> bool
+    requires sized { Sized W.BITS k (W.words im.now) }
+    requires named { Named W.BITS (image_of W.BITS k (W.words im.now)).starts table.now }
+    ensures { result ≡ nil_or_start (image_of W.BITS k (W.words im.now)) a }
 {
-    if is_tabled(k) {
-        if a / BITS < TABLE {
+    if is_tabled::<W>(k) {
+        if a / 64 < TABLE {
             return in_set(table, a);
         }
     }
     (a == 0) | start_at(im, k, a)
 }
 
-pub fn nil_or_marked(im: &[Word], k: usize, table: &[Word], a: usize) -> bool
-    requires sized { Sized width k im.now }
-    requires named { Named width (image_of width k im.now).marks table.now }
-    ensures { result ≡ (eqb a 0 || marked (image_of width k im.now) a) }
+pub fn nil_or_marked<W: Word>(im: &[W], k: usize, table: &[u64], a: usize) -> bool
+    requires sized { Sized W.BITS k (W.words im.now) }
+    requires named { Named W.BITS (image_of W.BITS k (W.words im.now)).marks table.now }
+    ensures { result ≡ (eqb a 0 || marked (image_of W.BITS k (W.words im.now)) a) }
 {
-    if is_tabled(k) {
+    if is_tabled::<W>(k) {
         return in_table(table, a);
     }
     (a == 0) | marked_at(im, k, a)

@@ -73,6 +73,9 @@ module _ (w : ℕ) (o : (w ≡ 16) ⊎ (w ≡ 32)) (n : ℕ) (e : n ≡ 64 / w) 
   pub card_full : w * n ≡ 64
   card_full = rw e (by_width (λ w. w * (64 / w) ≡ 64) (omega arith) (omega arith) o)
 
+  pub cards_full : (k : ℕ) → n * k ≡ 64 * k / w
+  cards_full k = rw e (by_width (λ w. 64 / w * k ≡ 64 * k / w) (omega arith) (omega arith) o)
+
   pub joined_card : (ws : List ℕ) (c x i : ℕ) → Joined w ws (n * c) n x i → n ≤ i → CardBits w ws c x
   joined_card ws c x i s h =
       let q : i ≡ n = omega (arith, s.within) in

@@ -1,7 +1,7 @@
-use borrow.Author.Rules.{rules}
-use Rattle.model.specs.Base.{nth, bit}
+use lib.Bits.{and_mask}
+use Rattle.model.specs.Base.{nth, bit, test_bit}
 use Rattle.sets.proofs.in_set.Goals as goal
 
 pub returns : goal.returns
-unfolding bit nth
-returns c = search rules
+unfolding bit nth test_bit
+returns c = rw (and_mask _ 1)
