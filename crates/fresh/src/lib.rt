@@ -6,36 +6,30 @@ ghost use Rattle.model.specs.Undamaged.{fresh_store, fresh_at};
 ghost use Rattle.image_laws.specs.Sized.{Sized};
 ghost use Rattle.image_laws.specs.Fresh.{made_of};
 ghost use Rattle.image_laws.specs.Result.{result_of};
-ghost use Rattle.image.specs.Layout.{width};
 
-use image::layout::Word;
-use image_laws::{Extent, Verdict};
+use image::word::Word;
+use image_laws::Fault;
 
-pub fn make_fresh(im: &mut [Word], k: usize)
-    requires { Sized width k im.old }
-    ensures { im.new ≡ fresh_store width k }
+pub fn make_fresh<W: Word>(im: &mut [W], k: usize)
+    requires { Sized W.BITS k (W.words im.old) }
+    ensures { W.words im.new ≡ fresh_store W.BITS k }
 {
     stretches::clearing::clear(im);
-    image::sections::set_word(im, k, 1, 0, (64 * k - 1) as Word);
-    image::sections::set_first_run(im, k, 1);
+    image::sections::set_word(im, k, 1, 0, W::of(64 * k - 1));
+    image::sections::set_first_run(im, k, W::of(1));
 }
 
-fn make(im: &mut [Word]) -> Verdict
-    ensures { made_of (result_of result) im.new ≡ fresh_at width im.old }
+fn make<W: Word>(im: &mut [W]) -> Result<(), Fault>
+    ensures { made_of (result_of result) (W.words im.new) ≡ fresh_at W.BITS (W.words im.old) }
 {
-    let s = size::cards(im.len());
-    match s {
-        Extent::Misfit => Verdict::Misfit,
-        Extent::Cards(k) => {
-            make_fresh(im, k);
-            Verdict::Accepted
-        }
-    }
+    let k = size::cards::<W>(im.len()).ok_or(Fault::Misfit)?;
+    make_fresh(im, k);
+    Ok(())
 }
 
 // "Making one overwrites a slice of fitting length and gives 0, else gives 1 and writes nothing."
-pub fn fresh(im: &mut [Word]) -> u16
-    ensures { made_of result im.new ≡ fresh_at width im.old }
+pub fn fresh<W: Word>(im: &mut [W]) -> u16
+    ensures { made_of result (W.words im.new) ≡ fresh_at W.BITS (W.words im.old) }
 {
     image::result::result(make(im))
 }
