@@ -6,58 +6,56 @@ ghost use Rattle.model.specs.Steps.{step};
 ghost use Rattle.theory.specs.Heap.{ObjectAt};
 ghost use Rattle.theory.specs.Lines.{Sound};
 ghost use Rattle.image_laws.specs.Sized.{Sized};
-ghost use Rattle.image.specs.Layout.{width};
-ghost use Rattle.request_laws.specs.Answer.{asked};
-ghost use Rattle.request.specs.Answer.{done_of};
+ghost use Rattle.request_laws.specs.Answer.{asked, done_of};
 
-use image::layout::Word;
-use request::answer::Answer;
+use image::word::Word;
+use request_laws::Refusal;
 
 // The number of level words of the object at g.
-fn levels(im: &[Word], k: usize, g: usize) -> usize
-    requires sized { Sized width k im.now }
-    requires object_at { ObjectAt (image_of width k im.now) g }
-    ensures { result ≡ levels (image_of width k im.now) g }
+fn levels<W: Word>(im: &[W], k: usize, g: usize) -> usize
+    requires sized { Sized W.BITS k (W.words im.now) }
+    requires object_at { ObjectAt (image_of W.BITS k (W.words im.now)) g }
+    ensures { result ≡ levels (image_of W.BITS k (W.words im.now)) g }
 {
-    let s = image::sections::word(im, k, g, 0) as usize;
+    let s = image::sections::word(im, k, g, 0).value();
     let n = image::sections::links(im, k, g);
     4 * s - 2 - n
 }
 
-pub fn read(im: &[Word], k: usize, p: usize, a: usize, b: usize) -> Answer
-    requires sized { Sized width k im.now }
-    requires sound { Sound (image_of width k im.now) }
+pub fn read<W: Word>(im: &[W], k: usize, p: usize, a: usize, b: usize) -> Result<W, Refusal>
+    requires sized { Sized W.BITS k (W.words im.now) }
+    requires sound { Sound (image_of W.BITS k (W.words im.now)) }
     requires p_bound { (p < 16) × (a < 16) }
-    requires p_value { owed (image_of width k im.now) p ≡ 0 }
-    ensures { done_of result (image_of width k im.now) ≡ step tightest (image_of width k im.now) (asked 7 p a b 0) }
+    requires p_value { owed (image_of W.BITS k (W.words im.now)) p ≡ 0 }
+    ensures { done_of W.value result (image_of W.BITS k (W.words im.now)) ≡ step tightest (image_of W.BITS k (W.words im.now)) (asked 7 p a b 0) }
 {
-    let g = image::sections::reg(im, k, p, a) as usize;
+    let g = image::sections::reg(im, k, p, a).value();
     if g == 0 {
-        return Answer::NoObject;
+        return Err(Refusal::NoObject);
     }
     if levels(im, k, g) <= b {
-        return Answer::PastEnd;
+        return Err(Refusal::PastEnd);
     }
     let n = image::sections::links(im, k, g);
-    Answer::Done(image::sections::word(im, k, g, 2 + n + b))
+    Ok(image::sections::word(im, k, g, 2 + n + b))
 }
 
-pub fn write(im: &mut [Word], k: usize, p: usize, a: usize, b: usize, c: usize) -> Answer
-    requires sized { Sized width k im.old }
-    requires sound { Sound (image_of width k im.old) }
+pub fn write<W: Word>(im: &mut [W], k: usize, p: usize, a: usize, b: usize, c: usize) -> Result<W, Refusal>
+    requires sized { Sized W.BITS k (W.words im.old) }
+    requires sound { Sound (image_of W.BITS k (W.words im.old)) }
     requires p_bound { (p < 16) × (a < 16) }
-    requires p_value { owed (image_of width k im.old) p ≡ 0 }
-    requires c_bound { c < 2 ^ width }
-    ensures { done_of result (image_of width k im.new) ≡ step tightest (image_of width k im.old) (asked 8 p a b c) }
+    requires p_value { owed (image_of W.BITS k (W.words im.old)) p ≡ 0 }
+    requires c_bound { c < 2 ^ W.BITS }
+    ensures { done_of W.value result (image_of W.BITS k (W.words im.new)) ≡ step tightest (image_of W.BITS k (W.words im.old)) (asked 8 p a b c) }
 {
-    let g = image::sections::reg(im, k, p, a) as usize;
+    let g = image::sections::reg(im, k, p, a).value();
     if g == 0 {
-        return Answer::NoObject;
+        return Err(Refusal::NoObject);
     }
     if levels(im, k, g) <= b {
-        return Answer::PastEnd;
+        return Err(Refusal::PastEnd);
     }
     let n = image::sections::links(im, k, g);
-    image::sections::set_word(im, k, g, 2 + n + b, c as Word);
-    Answer::Done(0)
+    image::sections::set_word(im, k, g, 2 + n + b, W::of(c));
+    Ok(W::of(0))
 }

@@ -1,13 +1,14 @@
 use borrow.Author.Rules.{rules}
 use Rattle.mutator_laws.proofs.Registers.{owed_card, barrier_idle, barrier_done}
 use native.Mathlib.Omega.{arith}
+use mathlib.Core.Path.{◌∙◌}
 use Rattle.mutator_registers.proofs.registers.barrier.Goals as goal
 
 pub returns-then-o-eq0 : goal.returns-then-o-eq0
-returns-then-o-eq0 c = search barrier_idle
+returns-then-o-eq0 g c = search (rules, barrier_idle)
 
 pub dirty_card-requires : goal.dirty_card-requires
-dirty_card-requires c = record { sized = search rules; c_lt_k = omega (arith, owed_card _ _ _ c.requires.sound _ _ c.owed-o.ensures) }
+dirty_card-requires g c = record { sized = search rules; c_lt_k = omega (arith, owed_card _ _ _ c.requires.sound _ _ (c.value-o.ensures.value ∙ c.owed.ensures)) }
 
 pub returns : goal.returns
-returns c = search barrier_done
+returns g c = search (rules, barrier_done)

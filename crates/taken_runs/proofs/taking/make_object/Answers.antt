@@ -1,5 +1,6 @@
+use borrow.Author.Rules.{rules}
 use Rattle.mutator_laws.proofs.Taking.{object_made}
 use Rattle.taken_runs.proofs.taking.make_object.Goals as goal
 
 pub returns : goal.returns
-returns c = search object_made
+returns g c = search (rules, object_made)
