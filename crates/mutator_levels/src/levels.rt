@@ -40,7 +40,14 @@ pub fn read<W: Word>(im: &[W], k: usize, p: usize, a: usize, b: usize) -> Result
     Ok(image::sections::word(im, k, g, 2 + n + b))
 }
 
-pub fn write<W: Word>(im: &mut [W], k: usize, p: usize, a: usize, b: usize, c: usize) -> Result<W, Refusal>
+pub fn write<W: Word>(
+    im: &mut [W],
+    k: usize,
+    p: usize,
+    a: usize,
+    b: usize,
+    c: usize,
+) -> Result<W, Refusal>
     requires sized { Sized W.BITS k (W.words im.old) }
     requires sound { Sound (image_of W.BITS k (W.words im.old)) }
     requires p_bound { (p < 16) × (a < 16) }

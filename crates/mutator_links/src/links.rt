@@ -10,7 +10,14 @@ ghost use Rattle.request_laws.specs.Answer.{asked, done_of};
 use image::word::Word;
 use request_laws::Refusal;
 
-pub fn load<W: Word>(im: &mut [W], k: usize, p: usize, a: usize, b: usize, c: usize) -> Result<W, Refusal>
+pub fn load<W: Word>(
+    im: &mut [W],
+    k: usize,
+    p: usize,
+    a: usize,
+    b: usize,
+    c: usize,
+) -> Result<W, Refusal>
     requires sized { Sized W.BITS k (W.words im.old) }
     requires sound { Sound (image_of W.BITS k (W.words im.old)) }
     requires p_bound { (p < 16) × (a < 16) × (b < 16) }
@@ -29,7 +36,14 @@ pub fn load<W: Word>(im: &mut [W], k: usize, p: usize, a: usize, b: usize, c: us
     Ok(v)
 }
 
-pub fn store<W: Word>(im: &mut [W], k: usize, p: usize, a: usize, b: usize, c: usize) -> Result<W, Refusal>
+pub fn store<W: Word>(
+    im: &mut [W],
+    k: usize,
+    p: usize,
+    a: usize,
+    b: usize,
+    c: usize,
+) -> Result<W, Refusal>
     requires sized { Sized W.BITS k (W.words im.old) }
     requires sound { Sound (image_of W.BITS k (W.words im.old)) }
     requires p_bound { (p < 16) × (a < 16) × (c < 16) }

@@ -26,7 +26,14 @@ pub fn barrier<W: Word>(im: &mut [W], k: usize, p: usize) -> Result<W, Refusal>
 }
 
 // Player q's register b gets a copy of p's register a.
-pub fn hand<W: Word>(im: &mut [W], k: usize, p: usize, a: usize, q: usize, b: usize) -> Result<W, Refusal>
+pub fn hand<W: Word>(
+    im: &mut [W],
+    k: usize,
+    p: usize,
+    a: usize,
+    q: usize,
+    b: usize,
+) -> Result<W, Refusal>
     requires sized { Sized W.BITS k (W.words im.old) }
     requires p_bound { (p < 16) × (a < 16) × (q < 16) × (b < 16) }
     requires p_value { (owed (image_of W.BITS k (W.words im.old)) p ≡ 0) × (owed (image_of W.BITS k (W.words im.old)) q ≡ 0) }

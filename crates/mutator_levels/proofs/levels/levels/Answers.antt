@@ -4,9 +4,9 @@ use Rattle.mutator_laws.proofs.Objects.{object_below}
 use native.Mathlib.Omega.{arith}
 use Rattle.mutator_levels.proofs.levels.levels.Goals as goal
 
-pub word-s-requires : goal.word-s-requires
+pub word-requires : goal.word-requires
 unfolding size levels
-word-s-requires g c = record { sized = search rules; i_bound = omega (arith, object_below _ _ _ c.requires.object_at) }
+word-requires g c = record { sized = search rules; i_bound = omega (arith, object_below _ _ _ c.requires.object_at) }
 
 pub links-n-requires : goal.links-n-requires
 unfolding size levels
