@@ -5,9 +5,8 @@ ghost use Rattle.model.specs.Image.{image_of};
 ghost use Rattle.model.specs.Report.{stretch_start, stretch_length, stretch_end, lowest_start, whole_objects, good_stretch};
 ghost use Rattle.theory.specs.Lines.{Sound};
 ghost use Rattle.image_laws.specs.Sized.{Sized};
-ghost use Rattle.image.specs.Layout.{width};
 
-use image::layout::Word;
+use image::word::Word;
 
 pub fn start(report: &[u8], i: usize) -> usize
     requires { 4 * i + 4 ≤ length report.now }
@@ -32,11 +31,11 @@ fn end(report: &[u8], i: usize) -> usize
 }
 
 // Whether whole objects follow one another from granule a on for n granules.
-fn is_whole(im: &[Word], k: usize, a: usize, n: usize) -> bool
-    requires sized { Sized width k im.now }
-    requires sound { Sound (image_of width k im.now) }
+fn is_whole<W: Word>(im: &[W], k: usize, a: usize, n: usize) -> bool
+    requires sized { Sized W.BITS k (W.words im.now) }
+    requires sound { Sound (image_of W.BITS k (W.words im.now)) }
     requires n_bound { a + n ≤ 64 * k }
-    ensures { result ≡ whole_objects (image_of width k im.now) n a (a + n) }
+    ensures { result ≡ whole_objects (image_of W.BITS k (W.words im.now)) n a (a + n) }
 {
     let e = a + n;
     let mut g = a;
@@ -44,18 +43,18 @@ fn is_whole(im: &[Word], k: usize, a: usize, n: usize) -> bool
         if !bits_and_cards::bits::is_start(im, k, g) {
             return false;
         }
-        g += image::sections::word(im, k, g, 0) as usize;
+        g += image::sections::word(im, k, g, 0).value();
     }
     g == e
 }
 
 // Stretch i, where `low` is the lowest granule at which it may start.
-fn is_good(im: &[Word], k: usize, report: &[u8], i: usize, low: usize) -> bool
-    requires sized { Sized width k im.now }
-    requires sound { Sound (image_of width k im.now) }
+fn is_good<W: Word>(im: &[W], k: usize, report: &[u8], i: usize, low: usize) -> bool
+    requires sized { Sized W.BITS k (W.words im.now) }
+    requires sound { Sound (image_of W.BITS k (W.words im.now)) }
     requires i_in_bounds { 4 * i + 4 ≤ length report.now }
     requires low_value { low ≡ lowest_start report.now i }
-    ensures { result ≡ good_stretch (image_of width k im.now) report.now i }
+    ensures { result ≡ good_stretch (image_of W.BITS k (W.words im.now)) report.now i }
 {
     let a = start(report, i);
     let n = granules(report, i);
@@ -72,20 +71,18 @@ fn is_good(im: &[Word], k: usize, report: &[u8], i: usize, low: usize) -> bool
 }
 
 // The first c stretches.
-pub fn all_good(im: &[Word], k: usize, report: &[u8], c: usize) -> bool
-    requires sized { Sized width k im.now }
-    requires sound { Sound (image_of width k im.now) }
+pub fn all_good<W: Word>(im: &[W], k: usize, report: &[u8], c: usize) -> bool
+    requires sized { Sized W.BITS k (W.words im.now) }
+    requires sound { Sound (image_of W.BITS k (W.words im.now)) }
     requires c_in_bounds { 4 * c ≤ length report.now }
-    ensures { result ≡ all c (good_stretch (image_of width k im.now) report.now) }
+    ensures { result ≡ all c (good_stretch (image_of W.BITS k (W.words im.now)) report.now) }
 {
-    let mut low: usize = 1;
-    let mut i: usize = 0;
-    while i < c {
+    let mut low = 1;
+    for i in 0..c {
         if !is_good(im, k, report, i, low) {
             return false;
         }
         low = end(report, i);
-        i += 1;
     }
     true
 }
