@@ -4,43 +4,40 @@ ghost use Rattle.model.specs.Base.{zeroes};
 ghost use Rattle.model.specs.Image.{image_of, is_start};
 ghost use Rattle.image_laws.specs.Sized.{Sized};
 ghost use Rattle.soundness_laws.specs.Tests.{object_ok, run_ok, piece_ok, next_run};
-ghost use Rattle.image.specs.Layout.{width};
 
-use image::layout::Word;
+use image::word::Word;
 
 // That it has a granule at all follows from the room for its links.
-pub fn object_ok(im: &[Word], k: usize, g: usize) -> bool
-    requires sized { Sized width k im.now }
+pub fn object_ok<W: Word>(im: &[W], k: usize, g: usize) -> bool
+    requires sized { Sized W.BITS k (W.words im.now) }
     requires g_bound { g < 64 * k }
-    ensures { result ≡ object_ok (image_of width k im.now) g }
+    ensures { result ≡ object_ok (image_of W.BITS k (W.words im.now)) g }
 {
-    let s = image::sections::word(im, k, g, 0) as usize;
-    let n = image::sections::word(im, k, g, 1) as usize;
+    let s = image::sections::word(im, k, g, 0).value();
+    let n = image::sections::word(im, k, g, 1).value();
     (s <= 1024) & (g + s <= 64 * k) & (n + 2 <= 4 * s)
 }
 
 // The words of a run behind its first two are 0, granule by granule.
-fn zero_rest(im: &[Word], k: usize, g: usize, s: usize) -> bool
-    requires sized { Sized width k im.now }
+fn zero_rest<W: Word>(im: &[W], k: usize, g: usize, s: usize) -> bool
+    requires sized { Sized W.BITS k (W.words im.now) }
     requires le_s { (1 ≤ s) × (g + s ≤ 64 * k) }
-    ensures { result ≡ zeroes (take (4 * s - 2) (drop (4 * g + 2) (image_of width k im.now).heap)) }
+    ensures { result ≡ zeroes (take (4 * s - 2) (drop (4 * g + 2) (image_of W.BITS k (W.words im.now)).heap)) }
 {
     let mut ok = stretches::parts::zero_heap(im, k, 4 * g + 2, 4 * g + 4);
-    let mut i = 1;
-    while i < s {
+    for i in 1..s {
         let a = 4 * (g + i);
         ok = ok & stretches::parts::zero_heap(im, k, a, a + 4);
-        i += 1;
     }
     ok
 }
 
-pub fn run_ok(im: &[Word], k: usize, g: usize, next: usize, run: bool) -> bool
-    requires sized { Sized width k im.now }
+pub fn run_ok<W: Word>(im: &[W], k: usize, g: usize, next: usize, run: bool) -> bool
+    requires sized { Sized W.BITS k (W.words im.now) }
     requires g_bound { g < 64 * k }
-    ensures { result ≡ run_ok (image_of width k im.now) g next run }
+    ensures { result ≡ run_ok (image_of W.BITS k (W.words im.now)) g next run }
 {
-    let s = image::sections::word(im, k, g, 0) as usize;
+    let s = image::sections::word(im, k, g, 0).value();
     let fits = (!run) & (g == next) & (1 <= s) & (g + s <= 64 * k);
     if !fits {
         return false;
@@ -52,11 +49,11 @@ pub fn run_ok(im: &[Word], k: usize, g: usize, next: usize, run: bool) -> bool
     stretches::parts::zero_heap(im, k, 4 * g + 2, 4 * g + 4 * s)
 }
 
-pub fn piece_ok(im: &[Word], k: usize, g: usize, object: bool, next: usize, run: bool) -> bool
-    requires sized { Sized width k im.now }
+pub fn piece_ok<W: Word>(im: &[W], k: usize, g: usize, object: bool, next: usize, run: bool) -> bool
+    requires sized { Sized W.BITS k (W.words im.now) }
     requires g_bound { g < 64 * k }
-    requires object_value { object ≡ is_start (image_of width k im.now) g }
-    ensures { result ≡ piece_ok (image_of width k im.now) g next run }
+    requires object_value { object ≡ is_start (image_of W.BITS k (W.words im.now)) g }
+    ensures { result ≡ piece_ok (image_of W.BITS k (W.words im.now)) g next run }
 {
     if object {
         return object_ok(im, k, g);
@@ -64,14 +61,14 @@ pub fn piece_ok(im: &[Word], k: usize, g: usize, object: bool, next: usize, run:
     run_ok(im, k, g, next, run)
 }
 
-pub fn next_run(im: &[Word], k: usize, g: usize, object: bool, next: usize) -> usize
-    requires sized { Sized width k im.now }
+pub fn next_run<W: Word>(im: &[W], k: usize, g: usize, object: bool, next: usize) -> usize
+    requires sized { Sized W.BITS k (W.words im.now) }
     requires g_bound { g < 64 * k }
-    requires object_value { object ≡ is_start (image_of width k im.now) g }
-    ensures { result ≡ next_run (image_of width k im.now) g next }
+    requires object_value { object ≡ is_start (image_of W.BITS k (W.words im.now)) g }
+    ensures { result ≡ next_run (image_of W.BITS k (W.words im.now)) g next }
 {
     if object {
         return next;
     }
-    image::sections::word(im, k, g, 1) as usize
+    image::sections::word(im, k, g, 1).value()
 }
