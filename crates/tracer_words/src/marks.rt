@@ -3,38 +3,37 @@ ghost use Rattle.std.specs.Prelude.{◌≡◌, ◌+◌, ◌*◌, ◌-◌, ◌≤
 ghost use Rattle.model.specs.Image.{image_of};
 ghost use Rattle.model.specs.Collect.{next_marked};
 ghost use Rattle.image_laws.specs.Sized.{Sized};
-ghost use Rattle.image.specs.Layout.{width};
 ghost use Rattle.tracers_laws.specs.Marks.{CardMarks};
 
-use image::layout::{BITS, Word};
+use image::word::Word;
 
 // The 64 mark bits of card c, word by word.
-pub fn card_marks(im: &[Word], k: usize, c: usize) -> u64
-    requires sized { Sized width k im.now }
+pub fn card_marks<W: Word>(im: &[W], k: usize, c: usize) -> usize
+    requires sized { Sized W.BITS k (W.words im.now) }
     requires c_lt_k { c < k }
-    ensures { CardMarks (image_of width k im.now) c result }
+    ensures { CardMarks (image_of W.BITS k (W.words im.now)) c result }
 {
-    let mut marks: u64 = 0;
-    for i in 0..64 / BITS {
-        let w = image::sections::mark_word(im, k, 64 / BITS * c + i);
-        marks |= (w as u64) << ((BITS * i) as u64);
+    let mut marks = 0;
+    for i in 0..W::CARD_BITS {
+        let w = image::sections::mark_word(im, k, W::CARD_BITS * c + i).value();
+        marks |= w << (W::BITS * i);
     }
     marks
 }
 
 // 1 + the first marked granule from `from` on that lies on card c - 1; 0 if there is none.
-pub fn next_marked(im: &[Word], k: usize, from: usize, c: usize) -> usize
-    requires sized { Sized width k im.now }
+#[tactic(auto, using(tracers_laws::proofs::Marks::next_past, tracers_laws::proofs::Marks::next_none, tracers_laws::proofs::Marks::next_found))]
+pub fn next_marked<W: Word>(im: &[W], k: usize, from: usize, c: usize) -> usize
+    requires sized { Sized W.BITS k (W.words im.now) }
     requires c_le_k { (c ≤ k) × (64 * c ≤ from + 64) }
-    ensures { result ≡ next_marked (image_of width k im.now) (64 * c - from) from }
+    ensures { result ≡ next_marked (image_of W.BITS k (W.words im.now)) (64 * c - from) from }
 {
     if 64 * c <= from {
         return 0;
     }
-    let left = card_marks(im, k, from / 64) >> ((from % 64) as u64);
+    let left = card_marks(im, k, from / 64) >> (from % 64);
     if left == 0 {
         return 0;
     }
-    let t = u64::trailing_zeros(left) as usize;
-    from + t + 1
+    from + left.trailing_zeros() as usize + 1
 }

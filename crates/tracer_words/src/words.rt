@@ -2,17 +2,17 @@
 ghost use Rattle.std.specs.Prelude.{◌≡◌, ◌<◌};
 ghost use Rattle.model.specs.Image.{image_of};
 ghost use Rattle.image_laws.specs.Sized.{Sized};
-ghost use Rattle.image.specs.Layout.{width};
 ghost use Rattle.tracers_laws.specs.Tracer.{tracer_at, with_tracer};
 ghost use Rattle.tracers.specs.Plain.{tracer_of};
 
-use image::layout::Word;
+use image::word::Word;
 use tracers::tracer::Tracer;
 
-pub fn read_tracer(im: &[Word], k: usize, t: usize) -> Tracer
-    requires sized { Sized width k im.now }
+#[tactic(auto, using(tracers_laws::proofs::Words::tracer_read))]
+pub fn read_tracer<W: Word>(im: &[W], k: usize, t: usize) -> Tracer<W>
+    requires sized { Sized W.BITS k (W.words im.now) }
     requires t_bound { t < 8 }
-    ensures { tracer_of result ≡ tracer_at (image_of width k im.now) t }
+    ensures { tracer_of W.value result ≡ tracer_at (image_of W.BITS k (W.words im.now)) t }
 {
     Tracer {
         input: image::sections::tracer_word(im, k, 8 * t),
@@ -25,10 +25,11 @@ pub fn read_tracer(im: &[Word], k: usize, t: usize) -> Tracer
 }
 
 // All that writes a tracer.
-pub fn write_tracer(im: &mut [Word], k: usize, t: usize, x: Tracer)
-    requires sized { Sized width k im.old }
+#[tactic(auto, using(tracers_laws::proofs::Words::tracer_written))]
+pub fn write_tracer<W: Word>(im: &mut [W], k: usize, t: usize, x: Tracer<W>)
+    requires sized { Sized W.BITS k (W.words im.old) }
     requires t_bound { t < 8 }
-    ensures { image_of width k im.new ≡ with_tracer (image_of width k im.old) t (tracer_of x) }
+    ensures { image_of W.BITS k (W.words im.new) ≡ with_tracer (image_of W.BITS k (W.words im.old)) t (tracer_of W.value x) }
 {
     image::sections::set_tracer(im, k, t, 0, x.input);
     image::sections::set_tracer(im, k, t, 1, x.output);

@@ -1,6 +1,15 @@
 -- The plain record of a tracer, whatever the width of its words.
+use Rattle.std.specs.Prelude.{ℕ}
 use Rattle.tracers_laws.specs.Tracer as tracers
 use Rattle.tracers.specs.declared.tracer.Tracer.{Tracer}
 
-abbrev pub tracer_of : Tracer → tracers.Tracer
-tracer_of x = record { input = x.input; output = x.output; hand = x.hand; link = x.link; card = x.card; granule = x.granule }
+-- `value` gives the number that a word is
+abbrev pub tracer_of : {W : Type 0} → (W → ℕ) → Tracer W → tracers.Tracer
+tracer_of value x = record {
+  input = value x.input;
+  output = value x.output;
+  hand = value x.hand;
+  link = value x.link;
+  card = value x.card;
+  granule = value x.granule;
+}

@@ -1,23 +1,23 @@
 // Work packets by value: "A packet is a count and 30 entries, with one zero word between".
-ghost use Rattle.std.specs.Prelude.{◌≡◌, ◌-◌, ◌≤◌, ◌<◌, length, take};
+ghost use Rattle.std.specs.Prelude.{◌≡◌, ◌-◌, ◌^◌, ◌≤◌, ◌<◌, length, take, All};
 ghost use Rattle.model.specs.Base.{nth};
 ghost use Rattle.model.specs.Image.{image_of, count};
 ghost use Rattle.model.specs.Collect.{append};
 ghost use Rattle.image_laws.specs.Sized.{Sized};
-ghost use Rattle.image.specs.Layout.{width};
 ghost use Rattle.tracers_laws.specs.Packet.{Tidy, LastOff, packet_at, with_entry, without_last, words_of, with_packet};
 ghost use Rattle.work_packets.specs.Plain.{packet_of};
 
-use image::layout::{PACKETS, PER_CARD, Word};
+use image::word::Word;
 
-#[derive(Clone, Copy)]
+// Entries are numbers: nothing is known of the room that 30 words of no fixed width take.
+#[derive(Clone, Copy, Debug, PartialEq, Eq)]
 pub struct Packet {
     pub count: usize,
-    pub entries: [Word; 30],
+    pub entries: [usize; 30],
 }
 
 impl Packet {
-    pub fn push(mut self, v: Word) -> Self
+    pub fn push(mut self, v: usize) -> Self
         requires { self.count < 30 }
         ensures { packet_of result ≡ with_entry (packet_of self) v }
     {
@@ -37,7 +37,7 @@ impl Packet {
         self
     }
 
-    pub fn last(self) -> Word
+    pub fn last(self) -> usize
         requires { (0 < self.count) × (self.count ≤ 30) }
         ensures { result ≡ nth self.entries (self.count - 1) }
     {
@@ -46,24 +46,26 @@ impl Packet {
     }
 }
 
-fn thirty(s: &[Word]) -> [Word; 30]
+fn thirty<W: Word>(s: &[W]) -> [usize; 30]
     requires { 30 ≤ length s.now }
-    ensures { result ≡ take 30 s.now }
+    ensures numbers { result ≡ take 30 (W.words s.now) }
+    ensures fit { All (λ x. x < 2 ^ W.BITS) result }
 {
-    let mut e: [Word; 30] = [0; 30];
+    let mut e = [0; 30];
     for j in 0..30 {
-        e[j] = s[j];
+        e[j] = s[j].value();
     }
     e
 }
 
-pub fn read_packet(im: &[Word], k: usize, p: usize) -> Packet
-    requires sized { Sized width k im.now }
+fn read_packet<W: Word>(im: &[W], k: usize, p: usize) -> Packet
+    requires sized { Sized W.BITS k (W.words im.now) }
     requires p_bound { p < 32 }
-    ensures { packet_of result ≡ packet_at (image_of width k im.now) p }
+    ensures packet { packet_of result ≡ packet_at (image_of W.BITS k (W.words im.now)) p }
+    ensures fit { All (λ x. x < 2 ^ W.BITS) result.entries }
 {
-    let n = image::sections::packet_word(im, k, 32 * p) as usize;
-    let from = PER_CARD * k + PACKETS + 32 * p + 2;
+    let n = image::sections::packet_word(im, k, 32 * p).value();
+    let from = image::layout::packets_at::<W>(k) + 32 * p + 2;
     let to = from + 30;
     let e = thirty(&im[from..to]);
     Packet {
@@ -72,52 +74,54 @@ pub fn read_packet(im: &[Word], k: usize, p: usize) -> Packet
     }
 }
 
-fn put_words(s: &mut [Word], q: Packet)
-    requires { (length s.old ≡ 32) × (q.count ≤ 30) }
-    ensures { s.new ≡ words_of (packet_of q) }
+fn put_words<W: Word>(s: &mut [W], q: Packet)
+    requires long { (length s.old ≡ 32) × (q.count ≤ 30) }
+    requires fit { All (λ x. x < 2 ^ W.BITS) q.entries }
+    ensures { W.words s.new ≡ words_of (packet_of q) }
 {
     let n = q.count;
     let e = q.entries;
-    s[0] = n as Word;
-    s[1] = 0;
+    s[0] = W::of(n);
+    s[1] = W::of(0);
     for j in 0..30 {
-        s[j + 2] = e[j];
+        s[j + 2] = W::of(e[j]);
     }
 }
 
-pub fn write_packet(im: &mut [Word], k: usize, p: usize, q: Packet)
-    requires sized { Sized width k im.old }
+fn write_packet<W: Word>(im: &mut [W], k: usize, p: usize, q: Packet)
+    requires sized { Sized W.BITS k (W.words im.old) }
     requires p_bound { (p < 32) × (q.count ≤ 30) }
-    ensures { image_of width k im.new ≡ with_packet (image_of width k im.old) p (packet_of q) }
+    requires fit { All (λ x. x < 2 ^ W.BITS) q.entries }
+    ensures { image_of W.BITS k (W.words im.new) ≡ with_packet (image_of W.BITS k (W.words im.old)) p (packet_of q) }
 {
-    let a = PER_CARD * k + PACKETS + 32 * p;
+    let a = image::layout::packets_at::<W>(k) + 32 * p;
     let e = a + 32;
     put_words(&mut im[a..e], q);
 }
 
 // The granule g is appended to packet p.
-pub fn append_entry(im: &mut [Word], k: usize, p: usize, g: Word)
-    requires sized { Sized width k im.old }
+pub fn append_entry<W: Word>(im: &mut [W], k: usize, p: usize, g: W)
+    requires sized { Sized W.BITS k (W.words im.old) }
     requires p_bound { p < 32 }
-    requires tidy { Tidy (image_of width k im.old) p }
-    requires p_bound_2 { count (image_of width k im.old) p < 30 }
-    ensures { image_of width k im.new ≡ append (image_of width k im.old) p g }
+    requires tidy { Tidy (image_of W.BITS k (W.words im.old)) p }
+    requires p_bound_2 { count (image_of W.BITS k (W.words im.old)) p < 30 }
+    ensures { image_of W.BITS k (W.words im.new) ≡ append (image_of W.BITS k (W.words im.old)) p (W.value g) }
 {
     let q = read_packet(im, k, p);
-    let r = q.push(g);
+    let r = q.push(g.value());
     write_packet(im, k, p, r);
 }
 
 // The last entry of packet p comes off.
-pub fn pop_entry(im: &mut [Word], k: usize, p: usize) -> Word
-    requires sized { Sized width k im.old }
+pub fn pop_entry<W: Word>(im: &mut [W], k: usize, p: usize) -> W
+    requires sized { Sized W.BITS k (W.words im.old) }
     requires p_bound { p < 32 }
-    requires tidy { Tidy (image_of width k im.old) p }
-    requires p_nonzero { 0 < count (image_of width k im.old) p }
-    ensures { LastOff (image_of width k im.old) p result (image_of width k im.new) }
+    requires tidy { Tidy (image_of W.BITS k (W.words im.old)) p }
+    requires p_nonzero { 0 < count (image_of W.BITS k (W.words im.old)) p }
+    ensures { LastOff (image_of W.BITS k (W.words im.old)) p (W.value result) (image_of W.BITS k (W.words im.new)) }
 {
     let q = read_packet(im, k, p);
-    let g = q.last();
+    let g = W::of(q.last());
     let r = q.pop();
     write_packet(im, k, p, r);
     g

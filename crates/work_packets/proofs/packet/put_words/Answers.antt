@@ -1,28 +1,34 @@
-use mathlib.Core.Path.{sym, ◌∙◌}
+use Rattle.std.proofs.Common.{arith, ◌∙◌, ◌+◌}
 use borrow.Author.Rules.{rules}
 use lib.ListN.{length-set}
+use Rattle.model.specs.Base.{put}
 use Rattle.tracers_laws.specs.Packet.{words_of}
 use Rattle.tracers_laws.proofs.Copy.{headed_more, headed_first, headed_done}
+use Rattle.image.proofs.Words.{word_written, words_length}
 use Rattle.work_packets.proofs.packet.put_words.Goals as goal
 
-pub bounds-s-1 : goal.bounds-s-1
-unfolding words_of
-bounds-s-1 c = simp length-set (search rules)
-
 pub loop-j-init : goal.loop-j-init
-unfolding words_of
-loop-j-init c = (search rules, headed_first _ _ c.args.s.now c.requires.0, simp length-set c.requires.0, search rules)
+unfolding put
+loop-j-init g c =
+    let b = g.met.W.Word.laws.by_value in
+    let s = c.args.s.now in (
+      omega arith,
+      rw (word_written b _ 1 _, word_written b s 0 _, c.of.ensures, c.of-2.ensures) (headed_first _ 0 (g.W.Word.words s) (words_length b s ∙ c.requires.long.0)),
+      simp length-set c.requires.long.0,
+    )
 
 pub loop-j-preserved : goal.loop-j-preserved
-unfolding words_of
-loop-j-preserved c =
+unfolding put
+loop-j-preserved g c =
     let L = c.loop-j in
-    (search rules, headed_more _ _ _ L.s L.j L.invariant.1 (search rules) (search rules), simp length-set L.invariant.2, L.invariant.3)
-
-pub shape_of-s : goal.shape_of-s
-unfolding words_of
-shape_of-s c = c.loop-j.invariant.2 ∙ sym c.requires.0
+    let b = g.met.W.Word.laws.by_value in (
+      omega arith,
+      rw (word_written b L.s (L.j + 2) _, c.of-in-loop-j.ensures) (headed_more _ 0 _ (g.W.Word.words L.s) L.j L.invariant.1 (omega (arith, words_length b L.s)) (search rules)),
+      simp length-set L.invariant.2,
+    )
 
 pub returns : goal.returns
 unfolding words_of
-returns c = search headed_done
+returns g c =
+    let L = c.loop-j in
+    headed_done _ 0 _ (g.W.Word.words L.s) L.j L.invariant.1 (words_length g.met.W.Word.laws.by_value L.s ∙ L.invariant.2) (search rules) c.loop-j-test.false

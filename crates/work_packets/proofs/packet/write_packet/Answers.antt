@@ -1,11 +1,11 @@
+use Rattle.std.proofs.Common.{◌+◌, ◌*◌, ◌-◌}
 use borrow.Author.Rules.{rules}
 use Rattle.tracers_laws.proofs.Packet.{packet_written}
+use Rattle.work_packets.proofs.Entries.{words_put}
 use Rattle.work_packets.specs.Plain.{packet_of}
-use Rattle.image.specs.Layout.{width, per_card, packets_from}
-use Prim.Native.Nat.{◌+◌, ◌*◌}
 use Rattle.work_packets.proofs.packet.write_packet.Goals as goal
 
 pub returns : goal.returns
-returns c =
+returns g c =
     let A = c.args in
-    packet_written width A.k A.im.now (search rules) A.p (search rules) (per_card * A.k + packets_from + 32 * A.p) (search rules) (packet_of A.q) (search rules) _ c.put_words.ensures
+    rw (words_put g.met.W.Word.laws.by_value A.im.now c.put_words.new.s (c.packets_at.result + 32 * A.p) (c.packets_at.result + 32 * A.p + 32 - (c.packets_at.result + 32 * A.p))) (packet_written g.W.Word.BITS A.k (g.W.Word.words A.im.now) (search rules) A.p (search rules) (c.packets_at.result + 32 * A.p) (search rules) (packet_of A.q) (search rules) _ c.put_words.ensures)
