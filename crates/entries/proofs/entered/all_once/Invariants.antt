@@ -1,11 +1,7 @@
-use Prim.Native.Nat.{◌*◌, ◌-◌}
+use Prim.Native.Nat.{◌*◌}
 use Rattle.model.specs.Image.{image_of}
-use Rattle.image.specs.Layout.{width}
 use Rattle.soundness_laws.proofs.Entered.{PacketsHeld}
 use Rattle.entries.proofs.entered.all_once.Given as goal
 
 abbrev pub invariant-loop-p : goal.invariant-loop-p
-invariant-loop-p l = PacketsHeld width (64 * l.k) (image_of width l.k l.im).packets l.ok l.p l.seen
-
-abbrev pub decreases-loop-p : goal.decreases-loop-p
-decreases-loop-p l = 32 - l.p
+invariant-loop-p g l = PacketsHeld (64 * l.k) (image_of g.W.Word.BITS l.k (g.W.Word.words l.im)).packets l.ok l.p l.seen
