@@ -4,7 +4,7 @@ use native.Mathlib.Omega.{arith}
 use Rattle.swept_gaps.proofs.gaps.close_gap.Goals as goal
 
 pub returns-then-a-e : goal.returns-then-a-e
-returns-then-a-e c = record { im_after = search gap_some; value = search rules }
+returns-then-a-e g c = record { im_after = search (rules, gap_some); value = search rules }
 
 pub returns : goal.returns
-returns c = record { im_after = search gap_none; value = omega arith }
+returns g c = record { im_after = search (rules, gap_none); value = omega arith }

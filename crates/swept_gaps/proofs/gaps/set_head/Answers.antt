@@ -1,5 +1,7 @@
-use Rattle.finish_laws.proofs.gaps.Code.{head_set}
+use borrow.Author.Rules.{rules}
+use Rattle.finish_laws.specs.Gaps.{head_at}
 use Rattle.swept_gaps.proofs.gaps.set_head.Goals as goal
 
 pub returns : goal.returns
-returns c = head_set _ _ _ _ _ _ _ _ c.set_word.ensures c.set_word-2.ensures c.set_word-3.ensures c.set_word-4.ensures
+unfolding head_at
+returns g c = search rules
