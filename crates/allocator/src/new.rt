@@ -13,7 +13,15 @@ use request_laws::Refusal;
 use runs::counted::Counted;
 use runs_laws::Free;
 
-pub fn new<W: Word>(im: &mut [W], k: usize, p: usize, a: usize, b: usize, c: usize, free: Free) -> Counted<W>
+pub fn new<W: Word>(
+    im: &mut [W],
+    k: usize,
+    p: usize,
+    a: usize,
+    b: usize,
+    c: usize,
+    free: Free,
+) -> Counted<W>
     requires sized { Sized W.BITS k (W.words im.old) }
     requires sound { Sound (image_of W.BITS k (W.words im.old)) }
     requires p_bound { (p < 16) × (a < 16) }
@@ -22,23 +30,9 @@ pub fn new<W: Word>(im: &mut [W], k: usize, p: usize, a: usize, b: usize, c: usi
     ensures im_after { done_of W.value result.answer (image_of W.BITS k (W.words im.new)) ≡ step tightest (image_of W.BITS k (W.words im.old)) (asked 1 p a b c) }
     ensures free_value_2 { result.free ≡ free_of (image_of W.BITS k (W.words im.new)) }
 {
-    if b == 0 {
-        return Counted {
-            answer: Err(Refusal::BadSize),
-            free,
-        };
-    }
-    if 1024 < b {
-        return Counted {
-            answer: Err(Refusal::BadSize),
-            free,
-        };
-    }
-    if 4 * b - 2 < c {
-        return Counted {
-            answer: Err(Refusal::BadSize),
-            free,
-        };
+    if b == 0 || 1024 < b || 4 * b - 2 < c {
+        let answer = Err(Refusal::BadSize);
+        return Counted { answer, free };
     }
     let room = runs::chain::find_room(im, k, b);
     let g = room.run;
@@ -46,11 +40,8 @@ pub fn new<W: Word>(im: &mut [W], k: usize, p: usize, a: usize, b: usize, c: usi
         let answer = Err(Refusal::NoRoom);
         return Counted { answer, free };
     }
-    let left = taken_runs::taking::take_run(im, k, g, room.before, b, free);
+    let free = taken_runs::taking::take_run(im, k, g, room.before, b, free);
     taken_runs::taking::make_object(im, k, p, a, b, c, g);
-    let value = W::of(g);
-    Counted {
-        answer: Ok(value),
-        free: left,
-    }
+    let answer = Ok(W::of(g));
+    Counted { answer, free }
 }

@@ -52,7 +52,15 @@ pub fn take_run<W: Word>(im: &mut [W], k: usize, g: usize, before: usize, b: usi
 }
 
 // The words that a new object differs in from the run that was there: size and number of links. The others are zero in a run.
-pub fn make_object<W: Word>(im: &mut [W], k: usize, p: usize, a: usize, b: usize, c: usize, g: usize)
+pub fn make_object<W: Word>(
+    im: &mut [W],
+    k: usize,
+    p: usize,
+    a: usize,
+    b: usize,
+    c: usize,
+    g: usize,
+)
     requires sized { Sized W.BITS k (W.words im.old) }
     requires p_bound { (p < 16) × (a < 16) }
     requires object_fits { ObjectFits k b c g }
