@@ -30,6 +30,9 @@ module _ {A : Type 0} {value : A → ℕ} {words : List A → List ℕ} (by_valu
   pub same_length : (m : List A) → length m ≡ length l → length (words m) ≡ length (words l)
   same_length m e = rw (by_value l, by_value m, length-map l value, length-map m value) e
 
+  pub slice_length : (m : List A) → length (words m) ≡ length (words l) → length m ≡ length l
+  slice_length m e = rw (by_value l, by_value m, length-map l value, length-map m value) at e
+
   -- word i of section s, which is word o
   module _ (w k s i o : ℕ) (h : i < get_or (lengths w k) s 0) (at_place : place (lengths w k) s + i ≡ o) where
     pub section_read : Sized w k (words l) → (r : A) → r ≡ get_or l o r → value r ≡ nth (get_or (split (lengths w k) (words l)) s []) i
