@@ -35,7 +35,8 @@ pub fn visit<W: Word>(im: &mut [W], k: usize, head: usize, a: usize) -> usize
     bits_and_cards::bits::set_mark(im, k, a);
     bits_and_cards::bits::clear_start(im, k, a);
     let c = a / 64;
-    if image::sections::card(im, k, c).value() != 0 {
+    let v = image::sections::card(im, k, c).value();
+    if v != 0 {
         return head;
     }
     image::sections::set_card(im, k, c, W::of(head));
@@ -71,13 +72,13 @@ pub fn settle_bits<W: Word>(im: &mut [W], k: usize, head: usize, i: usize, x: W)
     ensures { SettledTo k (image_of W.BITS k (W.words im.old)) (W.BITS * i) head (W.BITS * i + W.BITS) (headed result (image_of W.BITS k (W.words im.new))) }
 {
     let mut h = head;
-    let mut left = x;
-    while left.value() != 0 {
-        let j = left.value().trailing_zeros() as usize;
+    let mut left = x.value();
+    while left != 0 {
+        let j = left.trailing_zeros() as usize;
         h = settle(im, k, h, W::BITS * i + j);
-        left = bits_and_cards::bits::without_bit(left, j);
-        if left.value() == 0 {
-            left = pending_word(im, k, i);
+        left = left & !(1 << j);
+        if left == 0 {
+            left = pending_word(im, k, i).value();
         }
     }
     h

@@ -1,6 +1,7 @@
 -- An object is settled, link by link, and the pending objects of a bit word of w bits, one after the other.
 use mathlib.Core.Path.{◌≡◌, refl, sym, ap, subst, ◌∙◌}
 use mathlib.Core.Bool.{true}
+use mathlib.Core.Logic.{◌⊎◌}
 use mathlib.Core.List.{List}
 use Prim.Native.Nat.{ℕ, ◌+◌, ◌*◌, ◌-◌, ◌/◌, ◌^◌, ◌<◌, ◌≤◌, min, zero, suc}
 use native.Mathlib.Decide.{ℕ_discrete, dec_lt}
@@ -18,7 +19,7 @@ use Rattle.image_laws.specs.Sized.{Sized}
 use Rattle.image_laws.proofs.Digits.{digit_le, digit_on, on_digit, off_digit, bit_none, bit-and, bit_not, mark_digit, start_digit}
 use Rattle.image_laws.proofs.Lengths.{sized_as, sized_width}
 use Rattle.image_laws.proofs.Masks.{without_bit_same, without_bit_less, without_bit_other}
-use Rattle.image_laws.proofs.Places.{by_width, place_word, place_bit, place_in, words_full}
+use Rattle.image_laws.proofs.Places.{by_width, few_bits, place_word, place_bit, place_in, words_full}
 use Rattle.image_laws.proofs.Trailing.{Lowest, word_lowest}
 use Rattle.finish_marking_laws.specs.Follow.{Pending, PendingWord, Headed, headed, settled, LinksIn, pend, visited, visits}
 use Rattle.finish_marking_laws.specs.Marking.{Marking, work_left, Between, Underway, GoneOn, SettledTo}
@@ -70,7 +71,7 @@ links_end t m' e = rw (← t.number, ← t.state, e)
 -- ---- the pending objects of a word
 
 -- marks x without starts s, whose complement in 64 bits is y
-pub pending_word : (w : ℕ) (m : Image) → m.width ≡ w → w ≤ 64 → (i x s y v : ℕ) → x ≡ nth m.marks i → s ≡ nth m.starts i → s + y + 1 ≡ 2 ^ 64 → v ≡ bit_and x y → PendingWord w m i v
+pub pending_word : (w : ℕ) (m : Image) → m.width ≡ w → (w ≡ 16) ⊎ (w ≡ 32) → (i x s y v : ℕ) → x ≡ nth m.marks i → s ≡ nth m.starts i → s + y + 1 ≡ 2 ^ 64 → v ≡ bit_and x y → PendingWord w m i v
 pending_word w m e o i x s y v ex es h ev = rw ev (record {
   some = λ j l q.
       let b : 1 ≡ min (mark_bit m (w * i + j)) (1 - start_bit m (w * i + j)) = sym (digit_on q) ∙ bits j l in
@@ -81,7 +82,7 @@ pending_word w m e o i x s y v ex es h ev = rw ev (record {
     bits : (j : ℕ) → j < w → bit_of (bit_and x y) j ≡ min (mark_bit m (w * i + j)) (1 - start_bit m (w * i + j))
     bits j l =
         rw (mark_digit w m e (w * i + j), start_digit w m e (w * i + j), place_word w i j l, place_bit w i j l, ← ex, ← es, bit-and x y j)
-        (ap (min (bit_of x j)) (omega (arith, bit_not 64 s y j h (omega arith))))
+        (ap (min (bit_of x j)) (omega (arith, bit_not 64 s y j h (few_bits o l))))
 
 -- ---- the loop over them
 
