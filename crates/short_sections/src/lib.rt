@@ -6,94 +6,94 @@ ghost use Rattle.model.specs.Base.{all};
 ghost use Rattle.model.specs.Image.{image_of};
 ghost use Rattle.model.specs.Undamaged.{card_ok, player_ok, general_ok};
 ghost use Rattle.image_laws.specs.Sized.{Sized};
-ghost use Rattle.image.specs.Layout.{width};
 ghost use Rattle.soundness_laws.specs.Tests.{not_scanned, idle};
 
-use image::layout::Word;
+use image::word::Word;
 
 pub mod hands; // hands.rt: objects and cards in hand, packets held
 
 // ---- cards and players
 
-pub fn card_ok(im: &[Word], k: usize, c: usize) -> bool
-    requires sized { Sized width k im.now }
+#[tactic(auto, unfolding(model::specs::Undamaged::card_ok))]
+pub fn card_ok<W: Word>(im: &[W], k: usize, c: usize) -> bool
+    requires sized { Sized W.BITS k (W.words im.now) }
     requires c_lt_k { c < k }
-    ensures { result ≡ card_ok (image_of width k im.now) c }
+    ensures { result ≡ card_ok (image_of W.BITS k (W.words im.now)) c }
 {
-    image::sections::card(im, k, c) <= 3
+    image::sections::card(im, k, c).value() <= 3
 }
 
-pub fn cards_ok(im: &[Word], k: usize) -> bool
-    requires { Sized width k im.now }
-    ensures { result ≡ all k (card_ok (image_of width k im.now)) }
+#[tactic(auto, unfolding(model::specs::Base::all))]
+pub fn cards_ok<W: Word>(im: &[W], k: usize) -> bool
+    requires { Sized W.BITS k (W.words im.now) }
+    ensures { result ≡ all k (card_ok (image_of W.BITS k (W.words im.now))) }
 {
     let mut ok = true;
-    let mut i = 0;
-    while i < k {
+    for i in 0..k {
         ok = ok & card_ok(im, k, i);
-        i += 1;
     }
     ok
 }
 
-pub fn player_ok(im: &[Word], k: usize, p: usize) -> bool
-    requires sized { Sized width k im.now }
+#[tactic(auto, using(soundness_laws::proofs::Lines::player_lines))]
+pub fn player_ok<W: Word>(im: &[W], k: usize, p: usize) -> bool
+    requires sized { Sized W.BITS k (W.words im.now) }
     requires p_bound { p < 16 }
-    ensures { result ≡ player_ok (image_of width k im.now) p }
+    ensures { result ≡ player_ok (image_of W.BITS k (W.words im.now)) p }
 {
-    let o = image::sections::owed(im, k, p) as usize;
-    let s = image::sections::scanned(im, k, p);
+    let o = image::sections::owed(im, k, p).value();
+    let s = image::sections::scanned(im, k, p).value();
     (o <= k) & (s <= 1)
 }
 
-pub fn players_ok(im: &[Word], k: usize) -> bool
-    requires { Sized width k im.now }
-    ensures { result ≡ all 16 (player_ok (image_of width k im.now)) }
+#[tactic(auto, unfolding(model::specs::Base::all))]
+pub fn players_ok<W: Word>(im: &[W], k: usize) -> bool
+    requires { Sized W.BITS k (W.words im.now) }
+    ensures { result ≡ all 16 (player_ok (image_of W.BITS k (W.words im.now))) }
 {
     let mut ok = true;
-    let mut i = 0;
-    while i < 16 {
+    for i in 0..16 {
         ok = ok & player_ok(im, k, i);
-        i += 1;
     }
     ok
 }
 
 // ---- general
 
-pub fn general_ok(im: &[Word], k: usize) -> bool
-    requires { Sized width k im.now }
-    ensures { result ≡ general_ok (image_of width k im.now) }
+#[tactic(auto, using(soundness_laws::proofs::Lines::general_lines))]
+pub fn general_ok<W: Word>(im: &[W], k: usize) -> bool
+    requires { Sized W.BITS k (W.words im.now) }
+    ensures { result ≡ general_ok (image_of W.BITS k (W.words im.now)) }
 {
-    (image::sections::running(im, k) <= 1) & stretches::parts::zero_spares(im, k)
+    (image::sections::running(im, k).value() <= 1) & stretches::parts::zero_spares(im, k)
 }
 
 // ---- no cycle
 
-pub fn is_unscanned(im: &[Word], k: usize, p: usize) -> bool
-    requires sized { Sized width k im.now }
+#[tactic(auto, unfolding(soundness_laws::specs::Tests::not_scanned))]
+pub fn is_unscanned<W: Word>(im: &[W], k: usize, p: usize) -> bool
+    requires sized { Sized W.BITS k (W.words im.now) }
     requires p_bound { p < 16 }
-    ensures { result ≡ not_scanned (image_of width k im.now) p }
+    ensures { result ≡ not_scanned (image_of W.BITS k (W.words im.now)) p }
 {
-    image::sections::scanned(im, k, p) == 0
+    image::sections::scanned(im, k, p).value() == 0
 }
 
-pub fn all_unscanned(im: &[Word], k: usize) -> bool
-    requires { Sized width k im.now }
-    ensures { result ≡ all 16 (not_scanned (image_of width k im.now)) }
+#[tactic(auto, unfolding(model::specs::Base::all))]
+pub fn all_unscanned<W: Word>(im: &[W], k: usize) -> bool
+    requires { Sized W.BITS k (W.words im.now) }
+    ensures { result ≡ all 16 (not_scanned (image_of W.BITS k (W.words im.now))) }
 {
     let mut ok = true;
-    let mut i = 0;
-    while i < 16 {
+    for i in 0..16 {
         ok = ok & is_unscanned(im, k, i);
-        i += 1;
     }
     ok
 }
 
-pub fn is_idle(im: &[Word], k: usize) -> bool
-    requires { Sized width k im.now }
-    ensures { result ≡ idle (image_of width k im.now) }
+pub fn is_idle<W: Word>(im: &[W], k: usize) -> bool
+    requires { Sized W.BITS k (W.words im.now) }
+    ensures { result ≡ idle (image_of W.BITS k (W.words im.now)) }
 {
     stretches::parts::zero_marks(im, k)
         & stretches::parts::zero_packets(im, k)
