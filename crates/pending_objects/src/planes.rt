@@ -2,30 +2,29 @@
 ghost use Rattle.std.specs.Prelude.{◌≡◌, true, ◌/◌, ◌<◌, length};
 ghost use Rattle.model.specs.Base.{test_bit, set_bit};
 ghost use Rattle.image_laws.specs.Bits.{clear_bit};
-ghost use Rattle.image.specs.Layout.{width};
 
-use image::layout::{BITS, Word};
+use image::word::Word;
 
-// The lowest set bit of a word.
-pub fn lowest(x: Word) -> usize
+// The lowest set bit.
+pub fn lowest(x: usize) -> usize
     requires { x ≡ 0 → ⊥ }
-    ensures { (result < width) × (test_bit x result ≡ true) }
+    ensures { (result < 64) × (test_bit x result ≡ true) }
 {
-    u64::trailing_zeros(x as u64) as usize
+    x.trailing_zeros() as usize
 }
 
-pub fn add(s: &mut [Word], i: usize)
-    requires { i / width < length s.old }
-    ensures { s.new ≡ set_bit width s.old i }
+pub fn add<W: Word>(s: &mut [W], i: usize)
+    requires { i / W.BITS < length s.old }
+    ensures { W.words s.new ≡ set_bit W.BITS (W.words s.old) i }
 {
-    let x = s[i / BITS];
-    s[i / BITS] = bits_and_cards::bits::with_bit(x, (i % BITS) as Word);
+    let x = s[i / W::BITS];
+    s[i / W::BITS] = bits_and_cards::bits::with_bit(x, i % W::BITS);
 }
 
-pub fn take_out(s: &mut [Word], i: usize)
-    requires { i / width < length s.old }
-    ensures { s.new ≡ clear_bit width s.old i }
+pub fn take_out<W: Word>(s: &mut [W], i: usize)
+    requires { i / W.BITS < length s.old }
+    ensures { W.words s.new ≡ clear_bit W.BITS (W.words s.old) i }
 {
-    let x = s[i / BITS];
-    s[i / BITS] = bits_and_cards::bits::without_bit(x, (i % BITS) as Word);
+    let x = s[i / W::BITS];
+    s[i / W::BITS] = bits_and_cards::bits::without_bit(x, i % W::BITS);
 }

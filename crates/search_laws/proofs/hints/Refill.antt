@@ -3,14 +3,16 @@ use mathlib.Core.Path.{◌≡◌, refl, sym, ap, ◌∙◌}
 use mathlib.Core.Logic.{◌⊎◌, inl, inr}
 use mathlib.Core.Bool.{true}
 use mathlib.Core.List.{List}
-use Prim.Native.Nat.{ℕ, ◌+◌, ◌*◌, ◌-◌, ◌/◌, ◌%◌, ◌≤◌, ◌<◌}
+use Prim.Native.Nat.{ℕ, ◌+◌, ◌*◌, ◌-◌, ◌/◌, ◌%◌, ◌^◌, ◌≤◌, ◌<◌}
 use native.Mathlib.Omega.{arith}
-use native.Mathlib.Decide.{ℕ_discrete}
+use native.Mathlib.Decide.{ℕ_discrete, dec_lt}
+use Rattle.std.proofs.Math.Pow.{pow_mono}
 use lib.ListN.{length}
 use lib.Bits.{bit_and}
 use Rattle.model.specs.Base.{nth, put, test_bit}
 use Rattle.model.proofs.Laws.{nth_put_same, length_put}
 use Rattle.image_laws.proofs.Digits.{digit_le, digit_on, on_digit, bit-and, bit_none}
+use Rattle.image_laws.proofs.Masks.{set_within}
 use Rattle.image_laws.proofs.Places.{place_word, place_bit, place_in, word_in, words_full}
 use Rattle.search_laws.specs.Search.{Planes, pending, LastOf, Hinted, no_granule, some_granule, LastPending, Refilled}
 use Rattle.search_laws.proofs.Planes.{planes_width, pending_digit}
@@ -28,6 +30,10 @@ hinting_none w i word hints n l = record { room = l; rest = λ j e. e; last = in
 module _ {w i word : ℕ} {hints₀ : List ℕ} {n : ℕ} {hints : List ℕ} {x h : ℕ} (t : Hinting w i word hints₀ n hints x h) where
   and_rest : (y j : ℕ) → test_bit (bit_and x y) j ≡ true → test_bit x j ≡ true
   and_rest y j e = on_digit _ (omega (arith, bit-and x y j, digit_on e, digit_le (test_bit x j)))
+
+  -- a bit of x is one of word's
+  pub hinting_bit : word < 2 ^ w → (j : ℕ) → test_bit x j ≡ true → j < w
+  hinting_bit b j e = elim (dec_lt j w) [ yes l ↦ l | no l ↦ absurd (omega (arith, set_within word j (t.rest j e), pow_mono {i = w} {j = j} (omega arith))) ]
 
   pub hinting_more : (y : ℕ) → h < length hints → (j : ℕ) → j < w → test_bit x j ≡ true → (v : ℕ) → v ≡ w * i + j → Hinting w i word hints₀ n (put hints h v) (bit_and x y) (h + 1)
   hinting_more y l j lj e v ev =

@@ -1,10 +1,6 @@
-use Rattle.image_laws.proofs.Trailing.{word_lowest}
-use Rattle.image.specs.Layout.{width}
-use native.Mathlib.Omega.{arith}
+use borrow.Author.Rules.{rules}
+use Rattle.image_laws.proofs.Trailing.{trailing_lowest}
 use Rattle.pending_objects.proofs.planes.lowest.Goals as goal
 
-pub overflow_cast-result-2 : goal.overflow_cast-result-2
-overflow_cast-result-2 c = omega (arith, (word_lowest width c.args.x (omega arith) (omega arith) c.requires).within)
-
 pub returns : goal.returns
-returns c = let q = word_lowest width c.args.x (omega arith) (omega arith) c.requires in (q.within, q.is_set)
+returns c = let q = trailing_lowest 64 c.args.x (search rules) c.requires in (q.within, q.is_set)
