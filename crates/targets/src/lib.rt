@@ -8,29 +8,28 @@ ghost use Rattle.model.specs.Undamaged.{reg_ok};
 ghost use Rattle.image_laws.specs.Sized.{Sized};
 ghost use Rattle.soundness_laws.specs.Sets.{Named};
 ghost use Rattle.soundness_laws.specs.Tests.{link_ok};
-ghost use Rattle.image.specs.Layout.{width};
 
-use image::layout::Word;
+use image::word::Word;
 
 pub mod small; // small.rt: objects of one granule, side by side
 
 // ---- registers
 
-pub fn reg_ok(im: &[Word], k: usize, table: &[Word], i: usize) -> bool
-    requires sized { Sized width k im.now }
-    requires named { Named width (image_of width k im.now).starts table.now }
+pub fn reg_ok<W: Word>(im: &[W], k: usize, table: &[u64], i: usize) -> bool
+    requires sized { Sized W.BITS k (W.words im.now) }
+    requires named { Named W.BITS (image_of W.BITS k (W.words im.now)).starts table.now }
     requires i_bound { i < 256 }
-    ensures { result ≡ reg_ok (image_of width k im.now) i }
+    ensures { result ≡ reg_ok (image_of W.BITS k (W.words im.now)) i }
 {
-    sets::is_target(im, k, table, image::sections::reg_word(im, k, i) as usize)
+    sets::is_target(im, k, table, image::sections::reg_word(im, k, i).value())
 }
 
 // How many registers there are to ask: mostly those behind the first player's hold nothing.
-fn regs_to_ask(im: &[Word], k: usize) -> usize
-    requires { Sized width k im.now }
-    ensures { (result ≤ 256) × (all 256 (reg_ok (image_of width k im.now)) ≡ all result (reg_ok (image_of width k im.now))) }
+fn regs_to_ask<W: Word>(im: &[W], k: usize) -> usize
+    requires { Sized W.BITS k (W.words im.now) }
+    ensures { (result ≤ 256) × (all 256 (reg_ok (image_of W.BITS k (W.words im.now))) ≡ all result (reg_ok (image_of W.BITS k (W.words im.now)))) }
 {
-    if image::sections::reg_word(im, k, 16) == 0 {
+    if image::sections::reg_word(im, k, 16).value() == 0 {
         if stretches::parts::zero_regs(im, k, 16, 256) {
             return 16;
         }
@@ -38,58 +37,49 @@ fn regs_to_ask(im: &[Word], k: usize) -> usize
     256
 }
 
-pub fn regs_ok(im: &[Word], k: usize, table: &[Word]) -> bool
-    requires sized { Sized width k im.now }
-    requires named { Named width (image_of width k im.now).starts table.now }
-    ensures { result ≡ all 256 (reg_ok (image_of width k im.now)) }
+pub fn regs_ok<W: Word>(im: &[W], k: usize, table: &[u64]) -> bool
+    requires sized { Sized W.BITS k (W.words im.now) }
+    requires named { Named W.BITS (image_of W.BITS k (W.words im.now)).starts table.now }
+    ensures { result ≡ all 256 (reg_ok (image_of W.BITS k (W.words im.now))) }
 {
     let n = regs_to_ask(im, k);
     let mut ok = true;
-    let mut i = 0;
-    while i < n {
+    for i in 0..n {
         ok = ok & reg_ok(im, k, table, i);
-        i += 1;
     }
     ok
 }
 
 // ---- links of the object at g
 
-pub fn link_ok(im: &[Word], k: usize, table: &[Word], g: usize, i: usize) -> bool
-    requires sized { Sized width k im.now }
-    requires named { Named width (image_of width k im.now).starts table.now }
+pub fn link_ok<W: Word>(im: &[W], k: usize, table: &[u64], g: usize, i: usize) -> bool
+    requires sized { Sized W.BITS k (W.words im.now) }
+    requires named { Named W.BITS (image_of W.BITS k (W.words im.now)).starts table.now }
     requires i_bound { 4 * g + 2 + i < 256 * k }
-    ensures { result ≡ link_ok (image_of width k im.now) g i }
+    ensures { result ≡ link_ok (image_of W.BITS k (W.words im.now)) g i }
 {
-    sets::is_target(
-        im,
-        k,
-        table,
-        image::sections::word(im, k, g, 2 + i) as usize,
-    )
+    sets::is_target(im, k, table, image::sections::word(im, k, g, 2 + i).value())
 }
 
 // The links in the object's first granule, with no branch: most objects have few.
-pub fn first_links(im: &[Word], k: usize, table: &[Word], g: usize, n: usize) -> bool
-    requires sized { Sized width k im.now }
-    requires named { Named width (image_of width k im.now).starts table.now }
+pub fn first_links<W: Word>(im: &[W], k: usize, table: &[u64], g: usize, n: usize) -> bool
+    requires sized { Sized W.BITS k (W.words im.now) }
+    requires named { Named W.BITS (image_of W.BITS k (W.words im.now)).starts table.now }
     requires g_bound { g < 64 * k }
-    ensures { result ≡ all (min 2 n) (link_ok (image_of width k im.now) g) }
+    ensures { result ≡ all (min 2 n) (link_ok (image_of W.BITS k (W.words im.now)) g) }
 {
     ((n < 1) | link_ok(im, k, table, g, 0)) & ((n < 2) | link_ok(im, k, table, g, 1))
 }
 
-pub fn links_ok(im: &[Word], k: usize, table: &[Word], g: usize, n: usize) -> bool
-    requires sized { Sized width k im.now }
-    requires named { Named width (image_of width k im.now).starts table.now }
+pub fn links_ok<W: Word>(im: &[W], k: usize, table: &[u64], g: usize, n: usize) -> bool
+    requires sized { Sized W.BITS k (W.words im.now) }
+    requires named { Named W.BITS (image_of W.BITS k (W.words im.now)).starts table.now }
     requires n_bound { 4 * g + 2 + n ≤ 256 * k }
-    ensures { result ≡ all n (link_ok (image_of width k im.now) g) }
+    ensures { result ≡ all n (link_ok (image_of W.BITS k (W.words im.now)) g) }
 {
     let mut ok = first_links(im, k, table, g, n);
-    let mut i = sets::least(2, n);
-    while i < n {
+    for i in sets::least(2, n)..n {
         ok = ok & link_ok(im, k, table, g, i);
-        i += 1;
     }
     ok
 }

@@ -1,12 +1,7 @@
-use Prim.Native.Nat.{◌-◌}
 use Rattle.model.specs.Image.{image_of}
 use Rattle.model.specs.Undamaged.{reg_ok}
-use Rattle.image.specs.Layout.{width}
 use Rattle.soundness_laws.proofs.Checks.{Checked}
 use Rattle.targets.proofs.regs_ok.Given as goal
 
 abbrev pub invariant-loop-i : goal.invariant-loop-i
-invariant-loop-i l = Checked l.n (reg_ok (image_of width l.k l.im)) l.ok l.i
-
-abbrev pub decreases-loop-i : goal.decreases-loop-i
-decreases-loop-i l = l.n - l.i
+invariant-loop-i g l = Checked l.n (reg_ok (image_of g.W.Word.BITS l.k (g.W.Word.words l.im))) l.ok l.i

@@ -1,13 +1,5 @@
-use borrow.Author.Rules.{rules}
-use Rattle.soundness_laws.proofs.Small.{full_bounds, upto_none}
-use native.Mathlib.Omega.{arith}
+use Rattle.soundness_laws.proofs.Small.{full_bounds}
 use Rattle.targets.proofs.small.after_small.Goals as goal
 
-pub returns-then-n-eq0 : goal.returns-then-n-eq0
-returns-then-n-eq0 c = search upto_none
-
-pub last_full-requires : goal.last_full-requires
-last_full-requires c = omega (arith, c.full_words-n.ensures.within, c.requires.sized.high)
-
-pub small_words-requires : goal.small_words-requires
-small_words-requires c = record { sized = search rules; named = search rules; link_bounds = search full_bounds; full_upto = search rules }
+pub small_words-requires-clause-link_bounds : goal.small_words-requires-clause-link_bounds
+small_words-requires-clause-link_bounds g c = full_bounds _ _ _ c.requires.sized _ c.full_words-n.ensures _ _ (rw c.BITS.ensures at c.of-last.ensures) c.note_bounds.ensures

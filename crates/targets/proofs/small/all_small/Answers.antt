@@ -1,11 +1,9 @@
-use Rattle.soundness_laws.proofs.Checks.{from_none, from_more, from_end}
+use borrow.Author.Rules.{rules}
+use Rattle.soundness_laws.proofs.Checks.{from_none, from_more}
 use Rattle.targets.proofs.small.all_small.Goals as goal
 
 pub loop-g-init : goal.loop-g-init
-loop-g-init c = search from_none
+loop-g-init g c = search (rules, from_none)
 
 pub loop-g-preserved : goal.loop-g-preserved
-loop-g-preserved c = search from_more
-
-pub returns : goal.returns
-returns c = search from_end
+loop-g-preserved g c = search (rules, from_more)

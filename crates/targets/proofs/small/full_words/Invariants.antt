@@ -1,11 +1,6 @@
 use Rattle.model.specs.Image.{image_of}
-use Rattle.image.specs.Layout.{width}
 use Rattle.soundness_laws.specs.Small.{FullUpto}
-use Prim.Native.Nat.{◌*◌, ◌-◌, ◌/◌}
 use Rattle.targets.proofs.small.full_words.Given as goal
 
 abbrev pub invariant-loop-n : goal.invariant-loop-n
-invariant-loop-n l = FullUpto width l.k (image_of width l.k l.im) l.n
-
-abbrev pub decreases-loop-n : goal.decreases-loop-n
-decreases-loop-n l = 64 * l.k / width - l.n
+invariant-loop-n g l = FullUpto g.W.Word.BITS l.k (image_of g.W.Word.BITS l.k (g.W.Word.words l.im)) l.n

@@ -1,5 +1,6 @@
+use borrow.Author.Rules.{rules}
 use Rattle.soundness_laws.proofs.Small.{small_is}
 use Rattle.targets.proofs.small.is_small.Goals as goal
 
 pub returns : goal.returns
-returns c = search small_is
+returns g c = search (rules, small_is)

@@ -1,22 +1,7 @@
-use borrow.Author.Rules.{rules}
-use Rattle.model.specs.Base.{put}
+use Rattle.image.proofs.Words.{word_written}
 use Rattle.soundness_laws.specs.Small.{put_four}
-use mathlib.Core.Path.{refl}
-use lib.ListN.{length-set}
 use Rattle.targets.proofs.small.put_four.Goals as goal
 
-pub bounds-l-o-2 : goal.bounds-l-o-2
-unfolding put_four put
-bounds-l-o-2 c = simp length-set (search rules)
-
-pub bounds-l-o-3 : goal.bounds-l-o-3
-unfolding put_four put
-bounds-l-o-3 c = simp length-set (search rules)
-
-pub bounds-l-o-4 : goal.bounds-l-o-4
-unfolding put_four put
-bounds-l-o-4 c = simp length-set (search rules)
-
 pub returns : goal.returns
-unfolding put_four put
-returns c = refl
+unfolding put_four
+returns g c = simp (word_written g.met.W.Word.laws.by_value)

@@ -1,25 +1,13 @@
-use Rattle.image.specs.Layout.{width}
-use Rattle.soundness_laws.proofs.Small.{full_inside, word_end, upto_none, upto_more}
+use Rattle.soundness_laws.proofs.Small.{full_inside, word_end, upto_more}
 use native.Mathlib.Omega.{arith}
 use Rattle.targets.proofs.small.small_words.Goals as goal
 
-pub loop-g-init : goal.loop-g-init
-loop-g-init c = search upto_none
-
-pub overflow_mul-n : goal.overflow_mul-n
-overflow_mul-n c = omega (arith, c.requires.full_upto.within, c.requires.sized.high)
-
-pub is_small_word-requires : goal.is_small_word-requires
-is_small_word-requires c = record { sized = c.requires.sized; named = c.requires.named; link_bounds = c.requires.link_bounds; width_bound = omega (arith, word_end width _ _ c.requires.sized _ _ c.loop-g-test.true, full_inside width _ _ c.requires.sized _ c.requires.full_upto) }
-
-pub returns-then-not-is_small_word : goal.returns-then-not-is_small_word
-returns-then-not-is_small_word c = c.loop-g.invariant
-
-pub overflow_add-g : goal.overflow_add-g
-overflow_add-g c = omega (arith, c.loop-g.invariant.high, c.requires.sized.high)
+pub is_small_word-requires-clause-width_bound : goal.is_small_word-requires-clause-width_bound
+is_small_word-requires-clause-width_bound g c =
+    let P = c.requires in
+    omega (arith, word_end g.W.Word.BITS _ _ P.sized _ _ (rw c.BITS-w.ensures at c.loop-g-test.true), full_inside g.W.Word.BITS _ _ P.sized _ P.full_upto)
 
 pub loop-g-preserved : goal.loop-g-preserved
-loop-g-preserved c = upto_more width _ _ c.requires.sized _ _ c.requires.full_upto c.loop-g.invariant c.loop-g-test.true (c.is_small_word.ensures c.if-not-is_small_word.false)
-
-pub returns : goal.returns
-returns c = c.loop-g.invariant
+loop-g-preserved g c =
+    rw c.BITS-w.ensures
+    (upto_more g.W.Word.BITS _ _ c.requires.sized _ _ c.requires.full_upto c.loop-g.invariant (rw c.BITS-w.ensures at c.loop-g-test.true) (c.is_small_word.ensures c.if-not-is_small_word.false))
