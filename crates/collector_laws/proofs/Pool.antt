@@ -12,8 +12,7 @@ use Rattle.model.specs.Image.{Image, count, input, output}
 use Rattle.model.specs.Collect.{held, emptiest, has_entries, fullest}
 use Rattle.model.proofs.Laws.{bool_cases, best_ok, every_use}
 use Rattle.model.proofs.Bits.{with_bit_same, with_bit_other}
-use Rattle.collector_laws.specs.Pool.{choice, chosen_by, held_with, held_set, lacks_space}
-use Rattle.collector_laws.specs.declared.Choice.{Choice}
+use Rattle.collector_laws.specs.Pool.{Choice, choice, chosen_by, held_with, held_set, lacks_space}
 use native.Mathlib.Numerals.{add-one}
 use native.Mathlib.Nat.{one-mul}
 use Rattle.image_laws.proofs.Masks.{or_pow}

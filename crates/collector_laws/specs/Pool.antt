@@ -2,8 +2,12 @@
 use Rattle.std.specs.Prelude.{◌≡◌, Bool, true, false, ◌&&◌, [], ◌∷◌, ℕ, zero, suc, ◌-◌, ◌<◌, leb, eqb}
 use Rattle.model.specs.Base.{with_bit, some}
 use Rattle.model.specs.Image.{Image, count, input, output}
-use Rattle.collector_laws.specs.declared.Choice.{Choice}
 use Rattle.theory.specs.Fields.{bound}
+
+-- a packet by its number + 1, as the words of a tracer name it (0: none), and its number of entries
+pub record Choice : Type 0 where
+  pub packet : ℕ
+  pub entries : ℕ
 
 -- packets as bits, with the bit of a packet given by its number + 1; 0 is no packet
 unfoldable pub held_with : ℕ → ℕ → ℕ

@@ -1,17 +1,9 @@
+use Rattle.std.proofs.Common.{refl, arith, ◌∙◌}
 use borrow.Author.Rules.{rules}
-use Rattle.collector_laws.specs.Pool.{choice}
-use Rattle.collector_laws.proofs.Pool.{choice_more, in_pool, emptiest_choice}
-use mathlib.Core.Path.{refl}
+use lib.Dec.{ltb}
+use Rattle.model.specs.Image.{image_of}
+use Rattle.collector_laws.proofs.Pool.{emptiest_choice}
 use Rattle.packet_pool.proofs.pool.emptiest.Goals as goal
 
-pub loop-p-init : goal.loop-p-init
-unfolding choice
-loop-p-init c = (search rules, refl)
-
-pub loop-p-preserved : goal.loop-p-preserved
-unfolding choice
-loop-p-preserved c = (search rules, search (choice_more, in_pool))
-
 pub returns : goal.returns
-unfolding choice
-returns c = search emptiest_choice
+returns g c = c.choose.ensures ltb (λ n e r a b p. search rules) ∙ emptiest_choice (image_of g.W.Word.BITS c.args.k (g.W.Word.words c.args.im.now)) 32 _ refl (omega arith) (omega arith)

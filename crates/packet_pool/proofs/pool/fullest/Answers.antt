@@ -1,17 +1,8 @@
+use Rattle.std.proofs.Common.{refl, arith, ◌∙◌}
 use borrow.Author.Rules.{rules}
-use Rattle.collector_laws.specs.Pool.{choice}
-use Rattle.collector_laws.proofs.Pool.{choice_more, in_pool, fullest_choice}
-use mathlib.Core.Path.{refl}
+use Rattle.model.specs.Image.{image_of}
+use Rattle.collector_laws.proofs.Pool.{fullest_choice, greater}
 use Rattle.packet_pool.proofs.pool.fullest.Goals as goal
 
-pub loop-p-init : goal.loop-p-init
-unfolding choice
-loop-p-init c = (search rules, refl)
-
-pub loop-p-preserved : goal.loop-p-preserved
-unfolding choice
-loop-p-preserved c = (search rules, search (choice_more, in_pool))
-
 pub returns : goal.returns
-unfolding choice
-returns c = search fullest_choice
+returns g c = c.choose.ensures greater (λ n e r a b p. search rules) ∙ fullest_choice (image_of g.W.Word.BITS c.args.k (g.W.Word.words c.args.im.now)) 32 _ refl (omega arith) (omega arith)
