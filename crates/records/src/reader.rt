@@ -1,10 +1,9 @@
 // A reader of step records: the step bytes, and a position in them, which moves on by a record at each `next`.
 ghost use Rattle.std.specs.Prelude.{◌≡◌, ◌+◌, ◌-◌, ◌/◌, ◌≤◌, length, take, drop};
 ghost use Rattle.model.specs.Records.{record_bytes, step_of};
-ghost use Rattle.image.specs.Layout.{width, record_length};
 ghost use Rattle.request_laws.specs.Request.{requested, InRange};
 
-use image::layout::RECORD;
+use crate::format::Format;
 use request_laws::Request;
 
 #[derive(Clone, Copy)]
@@ -21,19 +20,19 @@ pub fn new<'a>(bytes: &'a [u8]) -> Reader<'a>
 }
 
 // How many records are left.
-pub fn left<'a>(r: Reader<'a>) -> usize
+pub fn left<'a, W: Format>(r: Reader<'a>) -> usize
     requires { r.at ≤ length r.bytes.now }
-    ensures { result ≡ (length r.entry.bytes.now - r.entry.at) / record_length }
+    ensures { result ≡ (length r.entry.bytes.now - r.entry.at) / record_bytes W.BITS }
 {
-    (r.bytes.len() - r.at) / RECORD
+    (r.bytes.len() - r.at) / W::RECORD
 }
 
 // The record at the position, which moves on to the one behind it.
-pub fn next<'s, 'a>(r: &'s mut Reader<'a>) -> Request
-    requires { r.old.at + record_length ≤ length r.old.bytes.now }
-    ensures { ((requested result ≡ step_of width (take (record_bytes width) (drop r.old.at r.old.bytes.now))) × InRange width result) × ((r.new.bytes ≡ r.old.bytes) × (r.new.at ≡ r.old.at + record_length)) }
+pub fn next<'s, 'a, W: Format>(r: &'s mut Reader<'a>) -> Request
+    requires { r.old.at + record_bytes W.BITS ≤ length r.old.bytes.now }
+    ensures { ((requested result ≡ step_of W.BITS (take (record_bytes W.BITS) (drop r.old.at r.old.bytes.now))) × InRange W.BITS result) × ((r.new.bytes ≡ r.old.bytes) × (r.new.at ≡ r.old.at + record_bytes W.BITS)) }
 {
     let at = r.at;
-    r.at = at + RECORD;
-    crate::record::record_at(r.bytes, at)
+    r.at = at + W::RECORD;
+    W::record_at(r.bytes, at)
 }

@@ -3,7 +3,7 @@ use native.Mathlib.Omega.{arith}
 use lib.ListN.{drop}
 use Rattle.model.specs.Records.{record_bytes}
 use Rattle.show_store_laws.proofs.Record.{no_zeros, record_is}
-use Rattle.records.proofs.record.record_at.Goals as goal
+use Rattle.records.proofs.format.U16Format.record_at.Goals as goal
 
 pub returns : goal.returns
 unfolding record_bytes
