@@ -4,18 +4,18 @@
 ghost use Rattle.std.specs.Prelude.{◌≡◌};
 ghost use Rattle.model.specs.Image.{image_of};
 ghost use Rattle.image_laws.specs.Sized.{Sized};
-ghost use Rattle.image.specs.Layout.{width};
 ghost use Rattle.soundness_laws.specs.Tests.{cycle_lines};
 
-use image::layout::Word;
+use image::word::Word;
 
 pub mod counts; // counts.rt: the counts of the cards are those of their mark bits
 pub mod marks; // marks.rt: marks stand only on starts
 pub mod packets; // packets.rt: packets
 
-pub fn cycle_ok(im: &[Word], k: usize) -> bool
-    requires { Sized width k im.now }
-    ensures { result ≡ cycle_lines (image_of width k im.now) }
+#[tactic(auto, using(soundness_laws::proofs::Lines::cycle_no, soundness_laws::proofs::Lines::cycle_packed))]
+pub fn cycle_ok<W: Word>(im: &[W], k: usize) -> bool
+    requires { Sized W.BITS k (W.words im.now) }
+    ensures { result ≡ cycle_lines (image_of W.BITS k (W.words im.now)) }
 {
     if !packets::packets_ok(im, k) {
         return false;

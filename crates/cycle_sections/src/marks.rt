@@ -4,19 +4,19 @@ ghost use Rattle.model.specs.Base.{all};
 ghost use Rattle.model.specs.Image.{image_of, granules};
 ghost use Rattle.model.specs.Undamaged.{mark_ok};
 ghost use Rattle.image_laws.specs.Sized.{Sized};
-ghost use Rattle.image.specs.Layout.{width};
 
-use image::layout::{BITS, Word};
+use image::word::Word;
 
-pub fn marks_ok(im: &[Word], k: usize) -> bool
-    requires { Sized width k im.now }
-    ensures { result ≡ all (granules (image_of width k im.now)) (mark_ok (image_of width k im.now)) }
+#[tactic(auto, unfolding(model::specs::Base::all))]
+pub fn marks_ok<W: Word>(im: &[W], k: usize) -> bool
+    requires { Sized W.BITS k (W.words im.now) }
+    ensures { result ≡ all (granules (image_of W.BITS k (W.words im.now))) (mark_ok (image_of W.BITS k (W.words im.now))) }
 {
-    let mut bad: Word = 0;
-    let mut i = 0;
-    while i < 64 * k / BITS {
-        bad |= image::sections::mark_word(im, k, i) & !image::sections::start_word(im, k, i);
-        i += 1;
+    let mut ok = true;
+    for i in 0..64 * k / W::BITS {
+        let m = image::sections::mark_word(im, k, i).value();
+        let s = image::sections::start_word(im, k, i).value();
+        ok = ok & (m & !s == 0);
     }
-    bad == 0
+    ok
 }

@@ -3,41 +3,41 @@ ghost use Rattle.std.specs.Prelude.{◌≡◌, ◌≤◌, ◌<◌};
 ghost use Rattle.model.specs.Base.{all};
 ghost use Rattle.model.specs.Image.{image_of};
 ghost use Rattle.image_laws.specs.Sized.{Sized};
-ghost use Rattle.image.specs.Layout.{width};
 ghost use Rattle.soundness_laws.specs.Tests.{entry_marked, packet_ok_at};
 
-use image::layout::Word;
+use image::word::Word;
 
-pub fn entry_ok(im: &[Word], k: usize, p: usize, e: usize) -> bool
-    requires sized { Sized width k im.now }
+#[tactic(auto, using(soundness_laws::proofs::Packets::marked_entry))]
+pub fn entry_ok<W: Word>(im: &[W], k: usize, p: usize, e: usize) -> bool
+    requires sized { Sized W.BITS k (W.words im.now) }
     requires p_bound { (p < 32) × (e < 30) }
-    ensures { result ≡ entry_marked (image_of width k im.now) p e }
+    ensures { result ≡ entry_marked (image_of W.BITS k (W.words im.now)) p e }
 {
-    let x = image::sections::packet_word(im, k, 32 * p + 2 + e) as usize;
+    let x = image::sections::packet_word(im, k, 32 * p + 2 + e).value();
     sets::marked_at(im, k, x)
 }
 
-pub fn entries_ok(im: &[Word], k: usize, p: usize, n: usize) -> bool
-    requires sized { Sized width k im.now }
+#[tactic(auto, unfolding(model::specs::Base::all))]
+pub fn entries_ok<W: Word>(im: &[W], k: usize, p: usize, n: usize) -> bool
+    requires sized { Sized W.BITS k (W.words im.now) }
     requires p_bound { (p < 32) × (n ≤ 30) }
-    ensures { result ≡ all n (entry_marked (image_of width k im.now) p) }
+    ensures { result ≡ all n (entry_marked (image_of W.BITS k (W.words im.now)) p) }
 {
     let mut ok = true;
-    let mut i = 0;
-    while i < n {
+    for i in 0..n {
         ok = ok & entry_ok(im, k, p, i);
-        i += 1;
     }
     ok
 }
 
-pub fn packet_ok(im: &[Word], k: usize, p: usize) -> bool
-    requires sized { Sized width k im.now }
+#[tactic(auto, using(soundness_laws::proofs::Packets::packet_many, soundness_laws::proofs::Packets::packet_all))]
+pub fn packet_ok<W: Word>(im: &[W], k: usize, p: usize) -> bool
+    requires sized { Sized W.BITS k (W.words im.now) }
     requires p_bound { p < 32 }
-    ensures { result ≡ packet_ok_at (image_of width k im.now) p }
+    ensures { result ≡ packet_ok_at (image_of W.BITS k (W.words im.now)) p }
 {
-    let n = image::sections::packet_word(im, k, 32 * p) as usize;
-    let z = image::sections::packet_word(im, k, 32 * p + 1);
+    let n = image::sections::packet_word(im, k, 32 * p).value();
+    let z = image::sections::packet_word(im, k, 32 * p + 1).value();
     if 30 < n {
         return false;
     }
@@ -46,15 +46,14 @@ pub fn packet_ok(im: &[Word], k: usize, p: usize) -> bool
         & stretches::parts::zero_entries(im, k, 32 * p + 2 + n, 32 * p + 32)
 }
 
-pub fn packets_ok(im: &[Word], k: usize) -> bool
-    requires { Sized width k im.now }
-    ensures { result ≡ all 32 (packet_ok_at (image_of width k im.now)) }
+#[tactic(auto, unfolding(model::specs::Base::all))]
+pub fn packets_ok<W: Word>(im: &[W], k: usize) -> bool
+    requires { Sized W.BITS k (W.words im.now) }
+    ensures { result ≡ all 32 (packet_ok_at (image_of W.BITS k (W.words im.now))) }
 {
     let mut ok = true;
-    let mut i = 0;
-    while i < 32 {
+    for i in 0..32 {
         ok = ok & packet_ok(im, k, i);
-        i += 1;
     }
     ok
 }

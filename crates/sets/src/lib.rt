@@ -57,14 +57,16 @@ pub fn in_plane<W: Word>(plane: &[W], g: usize) -> bool
 
 pub fn start_words<W: Word>(im: &[W], k: usize) -> &[W]
     requires { Sized W.BITS k (W.words im.now) }
-    ensures { W.words result.now ≡ (image_of W.BITS k (W.words im.now)).starts }
+    ensures words { W.words result.now ≡ (image_of W.BITS k (W.words im.now)).starts }
+    ensures cards { length result.now ≡ W.CARD_BITS * k }
 {
     &im[image::layout::starts_at::<W>(k)..image::layout::marks_at::<W>(k)]
 }
 
 pub fn mark_words<W: Word>(im: &[W], k: usize) -> &[W]
     requires { Sized W.BITS k (W.words im.now) }
-    ensures { W.words result.now ≡ (image_of W.BITS k (W.words im.now)).marks }
+    ensures words { W.words result.now ≡ (image_of W.BITS k (W.words im.now)).marks }
+    ensures cards { length result.now ≡ W.CARD_BITS * k }
 {
     &im[image::layout::marks_at::<W>(k)..image::layout::cards_at::<W>(k)]
 }
@@ -118,6 +120,7 @@ fn is_tabled<W: Word>(k: usize) -> bool
 }
 
 // The bit is read of a number that the table has, or of a granule that the store has, so that no branch hangs on the word.
+#[tactic(auto, using(soundness_laws::proofs::Sets::table_bit))]
 fn in_table(table: &[u64], a: usize) -> bool
     requires { length table.now ≡ table_words }
     ensures { result ≡ (ltb a 65536 && bit 64 table.now (min a 65535)) }
@@ -126,6 +129,7 @@ fn in_table(table: &[u64], a: usize) -> bool
     (a < NUMBERS) & in_set(table, b)
 }
 
+#[tactic(auto, using(soundness_laws::proofs::Sets::start_at))]
 fn start_at<W: Word>(im: &[W], k: usize, a: usize) -> bool
     requires { Sized W.BITS k (W.words im.now) }
     ensures { result ≡ is_start (image_of W.BITS k (W.words im.now)) a }
@@ -134,6 +138,7 @@ fn start_at<W: Word>(im: &[W], k: usize, a: usize) -> bool
     (a < 64 * k) & bits_and_cards::bits::is_start(im, k, b)
 }
 
+#[tactic(auto, using(soundness_laws::proofs::Sets::mark_at))]
 pub fn marked_at<W: Word>(im: &[W], k: usize, a: usize) -> bool
     requires { Sized W.BITS k (W.words im.now) }
     ensures { result ≡ marked (image_of W.BITS k (W.words im.now)) a }
@@ -142,6 +147,7 @@ pub fn marked_at<W: Word>(im: &[W], k: usize, a: usize) -> bool
     (a < 64 * k) & bits_and_cards::bits::is_marked(im, k, b)
 }
 
+#[tactic(auto, using(soundness_laws::proofs::Sets::target_bit, soundness_laws::proofs::Sets::target_asked))]
 pub fn is_target<W: Word>(im: &[W], k: usize, table: &[u64], a: usize) -> bool
     requires sized { Sized W.BITS k (W.words im.now) }
     requires named { Named W.BITS (image_of W.BITS k (W.words im.now)).starts table.now }

@@ -34,9 +34,9 @@ entries_more (suc n) ps =
 module _ (w k : ℕ) (l : List ℕ) (z : Sized w k l) where
   -- ---- one packet
 
-  pub entry-marked : (p e x : ℕ) (r : Bool) → x ≡ nth (image_of w k l).packets (32 * p + 2 + e) → r ≡ marked (image_of w k l) x → r ≡ entry_marked (image_of w k l) p e
+  pub marked_entry : (p e x : ℕ) (r : Bool) → x ≡ nth (image_of w k l).packets (32 * p + 2 + e) → r ≡ marked (image_of w k l) x → r ≡ entry_marked (image_of w k l) p e
   unfolding entry_marked entry
-  entry-marked p e x r ex q = q ∙ ap (marked (image_of w k l)) ex
+  marked_entry p e x r ex q = q ∙ ap (marked (image_of w k l)) ex
 
   entry-in : (p e : ℕ) → e < count (image_of w k l) p → entry_ok_at (image_of w k l) p e ≡ entry_marked (image_of w k l) p e
   unfolding entry_ok_at entry_ok entry_marked granules image_of image

@@ -1,8 +1,12 @@
-use Rattle.std.proofs.Common.{arith}
+use Rattle.std.proofs.Common.{◌∙◌, ap, arith, length}
 use Rattle.model.specs.Image.{marks_at, image_of, image}
-use Rattle.sets.proofs.Words.{section_slice}
+use Rattle.image_laws.proofs.Lengths.{marks_words}
+use Rattle.sets.proofs.Words.{section_slice, cards_slice}
 use Rattle.sets.proofs.mark_words.Goals as goal
 
 pub returns : goal.returns
 unfolding image_of image
-returns g c = section_slice g.met.W.Word.laws.by_value c.args.im.now g.W.Word.BITS c.args.k marks_at _ _ c.marks_at.ensures (omega (arith, c.marks_at.ensures, c.cards_at.ensures))
+returns g c =
+    let L = g.met.W.Word.laws in
+    let e = section_slice L.by_value c.args.im.now g.W.Word.BITS c.args.k marks_at _ _ c.marks_at.ensures (omega (arith, c.marks_at.ensures, c.cards_at.ensures)) in
+    record { words = e; cards = cards_slice L.by_value _ _ c.args.k _ L.one_of_two L.bits_of_card (ap length e ∙ marks_words c.requires) }

@@ -1,14 +1,16 @@
-use native.Mathlib.Omega.{arith}
-use Rattle.image_laws.proofs.Parts.{g_none, g_more, g_end}
-use Rattle.image.specs.Layout.{width}
+use borrow.Author.Rules.{rules}
+use Rattle.std.proofs.Common.{◌∙◌, arith}
+use Rattle.model.specs.Base.{all}
 use Rattle.soundness_laws.proofs.Marks.{by_words, mark_word}
 use Rattle.cycle_sections.proofs.marks.marks_ok.Goals as goal
 
-pub loop-i-init : goal.loop-i-init
-loop-i-init c = g_none
-
 pub loop-i-preserved : goal.loop-i-preserved
-loop-i-preserved c = g_more _ _ _ _ _ c.loop-i.invariant (omega arith) (mark_word width _ _ _ _ _ c.mark_word.ensures c.start_word.ensures (omega (arith, c.mark_word.type_inv)) (omega (arith, c.start_word.type_inv)))
+unfolding all
+loop-i-preserved g c =
+    let m = c.value-m.ensures.value ∙ c.mark_word.ensures in
+    let s = c.value-s.ensures.value ∙ c.start_word.ensures in
+    let h = mark_word _ _ _ g.met.W.Word.laws.one_of_two _ _ _ m s c.value-m.ensures.fits (omega arith) in
+    search (rules, h)
 
 pub returns : goal.returns
-returns c = by_words width _ _ _ _ c.requires (g_end c.loop-i.invariant (omega arith))
+returns g c = by_words g.W.Word.BITS _ _ _ _ c.requires (search rules)
