@@ -3,26 +3,25 @@ ghost use Rattle.std.specs.Prelude.{◌≡◌, ◌+◌, ◌*◌, ◌/◌, ◌≤
 ghost use Rattle.model.specs.Image.{image_of};
 ghost use Rattle.theory.specs.Lines.{Sound};
 ghost use Rattle.image_laws.specs.Sized.{Sized};
-ghost use Rattle.image.specs.Layout.{width};
 ghost use Rattle.search_laws.specs.Search.{pending, LastPending, NonePending, Search, to_do, Goes, ChainBits};
 
-use image::layout::Word;
+use image::word::Word;
 
 // All links of g are followed, then g is pending no more.
-fn settle(im: &[Word], k: usize, s: &mut [Word], hints: &mut [Word], n: usize, g: usize) -> usize
-    requires sized { Sized width k im.now }
-    requires sound { Sound (image_of width k im.now) }
-    requires search { Search width k (image_of width k im.now) s.old }
-    requires g_bound { (g < 64 * k) × (pending width k s.old g ≡ 1) }
+fn settle<W: Word>(im: &[W], k: usize, s: &mut [W], hints: &mut [W], n: usize, g: usize) -> usize
+    requires sized { Sized W.BITS k (W.words im.now) }
+    requires sound { Sound (image_of W.BITS k (W.words im.now)) }
+    requires search { Search W.BITS k (image_of W.BITS k (W.words im.now)) (W.words s.old) }
+    requires g_bound { (g < 64 * k) × (pending W.BITS k (W.words s.old) g ≡ 1) }
     requires n_in_bounds { n ≤ length hints.old }
-    ensures goes { Goes width k (image_of width k im.now) s.old s.new 1 }
-    ensures result_bound { to_do width k s.new + result < to_do width k s.old + n }
+    ensures goes { Goes W.BITS k (image_of W.BITS k (W.words im.now)) (W.words s.old) (W.words s.new) 1 }
+    ensures result_bound { to_do W.BITS k (W.words s.new) + result < to_do W.BITS k (W.words s.old) + n }
     ensures upper_bound { result ≤ length hints.old }
 {
     let c = image::sections::links(im, k, g);
     let mut h = n;
     for i in 0..c {
-        let a = image::sections::word(im, k, g, 2 + i) as usize;
+        let a = image::sections::word(im, k, g, 2 + i).value();
         h = pending_objects::hints::visit(s, k, hints, h, a);
     }
     pending_objects::planes::take_out(s, 64 * k + g);
@@ -30,33 +29,33 @@ fn settle(im: &[Word], k: usize, s: &mut [Word], hints: &mut [Word], n: usize, g
 }
 
 // The last hint: its object is settled if it is pending.
-fn settle_hint(im: &[Word], k: usize, s: &mut [Word], hints: &mut [Word], n: usize) -> usize
-    requires sized { Sized width k im.now }
-    requires sound { Sound (image_of width k im.now) }
-    requires search { Search width k (image_of width k im.now) s.old }
+fn settle_hint<W: Word>(im: &[W], k: usize, s: &mut [W], hints: &mut [W], n: usize) -> usize
+    requires sized { Sized W.BITS k (W.words im.now) }
+    requires sound { Sound (image_of W.BITS k (W.words im.now)) }
+    requires search { Search W.BITS k (image_of W.BITS k (W.words im.now)) (W.words s.old) }
     requires le_n { (1 ≤ n) × (n ≤ length hints.old) }
-    ensures goes { Goes width k (image_of width k im.now) s.old s.new 0 }
-    ensures result_bound { to_do width k s.new + result < to_do width k s.old + n }
+    ensures goes { Goes W.BITS k (image_of W.BITS k (W.words im.now)) (W.words s.old) (W.words s.new) 0 }
+    ensures result_bound { to_do W.BITS k (W.words s.new) + result < to_do W.BITS k (W.words s.old) + n }
     ensures upper_bound { result ≤ length hints.old }
 {
     let h = n - 1;
-    let g = hints[h] as usize;
+    let g = hints[h].value();
     if 64 * k <= g {
         return h;
     }
-    if sets::in_set(s, 64 * k + g) {
+    if sets::in_plane(s, 64 * k + g) {
         return settle(im, k, s, hints, h, g);
     }
     h
 }
 
 // The objects that hints name, until there is no hint.
-fn drain(im: &[Word], k: usize, s: &mut [Word], hints: &mut [Word], n: usize)
-    requires sized { Sized width k im.now }
-    requires sound { Sound (image_of width k im.now) }
-    requires search { Search width k (image_of width k im.now) s.old }
+fn drain<W: Word>(im: &[W], k: usize, s: &mut [W], hints: &mut [W], n: usize)
+    requires sized { Sized W.BITS k (W.words im.now) }
+    requires sound { Sound (image_of W.BITS k (W.words im.now)) }
+    requires search { Search W.BITS k (image_of W.BITS k (W.words im.now)) (W.words s.old) }
     requires n_in_bounds { n ≤ length hints.old }
-    ensures { Goes width k (image_of width k im.now) s.old s.new 0 }
+    ensures { Goes W.BITS k (image_of W.BITS k (W.words im.now)) (W.words s.old) (W.words s.new) 0 }
 {
     let mut h = n;
     while h != 0 {
@@ -65,27 +64,27 @@ fn drain(im: &[Word], k: usize, s: &mut [Word], hints: &mut [Word], n: usize)
 }
 
 // The object that the last hint names is settled, then those that the other hints name.
-fn pass(im: &[Word], k: usize, s: &mut [Word], hints: &mut [Word], n: usize)
-    requires sized { Sized width k im.now }
-    requires sound { Sound (image_of width k im.now) }
-    requires search { Search width k (image_of width k im.now) s.old }
+fn pass<W: Word>(im: &[W], k: usize, s: &mut [W], hints: &mut [W], n: usize)
+    requires sized { Sized W.BITS k (W.words im.now) }
+    requires sound { Sound (image_of W.BITS k (W.words im.now)) }
+    requires search { Search W.BITS k (image_of W.BITS k (W.words im.now)) (W.words s.old) }
     requires le_n { (1 ≤ n) × (n ≤ length hints.old) }
-    requires last_pending { LastPending width k s.old hints.old n }
-    ensures { Goes width k (image_of width k im.now) s.old s.new 1 }
+    requires last_pending { LastPending W.BITS k (W.words s.old) (W.words hints.old) n }
+    ensures { Goes W.BITS k (image_of W.BITS k (W.words im.now)) (W.words s.old) (W.words s.new) 1 }
 {
-    let g = hints[n - 1] as usize;
+    let g = hints[n - 1].value();
     let h = settle(im, k, s, hints, n - 1, g);
     drain(im, k, s, hints, h);
 }
 
 // Until nothing is pending.
-fn follow_all(im: &[Word], k: usize, s: &mut [Word], hints: &mut [Word])
-    requires sized { Sized width k im.now }
-    requires sound { Sound (image_of width k im.now) }
-    requires search { Search width k (image_of width k im.now) s.old }
+fn follow_all<W: Word>(im: &[W], k: usize, s: &mut [W], hints: &mut [W])
+    requires sized { Sized W.BITS k (W.words im.now) }
+    requires sound { Sound (image_of W.BITS k (W.words im.now)) }
+    requires search { Search W.BITS k (image_of W.BITS k (W.words im.now)) (W.words s.old) }
     requires in_bounds { 1 ≤ length hints.old }
-    ensures goes { Goes width k (image_of width k im.now) s.old s.new 0 }
-    ensures none_pending { NonePending width k s.new }
+    ensures goes { Goes W.BITS k (image_of W.BITS k (W.words im.now)) (W.words s.old) (W.words s.new) 0 }
+    ensures none_pending { NonePending W.BITS k (W.words s.new) }
 {
     let mut h = pending_objects::hints::refill(s, k, hints);
     while h != 0 {
@@ -95,12 +94,12 @@ fn follow_all(im: &[Word], k: usize, s: &mut [Word], hints: &mut [Word])
 }
 
 // The planes may hold anything at entry.
-pub fn reach_with(im: &[Word], k: usize, s: &mut [Word], hints: &mut [Word])
-    requires sized { Sized width k im.now }
-    requires sound { Sound (image_of width k im.now) }
-    requires s_len { length s.old ≡ 2 * (64 * k / width) }
+pub fn reach_with<W: Word>(im: &[W], k: usize, s: &mut [W], hints: &mut [W])
+    requires sized { Sized W.BITS k (W.words im.now) }
+    requires sound { Sound (image_of W.BITS k (W.words im.now)) }
+    requires s_len { length s.old ≡ 2 * (64 * k / W.BITS) }
     requires in_bounds { 1 ≤ length hints.old }
-    ensures { ChainBits width k (image_of width k im.now) s.new }
+    ensures { ChainBits W.BITS k (image_of W.BITS k (W.words im.now)) (W.words s.new) }
 {
     stretches::clearing::clear(s);
     pending_objects::planes::add(s, 0);

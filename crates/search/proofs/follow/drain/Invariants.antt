@@ -1,5 +1,4 @@
 use Rattle.model.specs.Image.{image_of}
-use Rattle.image.specs.Layout.{width}
 use Rattle.search_laws.specs.Search.{to_do, Goes}
 use Prim.Native.Nat.{◌+◌, ◌≤◌}
 use mathlib.Core.Path.{◌≡◌}
@@ -7,7 +6,7 @@ use lib.ListN.{length}
 use Rattle.search.proofs.follow.drain.Given as goal
 
 abbrev pub invariant-loop-h : goal.invariant-loop-h
-invariant-loop-h l = Goes width l.k (image_of width l.k l.im) l.initial.s l.s 0 × (l.h ≤ length l.initial.hints) × (length l.hints ≡ length l.initial.hints) × (length l.s ≡ length l.initial.s)
+invariant-loop-h g l = Goes g.W.Word.BITS l.k (image_of g.W.Word.BITS l.k (g.W.Word.words l.im)) (g.W.Word.words l.initial.s) (g.W.Word.words l.s) 0 × (l.h ≤ length l.initial.hints) × (length l.hints ≡ length l.initial.hints) × (length l.s ≡ length l.initial.s)
 
 abbrev pub decreases-loop-h : goal.decreases-loop-h
-decreases-loop-h l = to_do width l.k l.s + l.h
+decreases-loop-h g l = to_do g.W.Word.BITS l.k (g.W.Word.words l.s) + l.h

@@ -1,18 +1,17 @@
-use Rattle.search_laws.proofs.follow.Goes.{goes_on}
-use Rattle.model.specs.Base.{nth}
-use Prim.Native.Nat.{◌-◌}
+use borrow.Author.Rules.{rules}
 use native.Mathlib.Omega.{arith}
+use mathlib.Core.Path.{◌∙◌}
+use Rattle.image.proofs.Words.{word_read}
+use Rattle.search_laws.proofs.follow.Goes.{goes_on}
 use Rattle.search.proofs.follow.pass.Goals as goal
 
-pub overflow_cast-g : goal.overflow_cast-g
-overflow_cast-g c = omega (arith, c.type_inv.hints (c.args.n - 1))
+pub settle-h-requires-clause-g_bound : goal.settle-h-requires-clause-g_bound
+settle-h-requires-clause-g_bound g c =
+    let P = c.requires.last_pending in
+    rw (c.value-g.ensures.value ∙ word_read g.met.W.Word.laws.by_value c.args.hints.now _ _ (search rules) c.index-hints-n.is) (P.here, P.is_pending)
 
-pub settle-h-requires : goal.settle-h-requires
-unfolding nth
-settle-h-requires c = record { sized = c.requires.sized; sound = c.requires.sound; search = c.requires.search; g_bound = (c.requires.last_pending.here, c.requires.last_pending.is_pending); n_in_bounds = omega (arith, c.requires.le_n) }
-
-pub drain-requires : goal.drain-requires
-drain-requires c = record { sized = c.requires.sized; sound = c.requires.sound; search = c.settle-h.ensures.goes.search; n_in_bounds = omega (arith, c.settle-h.ensures.upper_bound) }
+pub drain-requires-clause-search : goal.drain-requires-clause-search
+drain-requires-clause-search g c = c.settle-h.ensures.goes.search
 
 pub returns : goal.returns
-returns c = goes_on 1 (omega arith) c.settle-h.ensures.goes c.drain.ensures
+returns g c = goes_on 1 (omega arith) c.settle-h.ensures.goes c.drain.ensures
