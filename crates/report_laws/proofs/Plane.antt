@@ -11,7 +11,7 @@ use native.Mathlib.Decide.{ℕ_discrete, dec_lt}
 use lib.Bits.{bit_and, and_le_l}
 use lib.Count.{count_trailing_zeros}
 use lib.Dec.{eqb}
-use lib.ListN.{length, get_or}
+use lib.ListN.{length}
 use borrow.Author.Tests.{le-leb, lt-leb, lt-ltb, le-ltb, not-true, eqb-true, eqb-false}
 use Rattle.model.specs.Base.{nth, any, every, test_bit, bit, set_bit}
 use Rattle.model.specs.Image.{Image, is_start, image_of}
@@ -22,7 +22,7 @@ use Rattle.image_laws.specs.Digits.{bit_of}
 use Rattle.image_laws.specs.Sized.{Sized}
 use Rattle.image_laws.proofs.Digits.{digit_le, digit_on, digit_off, on_digit, off_digit, bit_none, bit-and, bit_not}
 use Rattle.image_laws.proofs.Lengths.{sized_width, width_image}
-use Rattle.image_laws.proofs.Places.{place_in, words_full, word_in, some_bits}
+use Rattle.image_laws.proofs.Places.{by_width, place_in, words_full, word_in, some_bits}
 use Rattle.image_laws.proofs.Bits.{bit_at}
 use Rattle.image_laws.proofs.Trailing.{trailing_lowest}
 use Rattle.report_laws.specs.Stretch.{Within}
@@ -39,6 +39,10 @@ unfolding stretch_end
 stretch_ends bs c e i a n w l ea en = (omega (arith, w.ends i l, ea.0, en.0), omega arith)
 
 -- ---- stretches covered
+
+-- a granule below those that n bit words have
+pub bit_in : {w g n : ℕ} → (w ≡ 16) ⊎ (w ≡ 32) → g < w * n → g / w < n
+bit_in {w = w} {g = g} {n = n} = by_width (λ w. g < w * n → g / w < n) (λ h. omega arith) (λ h. omega arith)
 
 spans_none : (a g : ℕ) → spans a (a + 0) g ≡ false
 unfolding spans every
@@ -106,14 +110,14 @@ bare_make : (x v j : ℕ) → bit_of x j ≡ 1 → bit_of v j ≡ 0 → bare_bit
 unfolding bare_bit
 bare_make x v j p q = every_cons _ _ (on_digit _ p) (every_cons _ _ (ap not (off_digit _ q)) every_nil)
 
--- y is the complement of v
-module _ (w x v y : ℕ) (hx : x < 2 ^ w) (hy : v + y + 1 ≡ 2 ^ w) where
+-- y is the complement of v at n bits
+module _ (w n x v y : ℕ) (le : w ≤ n) (hx : x < 2 ^ w) (hy : v + y + 1 ≡ 2 ^ n) where
   both : ℕ
   both = bit_and x y
 
-  both_bit : (j : ℕ) → j < w → bit_of both j ≡ min (bit_of x j) (1 - bit_of v j)
+  both_bit : (j : ℕ) → j < n → bit_of both j ≡ min (bit_of x j) (1 - bit_of v j)
   unfolding both
-  both_bit j l = bit-and x y j ∙ ap (min (bit_of x j)) (omega (arith, bit_not w v y j hy l))
+  both_bit j l = bit-and x y j ∙ ap (min (bit_of x j)) (omega (arith, bit_not n v y j hy l))
 
   bare_there : not (eqb both 0) ≡ true → any w (bare_bit x v) ≡ true
   unfolding both
@@ -121,7 +125,7 @@ module _ (w x v y : ℕ) (hx : x < 2 ^ w) (hy : v + y + 1 ≡ 2 ^ w) where
       let q = trailing_lowest w both (omega (arith, and_le_l x y)) (eqb-false both 0 (not-true (eqb both 0) e)) in
       let t : ℕ = count_trailing_zeros w both in
       let o : bit_of both t ≡ 1 = digit_on q.is_set in
-      let b = both_bit t q.within in
+      let b = both_bit t (omega (arith, q.within)) in
       any_make w _ t q.within (bare_make x v t (omega (arith, b, o, digit_le (test_bit x t))) (omega (arith, b, o, digit_le (test_bit v t))))
 
   bare_back : any w (bare_bit x v) ≡ true → not (eqb both 0) ≡ true
@@ -129,14 +133,14 @@ module _ (w x v y : ℕ) (hx : x < 2 ^ w) (hy : v + y + 1 ≡ 2 ^ w) where
       let r = any_use w _ e in
       let u = bare_use x v r.0 r.2 in
       let q : bit_of both r.0 ≡ 0 = rw (eqb-true both 0 z) (bit_none r.0) in
-      omega (arith, both_bit r.0 r.1, u.0, u.1, q))
+      omega (arith, both_bit r.0 (omega (arith, r.1)), u.0, u.1, q))
 
   pub bare_is : not (eqb (bit_and x y) 0) ≡ any w (bare_bit x v)
   unfolding both
   bare_is = same_test _ _ bare_there bare_back
 
-pub word_bare : (w : ℕ) (m : Image) (s : List ℕ) (i x : ℕ) (r : Bool) → r ≡ any w (bare_bit x (get_or s i 0)) → x ≡ nth m.starts i → r ≡ bare_word w m s i
-unfolding bare_word nth
+pub word_bare : (w : ℕ) (m : Image) (s : List ℕ) (i x : ℕ) (r : Bool) → r ≡ any w (bare_bit x (nth s i)) → x ≡ nth m.starts i → r ≡ bare_word w m s i
+unfolding bare_word
 word_bare w m s i x r e ex = e ∙ rw ex
 
 bare_at : (w : ℕ) (m : Image) (s : List ℕ) → m.width ≡ w → (i j : ℕ) → j < w → bare_bit (nth m.starts i) (nth s i) j ≡ bare_start w m s (w * i + j)
