@@ -101,6 +101,7 @@ pub fn once_ok<W: Word>(im: &[W], k: usize) -> bool
 
 // ---- whether g is entered
 
+#[tactic(auto, using(soundness_laws::proofs::Entered::entered_no, soundness_laws::proofs::Entered::entered_yes, soundness_laws::proofs::Entered::entered_look))]
 pub fn is_entered<W: Word>(im: &[W], k: usize, set: &[u64], g: usize) -> bool
     requires sized { Sized W.BITS k (W.words im.now) }
     requires entered_set { EnteredSet k (image_of W.BITS k (W.words im.now)) set.now }
