@@ -67,9 +67,11 @@ module _ (w : ℕ) (m : Image) (from i n : ℕ) (en : n ≡ links m (w * i + w -
   unfolding near_word every
   near_no h = rw (← en, lt-leb n 2 h)
 
-  pub near_yes : (a e : ℕ) (r : Bool) → n ≤ 2 → a ≡ 4 * (w * i) → e ≡ 4 * (w * i + w) → r ≡ near (w * from) (w * i + w) (take (e - a) (drop a m.heap)) → r ≡ near_word w m from i
+  pub near_yes : (a e f d : ℕ) (r : Bool) → n ≤ 2 → a ≡ 4 * (w * i) → e ≡ 4 * (w * i + w) → f ≡ w * from → d ≡ w * i + w → r ≡ near f d (take (e - a) (drop a m.heap)) → r ≡ near_word w m from i
   unfolding near_word every
-  near_yes a e r h ea ee q = let d : e - a ≡ 4 * w = omega arith in rw (← en, ← ea, ← d, le-leb n 2 h, ← q) (sym (and-true r))
+  near_yes a e f d r h ea ee ef ed q =
+      let part : e - a ≡ 4 * w = omega arith in
+      rw (← en, ← ea, ← part, ← ef, ← ed, le-leb n 2 h, ← q) (sym (and-true r))
 
 -- ---- a near word is covered
 
