@@ -2,7 +2,7 @@
 ghost use Rattle.std.specs.Prelude.{◌≡◌, ℕ, ◌+◌, ◌≤◌, refl, length, take, drop};
 ghost use Rattle.model.specs.Records.{record_bytes, step_of};
 ghost use Rattle.request_laws.specs.Request.{requested, InRange};
-ghost use Rattle.records.specs.Format.{narrow_record, wide_record};
+ghost use Rattle.records.specs.Format.{IsFormat, narrow_is_format, wide_is_format};
 
 use image::word::Word;
 use request_laws::Request;
@@ -18,7 +18,7 @@ pub trait Format: Word {
         requires { at + RECORD ≤ length steps.now }
         ensures { (requested result ≡ step_of Self.BITS (take (record_bytes Self.BITS) (drop at steps.now))) × InRange Self.BITS result };
 
-    ghost length_of_record: { RECORD ≡ record_bytes Self.BITS };
+    ghost format: { IsFormat Self.BITS RECORD };
 }
 
 impl Format for u16 {
@@ -42,7 +42,7 @@ impl Format for u16 {
         }
     }
 
-    ghost length_of_record = { narrow_record };
+    ghost format = { narrow_is_format };
 }
 
 impl Format for u32 {
@@ -68,5 +68,5 @@ impl Format for u32 {
         }
     }
 
-    ghost length_of_record = { wide_record };
+    ghost format = { wide_is_format };
 }
