@@ -7,32 +7,24 @@ ghost use Rattle.image_laws.specs.Sized.{Sized};
 ghost use Rattle.image_laws.specs.Digits.{digit};
 ghost use Rattle.soundness_laws.specs.Sets.{Named};
 ghost use Rattle.soundness_laws.specs.Small.{SmallUpto};
-ghost use Rattle.image.specs.Layout.{width, most};
 ghost use Rattle.soundness_laws.specs.Tests.{LinksInside};
 
-use image::layout::Word;
+use image::word::Word;
 
 // ---- the walk
 
-pub fn object_links(im: &[Word], k: usize, table: &[Word], g: usize, object: bool) -> bool
-    requires sized { Sized width k im.now }
-    requires named { Named width (image_of width k im.now).starts table.now }
+pub fn object_links<W: Word>(im: &[W], k: usize, table: &[u64], g: usize, object: bool) -> bool
+    requires sized { Sized W.BITS k (W.words im.now) }
+    requires named { Named W.BITS (image_of W.BITS k (W.words im.now)).starts table.now }
     requires g_bound { g < 64 * k }
-    requires object_value { object ≡ is_start (image_of width k im.now) g }
-    requires links_inside { LinksInside k (image_of width k im.now) g }
-    ensures { result ≡ links_ok (image_of width k im.now) g }
+    requires object_value { object ≡ is_start (image_of W.BITS k (W.words im.now)) g }
+    requires links_inside { LinksInside k (image_of W.BITS k (W.words im.now)) g }
+    ensures { result ≡ links_ok (image_of W.BITS k (W.words im.now)) g }
 {
     if object {
         return targets::links_ok(im, k, table, g, image::sections::links(im, k, g));
     }
     true
-}
-
-fn one_more(seen: usize, object: bool) -> usize
-    requires { seen ≤ 64 * most }
-    ensures { result ≡ seen + digit object }
-{
-    if object { seen + 1 } else { seen }
 }
 
 // Where the last run ends, behind a piece that ends at `after`.
@@ -43,13 +35,13 @@ fn run_end(object: bool, end: usize, after: usize) -> usize
 }
 
 // That no start lies inside a piece is told at the end: then there are as many starts as objects.
-pub fn walk(im: &[Word], k: usize, table: &[Word], from: usize, first: usize) -> bool
-    requires sized { Sized width k im.now }
-    requires named { Named width (image_of width k im.now).starts table.now }
-    requires first_value { first ≡ first_run (image_of width k im.now) }
-    requires im_value { is_start (image_of width k im.now) 0 ≡ false }
-    requires small_upto { SmallUpto k (image_of width k im.now) from }
-    ensures { result ≡ (filled (image_of width k im.now) && all (granules (image_of width k im.now)) (links_ok (image_of width k im.now))) }
+pub fn walk<W: Word>(im: &[W], k: usize, table: &[u64], from: usize, first: usize) -> bool
+    requires sized { Sized W.BITS k (W.words im.now) }
+    requires named { Named W.BITS (image_of W.BITS k (W.words im.now)).starts table.now }
+    requires first_value { first ≡ first_run (image_of W.BITS k (W.words im.now)) }
+    requires im_value { is_start (image_of W.BITS k (W.words im.now)) 0 ≡ false }
+    requires small_upto { SmallUpto k (image_of W.BITS k (W.words im.now)) from }
+    ensures { result ≡ (filled (image_of W.BITS k (W.words im.now)) && all (granules (image_of W.BITS k (W.words im.now))) (links_ok (image_of W.BITS k (W.words im.now)))) }
 {
     let mut g = from;
     let mut next = first;
@@ -63,9 +55,9 @@ pub fn walk(im: &[Word], k: usize, table: &[Word], from: usize, first: usize) ->
         if !object_links(im, k, table, g, object) {
             return false;
         }
-        seen = one_more(seen, object);
+        seen += object as usize;
         next = heap_pieces::pieces::next_run(im, k, g, object, next);
-        let after = g + image::sections::word(im, k, g, 0) as usize;
+        let after = g + image::sections::word(im, k, g, 0).value();
         end = run_end(object, end, after);
         g = after;
     }
@@ -74,17 +66,17 @@ pub fn walk(im: &[Word], k: usize, table: &[Word], from: usize, first: usize) ->
 
 // ---- granule 0, and the whole heap
 
-pub fn first_unused(im: &[Word], k: usize) -> bool
-    requires { Sized width k im.now }
-    ensures { result ≡ zero_granule (image_of width k im.now) }
+pub fn first_unused<W: Word>(im: &[W], k: usize) -> bool
+    requires { Sized W.BITS k (W.words im.now) }
+    ensures { result ≡ zero_granule (image_of W.BITS k (W.words im.now)) }
 {
     stretches::parts::zero_heap(im, k, 0, 4) & !bits_and_cards::bits::is_start(im, k, 0)
 }
 
-pub fn heap_ok(im: &[Word], k: usize, table: &[Word]) -> bool
-    requires sized { Sized width k im.now }
-    requires named { Named width (image_of width k im.now).starts table.now }
-    ensures { result ≡ (zero_granule (image_of width k im.now) && (filled (image_of width k im.now) && all (granules (image_of width k im.now)) (links_ok (image_of width k im.now)))) }
+pub fn heap_ok<W: Word>(im: &[W], k: usize, table: &[u64]) -> bool
+    requires sized { Sized W.BITS k (W.words im.now) }
+    requires named { Named W.BITS (image_of W.BITS k (W.words im.now)).starts table.now }
+    ensures { result ≡ (zero_granule (image_of W.BITS k (W.words im.now)) && (filled (image_of W.BITS k (W.words im.now)) && all (granules (image_of W.BITS k (W.words im.now))) (links_ok (image_of W.BITS k (W.words im.now))))) }
 {
     if !first_unused(im, k) {
         return false;
@@ -95,6 +87,6 @@ pub fn heap_ok(im: &[Word], k: usize, table: &[Word]) -> bool
         k,
         table,
         from,
-        image::sections::first_run(im, k) as usize,
+        image::sections::first_run(im, k).value(),
     )
 }

@@ -5,19 +5,18 @@ ghost use Rattle.std.specs.Prelude.{◌≡◌};
 ghost use Rattle.model.specs.Image.{image_of};
 ghost use Rattle.model.specs.Undamaged.{sound};
 ghost use Rattle.image_laws.specs.Sized.{Sized};
-ghost use Rattle.image.specs.Layout.{width};
 ghost use Rattle.soundness_laws.specs.Tests.{layout};
 
-use image::layout::Word;
+use image::word::Word;
 use sets::TABLE;
 
 pub mod heap; // heap.rt: objects and runs fill the heap, links are nil or starts
 
-pub fn layout_ok(im: &[Word], k: usize) -> bool
-    requires { Sized width k im.now }
-    ensures { result ≡ layout (image_of width k im.now) }
+pub fn layout_ok<W: Word>(im: &[W], k: usize) -> bool
+    requires { Sized W.BITS k (W.words im.now) }
+    ensures { result ≡ layout (image_of W.BITS k (W.words im.now)) }
 {
-    let mut table: [Word; TABLE] = [0; TABLE];
+    let mut table: [u64; TABLE] = [0; TABLE];
     sets::note_starts(im, k, &mut table);
     heap::heap_ok(im, k, &table)
         & targets::regs_ok(im, k, &table)
@@ -26,12 +25,12 @@ pub fn layout_ok(im: &[Word], k: usize) -> bool
         & short_sections::general_ok(im, k)
 }
 
-pub fn is_sound(im: &[Word], k: usize) -> bool
-    requires { Sized width k im.now }
-    ensures { result ≡ sound (image_of width k im.now) }
+pub fn is_sound<W: Word>(im: &[W], k: usize) -> bool
+    requires { Sized W.BITS k (W.words im.now) }
+    ensures { result ≡ sound (image_of W.BITS k (W.words im.now)) }
 {
     let ok = layout_ok(im, k);
-    if image::sections::running(im, k) == 0 {
+    if image::sections::running(im, k).value() == 0 {
         return ok & short_sections::is_idle(im, k);
     }
     ok & cycle_sections::cycle_ok(im, k)

@@ -9,9 +9,10 @@ use native.Mathlib.Omega.{arith}
 use lib.Dec.{eqb}
 use lib.ListN.{drop, drop_of_length-le, take}
 use lib.Seq.{drop-drop}
+use mir.Val.{bool_byte}
 use borrow.Author.Tests.{not-true, not-false, eq-eqb, ne_eqb}
 use Rattle.model.specs.Base.{nth, all, implies, every, zeroes, how_many}
-use Rattle.model.specs.Image.{image, image_of, granules, word, is_start, links, first_run, most_cards}
+use Rattle.model.specs.Image.{image, image_of, granules, word, is_start, links, first_run}
 use Rattle.model.specs.Undamaged.{bare, piece, fill, filled, links_ok, zero_granule}
 use Rattle.model.proofs.Laws.{false≢, bool_cases, and_split, all_use, all_make, every_use}
 use Rattle.soundness_laws.specs.Tests.{link_ok, object_ok, piece_ok, next_run, LinksInside}
@@ -20,7 +21,9 @@ use Rattle.soundness_laws.proofs.Pieces.{head_use, piece_split, piece_size, tail
 use Rattle.soundness_laws.proofs.Starts.{not_start, clear, seen_more, seen_few}
 use Rattle.image_laws.specs.Sized.{Sized}
 use Rattle.image_laws.proofs.Parts.{all_first, zero_stretch}
-use Rattle.image_laws.proofs.Lengths.{heap_words}
+use Rattle.image_laws.proofs.Digits.{digit_le}
+use Rattle.image_laws.proofs.Lengths.{heap_words, sized_width}
+use Rattle.image_laws.proofs.Places.{few_cards}
 use Rattle.image_laws.specs.Digits.{digit, start_bit}
 use Rattle.model.proofs.Counts.{how_many_most}
 
@@ -33,6 +36,11 @@ run_behind g s end false h = omega arith
 run_end : (g s end : ℕ) (b : Bool) → end ≤ g → 1 ≤ s → eqb (g + s) (cond b end (g + s)) ≡ not b
 run_end g s end true h p = ne_eqb (g + s) end (λ (q : g + s ≡ end). omega arith)
 run_end g s end false h p = eq-eqb (g + s) (g + s) refl
+
+pub byte_digit : (b : Bool) → bool_byte b ≡ digit b
+unfolding digit
+byte_digit true = refl
+byte_digit false = refl
 
 -- ---- one turn of the model's walk
 
@@ -80,8 +88,9 @@ module _ (w k : ℕ) (l : List ℕ) where
     w_start first e h = record { fuel = 64 * k; inside = omega (arith, z.low); behind = omega arith; enough = omega arith; few = omega arith; same = rw (e, h); so_far = λ _. links_none 0 h }
 
     module _ (g next end seen : ℕ) (v : HeapWalk g next end seen) where
-      pub w_small : seen ≤ 64 * most_cards w
-      w_small = omega (arith, v.few, how_many_most (is_start (image_of w k l)) g, v.inside, z.high)
+      -- the count fits, with one more too
+      pub w_small : (b : Bool) → seen + bool_byte b ≤ 64 * 65536 + 1
+      w_small b = rw (byte_digit b) (omega (arith, digit_le b, v.few, how_many_most (is_start (image_of w k l)) g, v.inside, few_cards (sized_width z) z.high))
 
       module _ (hg : g < 64 * k) where
         -- a link that is neither nil nor a start

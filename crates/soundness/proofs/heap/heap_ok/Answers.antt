@@ -3,10 +3,10 @@ use Rattle.soundness_laws.proofs.Heap.{heap_no, heap_yes, unused}
 use Rattle.soundness.proofs.heap.heap_ok.Goals as goal
 
 pub returns-then-not-first_unused : goal.returns-then-not-first_unused
-returns-then-not-first_unused c = search heap_no
+returns-then-not-first_unused g c = search (rules, heap_no)
 
-pub walk-requires : goal.walk-requires
-walk-requires c = record { sized = search rules; named = search rules; first_value = search rules; im_value = search unused; small_upto = search rules }
+pub walk-requires-clause-im_value : goal.walk-requires-clause-im_value
+walk-requires-clause-im_value g c = search (rules, unused)
 
 pub returns : goal.returns
-returns c = search heap_yes
+returns g c = search (rules, heap_yes)
