@@ -1,12 +1,8 @@
-use Prim.Native.Nat.{◌-◌}
+use mathlib.Core.Path.{◌≡◌}
+use Rattle.model.specs.Base.{all}
 use Rattle.model.specs.Image.{image_of}
-use Rattle.image.specs.Layout.{width}
-use Rattle.soundness_laws.proofs.Checks.{Checked}
 use Rattle.judge_laws.specs.Order.{plain}
 use Rattle.covered_objects.proofs.objects.all_plain.Given as goal
 
 abbrev pub invariant-loop-i : goal.invariant-loop-i
-invariant-loop-i l = Checked l.n (plain (image_of width l.k l.im) l.g) l.ok l.i
-
-abbrev pub decreases-loop-i : goal.decreases-loop-i
-decreases-loop-i l = l.n - l.i
+invariant-loop-i g l = l.ok ≡ all l.i (plain (image_of g.W.Word.BITS l.k (g.W.Word.words l.im)) l.g)

@@ -1,12 +1,8 @@
-use Prim.Native.Nat.{◌-◌}
+use mathlib.Core.Path.{◌≡◌}
+use Rattle.model.specs.Base.{any}
 use Rattle.model.specs.Image.{image_of}
-use Rattle.image.specs.Layout.{width}
-use Rattle.soundness_laws.proofs.Checks.{Sought}
 use Rattle.judge_laws.specs.Order.{holds}
 use Rattle.covered_objects.proofs.objects.held_by.Given as goal
 
 abbrev pub invariant-loop-i : goal.invariant-loop-i
-invariant-loop-i l = Sought 16 (holds (image_of width l.k l.im) l.p l.a) l.found l.i
-
-abbrev pub decreases-loop-i : goal.decreases-loop-i
-decreases-loop-i l = 16 - l.i
+invariant-loop-i g l = l.found ≡ any l.i (holds (image_of g.W.Word.BITS l.k (g.W.Word.words l.im)) l.p l.a)

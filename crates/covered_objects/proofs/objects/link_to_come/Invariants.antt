@@ -1,12 +1,8 @@
-use Prim.Native.Nat.{◌-◌}
+use mathlib.Core.Path.{◌≡◌}
+use Rattle.model.specs.Base.{any}
 use Rattle.model.specs.Image.{image_of}
-use Rattle.image.specs.Layout.{width}
-use Rattle.soundness_laws.proofs.Checks.{Sought}
 use Rattle.judge_laws.specs.Order.{hand_comes}
 use Rattle.covered_objects.proofs.objects.link_to_come.Given as goal
 
 abbrev pub invariant-loop-i : goal.invariant-loop-i
-invariant-loop-i l = Sought 8 (hand_comes (image_of width l.k l.im) l.g l.j) l.found l.i
-
-abbrev pub decreases-loop-i : goal.decreases-loop-i
-decreases-loop-i l = 8 - l.i
+invariant-loop-i g l = l.found ≡ any l.i (hand_comes (image_of g.W.Word.BITS l.k (g.W.Word.words l.im)) l.g l.j)
