@@ -4,21 +4,20 @@ ghost use Rattle.model.specs.Image.{image_of};
 ghost use Rattle.model.specs.Mutate.{tightest};
 ghost use Rattle.model.specs.Steps.{step};
 ghost use Rattle.image_laws.specs.Sized.{Sized};
-ghost use Rattle.image.specs.Layout.{width};
-ghost use Rattle.request_laws.specs.Answer.{asked};
-ghost use Rattle.request.specs.Answer.{done_of};
+ghost use Rattle.request_laws.specs.Answer.{asked, done_of};
 
-use image::layout::Word;
-use request::answer::Answer;
+use image::word::Word;
+use request_laws::Refusal;
 
-pub fn begin(im: &mut [Word], k: usize) -> Answer
-    requires { Sized width k im.old }
-    ensures { done_of result (image_of width k im.new) ≡ step tightest (image_of width k im.old) (asked 9 0 0 0 0) }
+#[tactic(auto, using(collector_laws::proofs::Steps::begin_refused, collector_laws::proofs::Steps::begin_goes))]
+pub fn begin<W: Word>(im: &mut [W], k: usize) -> Result<W, Refusal>
+    requires { Sized W.BITS k (W.words im.old) }
+    ensures { done_of W.value result (image_of W.BITS k (W.words im.new)) ≡ step tightest (image_of W.BITS k (W.words im.old)) (asked 9 0 0 0 0) }
 {
-    if image::sections::running(im, k) == 1 {
-        return Answer::WrongPhase;
+    if image::sections::running(im, k).value() == 1 {
+        return Err(Refusal::WrongPhase);
     }
     stretches::clearing::clear_cards(im, k);
-    image::sections::set_general_word(im, k, 0, 1);
-    Answer::Done(0)
+    image::sections::set_general_word(im, k, 0, W::of(1));
+    Ok(W::of(0))
 }
