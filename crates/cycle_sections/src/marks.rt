@@ -7,16 +7,17 @@ ghost use Rattle.image_laws.specs.Sized.{Sized};
 
 use image::word::Word;
 
-#[tactic(auto, unfolding(model::specs::Base::all))]
 pub fn marks_ok<W: Word>(im: &[W], k: usize) -> bool
     requires { Sized W.BITS k (W.words im.now) }
     ensures { result ≡ all (granules (image_of W.BITS k (W.words im.now))) (mark_ok (image_of W.BITS k (W.words im.now))) }
 {
-    let mut ok = true;
-    for i in 0..64 * k / W::BITS {
-        let m = image::sections::mark_word(im, k, i).value();
-        let s = image::sections::start_word(im, k, i).value();
-        ok = ok & (m & !s == 0);
+    let marks = sets::mark_words(im, k);
+    let starts = sets::start_words(im, k);
+    let mut bad: u64 = 0;
+    for c in 0..k {
+        let m = sets::card_bits(marks, c);
+        let s = sets::card_bits(starts, c);
+        bad |= m & !s;
     }
-    ok
+    bad == 0
 }
