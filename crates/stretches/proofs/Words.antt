@@ -1,23 +1,17 @@
 -- Stretches of a slice of words, by the numbers that they are.
-use Rattle.std.proofs.Common.{◌≡◌, ◌∙◌, sym, ap, refl, Bool, not, ◌||◌, ◌&&◌, List, [], ◌∷◌, ◌++◌, map, ℕ, arith, ◌+◌, ◌*◌, ◌-◌, ◌≤◌, ◌<◌, length, get_or, set, take, drop, replicate}
+use Rattle.std.proofs.Common.{◌≡◌, ◌∙◌, Bool, List, [], ◌++◌, map, ℕ, arith, ◌+◌, ◌*◌, ◌-◌, ◌≤◌, ◌<◌, length, get_or, set, take, drop, replicate}
 use Rattle.std.proofs.lemmas.List.{map-append, take-map}
 use Rattle.std.specs.List.{drop-map}
 use borrow.Author.Fill.{fill_more}
 use borrow.Rule.Slice.PartMut.{mid_of, put_mid}
-use lib.Dec.{eqb}
-use mathlib.Core.Bool.{not-not}
 use Rattle.model.specs.Base.{nth, put, zeroes, zeros}
 use Rattle.model.specs.Image.{lengths, place, split, image, image_of, with_heap}
 use Rattle.image_laws.specs.Clearing.{zeroed}
 use Rattle.image_laws.specs.Sized.{Sized}
 use Rattle.image_laws.proofs.Clearing.{zero_whole, zero_heap}
-use Rattle.image_laws.proofs.Compare.{NoneBad, bad_more, not_or, part_words}
+use Rattle.image_laws.proofs.Compare.{part_words}
 use Rattle.image_laws.proofs.Parts.{section_zero}
 use Rattle.image.proofs.Words.{word_read, word_written, words_part}
-
--- a loop that looks for a word that is not 0
-pub zero_more : (n : ℕ) (p : ℕ → Bool) (bad : Bool) (i x : ℕ) → NoneBad n p bad i → i < n → eqb x 0 ≡ p i → NoneBad n p (bad || not (eqb x 0)) (i + 1)
-zero_more n p bad i x v h e = bad_more n p bad i _ v h (simp (not_or, not-not, e))
 
 module _ {A : Type 0} {value : A → ℕ} {words : List A → List ℕ} (by_value : (l : List A) → words l ≡ map value l) where
   -- the number that is read

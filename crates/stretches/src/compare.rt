@@ -11,24 +11,24 @@ pub fn are_within<W: Word>(s: &[W], low: &[W], high: &[W]) -> bool
     requires { (length s.now ≤ length low.now) × (length s.now ≤ length high.now) }
     ensures { result ≡ within (W.words low.now) (W.words high.now) (W.words s.now) }
 {
-    let mut bad = false;
+    let mut ok = true;
     for i in 0..s.len() {
         let x = s[i].value();
-        bad = bad | (x < low[i].value()) | (high[i].value() < x);
+        ok = ok & (low[i].value() <= x) & (x <= high[i].value());
     }
-    !bad
+    ok
 }
 
 // Each word of s is at most 2, or not below from and below the end.
 pub fn are_near<W: Word>(s: &[W], from: W, end: W) -> bool
     ensures { result ≡ near (W.value from) (W.value end) (W.words s.now) }
 {
-    let mut bad = false;
+    let mut ok = true;
     for i in 0..s.len() {
         let x = s[i].value();
-        bad = bad | ((2 < x) & ((x < from.value()) | (end.value() <= x)));
+        ok = ok & ((x <= 2) | ((from.value() <= x) & (x < end.value())));
     }
-    !bad
+    ok
 }
 
 // heap words a to e - 1

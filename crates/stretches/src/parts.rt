@@ -10,11 +10,11 @@ use image::word::Word;
 fn few_zeros<W: Word>(s: &[W]) -> bool
     ensures { result ≡ zeroes (W.words s.now) }
 {
-    let mut bad = false;
+    let mut ok = true;
     for i in 0..s.len() {
-        bad = bad | (s[i].value() != 0);
+        ok = ok & (s[i].value() == 0);
     }
-    !bad
+    ok
 }
 
 // A word of each half at a time: a loop that long runs as fast wherever it lies in the program.
@@ -23,11 +23,11 @@ fn many_zeros<W: Word>(s: &[W]) -> bool
 {
     let h = s.len() / 2;
     let n = s.len() - h;
-    let mut bad = false;
+    let mut ok = true;
     for i in 0..n {
-        bad = bad | (s[i].value() | s[h + i].value() != 0);
+        ok = ok & (s[i].value() | s[h + i].value() == 0);
     }
-    !bad
+    ok
 }
 
 pub fn zeros<W: Word>(s: &[W]) -> bool

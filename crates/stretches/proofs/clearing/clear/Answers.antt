@@ -1,4 +1,3 @@
-use borrow.Author.Rules.{rules}
 use Rattle.std.proofs.Common.{◌≡◌, ◌∙◌, refl, arith, length}
 use mathlib.Core.List.{append-nil}
 use lib.ListN.{length-set}

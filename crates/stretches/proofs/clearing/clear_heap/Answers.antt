@@ -1,4 +1,3 @@
-use borrow.Author.Rules.{rules}
 use Rattle.stretches.proofs.Words.{heap_cleared}
 use Rattle.stretches.proofs.clearing.clear_heap.Goals as goal
 

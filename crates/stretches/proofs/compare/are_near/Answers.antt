@@ -1,13 +1,13 @@
 use borrow.Author.Rules.{rules}
 use Rattle.image.proofs.Words.{words_length}
 use Rattle.image_laws.specs.Compare.{near}
-use Rattle.image_laws.proofs.Compare.{bad_none, bad_end, near_more}
+use Rattle.image_laws.proofs.Compare.{held_none, held_end, near_more}
 use Rattle.std.proofs.Common.{arith}
 use Rattle.stretches.proofs.Words.{read}
 use Rattle.stretches.proofs.compare.are_near.Goals as goal
 
 pub loop-i-init : goal.loop-i-init
-loop-i-init g c = bad_none
+loop-i-init g c = held_none
 
 pub loop-i-preserved : goal.loop-i-preserved
 loop-i-preserved g c =
@@ -18,4 +18,4 @@ loop-i-preserved g c =
 
 pub returns : goal.returns
 unfolding near
-returns g c = bad_end c.loop-i.invariant (omega (arith, words_length g.met.W.Word.laws.by_value c.args.s.now))
+returns g c = held_end c.loop-i.invariant (omega (arith, words_length g.met.W.Word.laws.by_value c.args.s.now))

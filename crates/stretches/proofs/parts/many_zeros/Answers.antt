@@ -1,24 +1,25 @@
 use borrow.Author.Rules.{rules}
 use Rattle.image.proofs.Words.{words_length}
-use Rattle.image_laws.proofs.Compare.{bad_none, bad_end}
+use Rattle.image_laws.proofs.Compare.{held_none, held_more, held_end}
 use Rattle.image_laws.proofs.Parts.{or_both, zeroes_both}
-use Rattle.std.proofs.Common.{arith, ◌+◌, ◌∙◌}
-use Rattle.stretches.proofs.Words.{read, zero_more}
+use Rattle.std.proofs.Common.{arith, ◌∙◌}
+use Rattle.stretches.proofs.Words.{read}
 use Rattle.stretches.proofs.parts.many_zeros.Goals as goal
 
 pub loop-i-init : goal.loop-i-init
-loop-i-init g c = bad_none
+loop-i-init g c = held_none
 
 pub loop-i-preserved : goal.loop-i-preserved
 loop-i-preserved g c =
     let by = g.met.W.Word.laws.by_value in
     let s = c.args.s.now in
-    zero_more _ _ _ _ _ c.loop-i.invariant (search rules) (
+    held_more _ _ _ _ _ c.loop-i.invariant (search rules) (
     rw (
       read by s c.loop-i.i c.value.result _ (search rules) c.index-s-i.is c.value.ensures.value,
       read by s _ c.value-in-loop-i.result _ (search rules) c.index-s-h.is c.value-in-loop-i.ensures.value,
-    ) (or_both _ _ _)
+      or_both,
+    )
     )
 
 pub returns : goal.returns
-returns g c = let l = words_length g.met.W.Word.laws.by_value c.args.s.now in bad_end c.loop-i.invariant (omega arith) ∙ zeroes_both _ _ _ (omega arith) (omega arith)
+returns g c = let l = words_length g.met.W.Word.laws.by_value c.args.s.now in held_end c.loop-i.invariant (omega arith) ∙ zeroes_both _ _ _ (omega arith) (omega arith)
