@@ -1,17 +1,23 @@
-use borrow.Author.Rules.{rules}
-use Rattle.collector_laws.proofs.Hands.{hand_start, hand_below, hand_link, hand_next, hand_traced}
+use Rattle.collector_laws.proofs.Hands.{hand_start, hand_below, hand_link, hand_next}
 use Rattle.marking.proofs.hands.trace_hand.Goals as goal
 
-pub word-n-requires : goal.word-n-requires
-word-n-requires c = record { sized = search rules; i_bound = search hand_below }
-
-pub reach_link-requires : goal.reach_link-requires
-reach_link-requires c = record { sized = search rules; lines = search rules; start = search hand_start; t_bound = (search rules, search hand_link) }
-
-pub advance-requires : goal.advance-requires
-advance-requires c = record { sized = search rules; t_bound = (search rules, search hand_next) }
-
-pub returns : goal.returns
-returns c =
+pub word-n-requires-clause-i_bound : goal.word-n-requires-clause-i_bound
+word-n-requires-clause-i_bound g c =
     let R = c.requires in
-    hand_traced _ _ _ R.lines _ R.t_bound.0 R.t_bound.1 _ c.read_tracer-x.ensures _ c.reach_link.ensures _ c.word-n.ensures _ c.advance.ensures
+    hand_below _ _ _ R.lines _ R.t_bound.0 R.t_bound.1 _ c.read_tracer-x.ensures _ c.value-g.ensures.value
+
+pub reach_link-requires-clause-start : goal.reach_link-requires-clause-start
+reach_link-requires-clause-start g c =
+    let R = c.requires in
+    hand_start _ _ _ R.lines _ R.t_bound.0 R.t_bound.1 _ c.read_tracer-x.ensures _ c.value-g.ensures.value
+
+pub reach_link-requires-clause-t_bound : goal.reach_link-requires-clause-t_bound
+reach_link-requires-clause-t_bound g c =
+    let R = c.requires in
+    (R.t_bound.0, hand_link _ _ _ R.lines _ R.t_bound.0 R.t_bound.1 _ c.read_tracer-x.ensures _ c.value-g.ensures.value _ c.value.ensures.value)
+
+pub advance-requires-clause-t_bound : goal.advance-requires-clause-t_bound
+advance-requires-clause-t_bound g c =
+    let R = c.requires in
+    let reached = rw (c.value-g.ensures.value, c.value.ensures.value) at c.reach_link.ensures in
+    (R.t_bound.0, hand_next _ _ _ R.lines _ R.t_bound.0 R.t_bound.1 _ c.read_tracer-x.ensures _ reached _ (rw c.value-g.ensures.value at c.word-n.ensures))

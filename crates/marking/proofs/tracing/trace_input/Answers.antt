@@ -1,18 +1,8 @@
-use borrow.Author.Rules.{rules}
-use Rattle.collector_laws.proofs.Tracing.{tidy, popped_in, popped_dirty, popped_taken, popped_card}
+use Rattle.collector_laws.proofs.Tracing.{tidy, popped_taken}
 use Rattle.marking.proofs.tracing.trace_input.Goals as goal
 
-pub pop_entry-g-requires : goal.pop_entry-g-requires
-pop_entry-g-requires c = record { sized = search rules; p_bound = search rules; tidy = search tidy; p_nonzero = search rules }
-
-pub is_dirty-requires : goal.is_dirty-requires
-is_dirty-requires c = record { sized = search rules; c_lt_k = search popped_card }
-
-pub returns-then-is_dirty : goal.returns-then-is_dirty
-returns-then-is_dirty c = search popped_dirty
-
-pub take_object-requires : goal.take_object-requires
-take_object-requires c = record { sized = search rules; t_bound = (search rules, search popped_in) }
+pub pop_entry-g-requires-clause-tidy : goal.pop_entry-g-requires-clause-tidy
+pop_entry-g-requires-clause-tidy g c = tidy _ _ c.requires.lines c.requires.t_bound.1
 
 pub returns : goal.returns
-returns c = search popped_taken
+returns g c = popped_taken _ _ _ _ _ c.requires.t_bound.2 c.pop_entry-g.ensures _ (rw c.value.ensures.value at c.is_dirty.ensures) c.if-is_dirty.false _ c.take_object.ensures

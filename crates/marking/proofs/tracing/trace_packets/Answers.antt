@@ -1,19 +1,5 @@
-use borrow.Author.Rules.{rules}
-use Rattle.collector_laws.proofs.Tracing.{held_output, fullest_few, trace_pool_line, trace_output_line, trace_no_line}
-use native.Mathlib.Omega.{arith}
+use Rattle.collector_laws.proofs.Tracing.{held_output}
 use Rattle.marking.proofs.tracing.trace_packets.Goals as goal
 
-pub overflow_cast-f : goal.overflow_cast-f
-overflow_cast-f c = omega (arith, fullest_few _ _ c.fullest-f.ensures)
-
-pub returns-then-f-ne0 : goal.returns-then-f-ne0
-returns-then-f-ne0 c = search trace_pool_line
-
-pub has_entries-requires : goal.has_entries-requires
-has_entries-requires c = record { sized = search rules; x_bound = search held_output }
-
-pub returns-then-has_entries : goal.returns-then-has_entries
-returns-then-has_entries c = search trace_output_line
-
-pub returns : goal.returns
-returns c = search trace_no_line
+pub has_entries-requires-clause-x_bound : goal.has_entries-requires-clause-x_bound
+has_entries-requires-clause-x_bound g c = held_output _ _ _ c.requires.t_bound.1 c.requires.lines c.requires.t_bound.0 _ c.value.ensures.value

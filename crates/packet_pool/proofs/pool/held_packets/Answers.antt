@@ -16,10 +16,7 @@ unfolding held_set
 loop-t-init g c = search rules
 
 pub loop-t-preserved : goal.loop-t-preserved
-loop-t-preserved g c = (
-  omega arith,
-  held_more _ _ _ _ _ _ _ c.loop-t.invariant.1 (c.value-a.ensures.value ∙ c.tracer_word.ensures) (c.value-b.ensures.value ∙ c.tracer_word-in-loop-t.ensures) c.with_packet.ensures c.with_packet-s.ensures,
-)
+loop-t-preserved g c = held_more _ _ _ _ _ _ _ c.loop-t.invariant (c.value-a.ensures.value ∙ c.tracer_word.ensures) (c.value-b.ensures.value ∙ c.tracer_word-in-loop-t.ensures) c.with_packet.ensures c.with_packet-s.ensures
 
 pub returns : goal.returns
 returns g c = search (rules, held_all)
