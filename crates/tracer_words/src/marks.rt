@@ -3,7 +3,7 @@ ghost use Rattle.std.specs.Prelude.{◌≡◌, ◌+◌, ◌*◌, ◌-◌, ◌≤
 ghost use Rattle.model.specs.Image.{image_of};
 ghost use Rattle.model.specs.Collect.{next_marked};
 ghost use Rattle.image_laws.specs.Sized.{Sized};
-ghost use Rattle.tracers_laws.specs.Marks.{CardMarks};
+ghost use Rattle.tracers_laws.specs.Marks.{CardMarks, one_more};
 
 use image::word::Word;
 
@@ -21,19 +21,19 @@ pub fn card_marks<W: Word>(im: &[W], k: usize, c: usize) -> usize
     marks
 }
 
-// 1 + the first marked granule from `from` on that lies on card c - 1; 0 if there is none.
+// The first marked granule from `from` on that lies on card c - 1.
 #[tactic(auto, using(tracers_laws::proofs::Marks::next_past, tracers_laws::proofs::Marks::next_none, tracers_laws::proofs::Marks::next_found))]
-pub fn next_marked<W: Word>(im: &[W], k: usize, from: usize, c: usize) -> usize
+pub fn next_marked<W: Word>(im: &[W], k: usize, from: usize, c: usize) -> Option<usize>
     requires sized { Sized W.BITS k (W.words im.now) }
     requires c_le_k { (c ≤ k) × (64 * c ≤ from + 64) }
-    ensures { result ≡ next_marked (image_of W.BITS k (W.words im.now)) (64 * c - from) from }
+    ensures { one_more result ≡ next_marked (image_of W.BITS k (W.words im.now)) (64 * c - from) from }
 {
     if 64 * c <= from {
-        return 0;
+        return None;
     }
     let left = card_marks(im, k, from / 64) >> (from % 64);
     if left == 0 {
-        return 0;
+        return None;
     }
-    from + left.trailing_zeros() as usize + 1
+    Some(from + left.trailing_zeros() as usize)
 }
