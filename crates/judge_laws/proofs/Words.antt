@@ -2,9 +2,10 @@
 use mathlib.Core.Path.{◌≡◌, sym, ap, ◌∙◌}
 use mathlib.Core.Bool.{Bool, true, ◌&&◌, and-true, and_assoc}
 use mathlib.Core.List.{List}
-use Prim.Native.Nat.{ℕ, ◌+◌, ◌*◌, ◌/◌, ◌≤◌, ◌<◌, ◌^◌}
+use Prim.Native.Nat.{ℕ, ◌+◌, ◌*◌, ◌-◌, ◌/◌, ◌%◌, ◌≤◌, ◌<◌, ◌^◌}
 use native.Mathlib.Decide.{ℕ_discrete}
 use native.Mathlib.Omega.{arith}
+use lib.Bits.{bit_and}
 use lib.Count.{count_trailing_zeros}
 use Rattle.model.specs.Base.{nth, all, implies, test_bit}
 use Rattle.model.specs.Image.{image, image_of, marked, dirty}
@@ -14,9 +15,9 @@ use Rattle.judge_laws.specs.Order.{coming, object_covered}
 use Rattle.image_laws.specs.Bits.{without_bit}
 use Rattle.image_laws.specs.Sized.{Sized}
 use Rattle.image_laws.proofs.Bits.{bit_at, zero_bit}
-use Rattle.image_laws.proofs.Masks.{without_bit_same, without_bit_less, without_bit_other}
+use Rattle.image_laws.proofs.Masks.{one_shl, and_not_pow, without_bit_same, without_bit_less, without_bit_other}
 use Rattle.image_laws.proofs.Parts.{all_cong}
-use Rattle.image_laws.proofs.Places.{place_in, words_full, by_width}
+use Rattle.image_laws.proofs.Places.{place_in, words_full, few_bits, word_below, by_width}
 use Rattle.image_laws.proofs.Trailing.{Lowest, word_lowest}
 use Rattle.soundness_laws.specs.Tests.{at_word, wordwise}
 use Rattle.soundness_laws.proofs.Checks.{all_pick}
@@ -74,8 +75,17 @@ module _ (w k : ℕ) (l : List ℕ) (z : Sized w k l) (i x : ℕ) where
       taken_place h =
           (rw (words_full w k (sized_width z)) at (place_in w i (count_trailing_zeros 64 x) low.within (64 * k / w) h), s.are_marked _ low.within low.is_set)
 
-      pub taken_less : without_bit x (count_trailing_zeros 64 x) < x
-      taken_less = without_bit_less x _ low.is_set
+      -- x with its lowest bit cleared
+      abbrev rest : ℕ
+      rest = bit_and x (2 ^ 64 - 1 - 1 * 2 ^ count_trailing_zeros 64 x % 2 ^ 64)
+
+      rest_is : rest ≡ without_bit x (count_trailing_zeros 64 x)
+      rest_is =
+          let few = few_bits (sized_width z) low.within in
+          rw (one_shl 64 (count_trailing_zeros 64 x) few) (and_not_pow 64 x (count_trailing_zeros 64 x) (omega (arith, word_below (sized_width z) s.small)) few)
+
+      pub taken_less : rest < x
+      taken_less = rw rest_is (without_bit_less x _ low.is_set)
 
       taken_one : all w (left_ok w (object_covered (image_of w k l)) i x) ≡ (object_covered (image_of w k l) (w * i + count_trailing_zeros 64 x) && all w (left_ok w (object_covered (image_of w k l)) i (without_bit x (count_trailing_zeros 64 x))))
       unfolding left_ok implies at_word
@@ -83,9 +93,9 @@ module _ (w k : ℕ) (l : List ℕ) (z : Sized w k l) (i x : ℕ) where
           rw low.is_set at (all_pick w (left_ok w (object_covered (image_of w k l)) i x) (left_ok w (object_covered (image_of w k l)) i (without_bit x (count_trailing_zeros 64 x))) (count_trailing_zeros 64 x) low.within
           (λ j ne. rw (without_bit_other x j (count_trailing_zeros 64 x) ne)) (rw (without_bit_same x (count_trailing_zeros 64 x))))
 
-      pub taken_more : (t : Bool) (x' : ℕ) → t ≡ object_covered (image_of w k l) (w * i + count_trailing_zeros 64 x) → x' ≡ without_bit x (count_trailing_zeros 64 x) → Taken w k l i (ok && t) x'
-      taken_more t x' et ex = record {
-        small = omega (arith, s.small, taken_less);
+      pub taken_more : (t : Bool) (x' : ℕ) → t ≡ object_covered (image_of w k l) (w * i + count_trailing_zeros 64 x) → x' ≡ rest → Taken w k l i (ok && t) x'
+      taken_more t x' et er = let ex = er ∙ rest_is in record {
+        small = omega (arith, s.small, taken_less, er);
         are_marked = λ j h q. elim (ℕ_discrete j (count_trailing_zeros 64 x)) [
           | yes e ↦ false≢ (sym (without_bit_same x (count_trailing_zeros 64 x)) ∙ rw (ex, e) at q)
           | no e ↦ s.are_marked j h (sym (without_bit_other x j (count_trailing_zeros 64 x) e) ∙ rw ex at q)
