@@ -5,10 +5,11 @@ ghost use Rattle.model.specs.Image.{image_of, owed};
 ghost use Rattle.model.specs.Records.{kind_of};
 ghost use Rattle.theory.specs.Fields.{bound_at, no_card};
 ghost use Rattle.image_laws.specs.Sized.{Sized};
+ghost use Rattle.request_laws.specs.Kind.{kind_number};
 ghost use Rattle.request_laws.specs.Request.{requested, asks_debt, role_digit, role_limit};
 
 use image::word::Word;
-use request_laws::Request;
+use request_laws::{Kind, Request};
 
 // The roles of each field, two bits a kind, with kind 0 lowest: 0 not named, 1 a player or a register, 2 a tracer, 3 any number, a card too. The
 // kinds, from the highest down: undirty, due, finish, clean, trace, scan, begin, write, read, drop, hand, barrier, store, load, new, none.
@@ -39,11 +40,12 @@ fn limit_by<W: Word>(t: u64, n: usize) -> usize
     }
 }
 
-// Field i (who, a, b, c) of kind n.
-pub fn limit<W: Word>(n: usize, i: usize) -> usize
-    requires { (n < 16) × (i < 4) }
-    ensures { result ≡ bound_at W.BITS (kind_of n) i }
+// Field i (who, a, b, c) of a kind.
+pub fn limit<W: Word>(kind: Kind, i: usize) -> usize
+    requires { i < 4 }
+    ensures { result ≡ bound_at W.BITS (kind_of (kind_number kind)) i }
 {
+    let n = usize::from(kind);
     match i {
         0 => limit_by::<W>(WHO, n),
         1 => limit_by::<W>(A, n),
@@ -59,10 +61,11 @@ fn has_kind(t: u64, n: usize) -> bool
     (t >> (n as u64)) & 1 == 1
 }
 
-fn asks_debt(n: usize, i: usize) -> bool
-    requires { (n < 16) × (i < 4) }
-    ensures { result ≡ asks_debt (kind_of n) i }
+fn asks_debt(kind: Kind, i: usize) -> bool
+    requires { i < 4 }
+    ensures { result ≡ asks_debt (kind_of (kind_number kind)) i }
 {
+    let n = usize::from(kind);
     match i {
         0 => has_kind(WHO_OWES_NONE, n),
         2 => has_kind(B_OWES_NONE, n),
@@ -85,21 +88,21 @@ pub fn beyond(l: usize, x: usize) -> bool
 }
 
 // Of cards, apart from the table: only undirty names one, and all other kinds would pay for it.
-pub fn no_card(k: usize, r: Request) -> bool
-    requires { r.kind < 16 }
+pub fn no_card(k: usize, kind: Kind, r: Request) -> bool
+    requires { r.kind ≡ kind_number kind }
     ensures { result ≡ no_card k (requested r) (kind_of r.kind) }
 {
-    (r.kind == 15) & (k <= r.a)
+    (kind == Kind::Undirty) & (k <= r.a)
 }
 
-// Field i of a request of kind n, which is x, is a player who owes and must not.
-pub fn owes<W: Word>(im: &[W], k: usize, n: usize, i: usize, x: usize) -> bool
+// Field i of a request of a kind, which is x, is a player who owes and must not.
+pub fn owes<W: Word>(im: &[W], k: usize, kind: Kind, i: usize, x: usize) -> bool
     requires sized { Sized W.BITS k (W.words im.now) }
-    requires n_bound { (n < 16) × (i < 4) }
-    requires x_bound { asks_debt (kind_of n) i ≡ true → x < 16 }
-    ensures { result ≡ (asks_debt (kind_of n) i && not (eqb (owed (image_of W.BITS k (W.words im.now)) x) 0)) }
+    requires i_bound { i < 4 }
+    requires x_bound { asks_debt (kind_of (kind_number kind)) i ≡ true → x < 16 }
+    ensures { result ≡ (asks_debt (kind_of (kind_number kind)) i && not (eqb (owed (image_of W.BITS k (W.words im.now)) x) 0)) }
 {
-    if asks_debt(n, i) {
+    if asks_debt(kind, i) {
         return image::sections::owed(im, k, x).value() != 0;
     }
     false

@@ -89,7 +89,7 @@ module _ (m : Image) (r : Request) {t u v x : Bool} where
 -- ---- what they say together
 
 module _ (m : Image) (r : Request) where
-  unknown_kinds : kind_of r.kind ≡ unknown → Err Unknown ≡ admission_of m (requested r)
+  pub unknown_kinds : kind_of r.kind ≡ unknown → Err Unknown ≡ admission_of m (requested r)
   unfolding admission_of admission_by requested unnamed
   unknown_kinds e = rw e
 

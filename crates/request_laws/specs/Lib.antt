@@ -1,3 +1,4 @@
 pub mod Answer
 pub mod Passed
 pub mod Request
+pub mod Kind

@@ -2,11 +2,13 @@
 use Rattle.std.specs.Prelude.{Bool, true, false, ◌&&◌, Result, Ok, Err, ℕ, zero, suc, ◌*◌, ◌/◌, ◌%◌, ◌^◌, ◌<◌}
 use Rattle.model.specs.Base.{all, test_bit}
 use Rattle.model.specs.Image.{Image}
-use Rattle.model.specs.Records.{Step, Kind, kind_of}
+use Rattle.model.specs.Records.{Step, kind_of}
+use Rattle.model.specs.Records as model
 use Rattle.model.specs.Rows.{row_of, is_player}
 use Rattle.model.specs.Steps.{unnamed, off_desk, owing}
 use Rattle.theory.specs.Fields.{role_at, bound_at}
 use Rattle.request_laws.specs.declared.Request.{Request}
+use Rattle.request_laws.specs.declared.Kind.{Kind}
 use Rattle.request_laws.specs.declared.Refusal.{Refusal}
 use Rattle.request_laws.specs.declared.Refusal.TheVariants.{Unknown, OffDesk, Owing}
 
@@ -29,11 +31,16 @@ admission_by false false false = Ok tt
 
 unfoldable pub admission_of : Image → Step → Result (Unit {0}) Refusal
 admission_of m s =
-    let n : Kind = kind_of s.kind in
+    let n : model.Kind = kind_of s.kind in
     admission_by (unnamed s n) (off_desk s m.k n) (owing m s n)
 
+-- what is granted to a kind
+abbrev pub granted : Result Kind Refusal → Result (Unit {0}) Refusal
+granted (Ok kind) = Ok tt
+granted (Err e) = Err e
+
 -- field i of kind n is a player who must owe nothing
-unfoldable pub asks_debt : Kind → ℕ → Bool
+unfoldable pub asks_debt : model.Kind → ℕ → Bool
 unfolding row_of is_player role_at
 asks_debt n i = (row_of n).unowing && is_player (role_at n i)
 

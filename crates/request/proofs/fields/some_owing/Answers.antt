@@ -1,25 +1,25 @@
 use borrow.Author.Rules.{rules}
-use Rattle.request_laws.proofs.Fields.{owing_found, debtor_below}
+use native.Mathlib.Omega.{arith}
 use Rattle.theory.specs.Fields.{field_at}
 use Rattle.request_laws.specs.Request.{requested}
-use native.Mathlib.Omega.{arith}
+use Rattle.request_laws.proofs.Fields.{owing_found, debtor_below}
 use Rattle.request.proofs.fields.some_owing.Goals as goal
 
-pub owes-w-requires : goal.owes-w-requires
+pub owes-w-requires-clause-x_bound : goal.owes-w-requires-clause-x_bound
 unfolding requested field_at
-owes-w-requires g c = let q = c.requires in record { sized = q.sized; n_bound = (q.kind_bound.0, omega arith); x_bound = debtor_below _ _ q.kind_bound.1 0 (omega arith) }
+owes-w-requires-clause-x_bound g c = rw (← c.requires.named) (debtor_below _ _ c.requires.on_desk 0 (omega arith))
 
-pub owes-a-requires : goal.owes-a-requires
+pub owes-a-requires-clause-x_bound : goal.owes-a-requires-clause-x_bound
 unfolding requested field_at
-owes-a-requires g c = let q = c.requires in record { sized = q.sized; n_bound = (q.kind_bound.0, omega arith); x_bound = debtor_below _ _ q.kind_bound.1 1 (omega arith) }
+owes-a-requires-clause-x_bound g c = rw (← c.requires.named) (debtor_below _ _ c.requires.on_desk 1 (omega arith))
 
-pub owes-b-requires : goal.owes-b-requires
+pub owes-b-requires-clause-x_bound : goal.owes-b-requires-clause-x_bound
 unfolding requested field_at
-owes-b-requires g c = let q = c.requires in record { sized = q.sized; n_bound = (q.kind_bound.0, omega arith); x_bound = debtor_below _ _ q.kind_bound.1 2 (omega arith) }
+owes-b-requires-clause-x_bound g c = rw (← c.requires.named) (debtor_below _ _ c.requires.on_desk 2 (omega arith))
 
-pub owes-c-requires : goal.owes-c-requires
+pub owes-c-requires-clause-x_bound : goal.owes-c-requires-clause-x_bound
 unfolding requested field_at
-owes-c-requires g c = let q = c.requires in record { sized = q.sized; n_bound = (q.kind_bound.0, omega arith); x_bound = debtor_below _ _ q.kind_bound.1 3 (omega arith) }
+owes-c-requires-clause-x_bound g c = rw (← c.requires.named) (debtor_below _ _ c.requires.on_desk 3 (omega arith))
 
 pub returns : goal.returns
 unfolding requested field_at
