@@ -25,14 +25,9 @@ pub fn count_ok<W: Word>(im: &[W], k: usize, c: usize) -> bool
     image::sections::count(im, k, c).value() == marks_on(im, k, c)
 }
 
-#[tactic(auto, unfolding(model::specs::Base::all))]
 pub fn counts_ok<W: Word>(im: &[W], k: usize) -> bool
     requires { Sized W.BITS k (W.words im.now) }
     ensures { result ≡ all k (count_ok (image_of W.BITS k (W.words im.now))) }
 {
-    let mut ok = true;
-    for c in 0..k {
-        ok = ok & count_ok(im, k, c);
-    }
-    ok
+    quantifiers::all(k, |c| count_ok(im, k, c))
 }

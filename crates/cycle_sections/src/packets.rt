@@ -17,17 +17,12 @@ pub fn entry_ok<W: Word>(im: &[W], k: usize, p: usize, e: usize) -> bool
     sets::marked_at(im, k, x)
 }
 
-#[tactic(auto, unfolding(model::specs::Base::all))]
 pub fn entries_ok<W: Word>(im: &[W], k: usize, p: usize, n: usize) -> bool
     requires sized { Sized W.BITS k (W.words im.now) }
     requires p_bound { (p < 32) × (n ≤ 30) }
     ensures { result ≡ all n (entry_marked (image_of W.BITS k (W.words im.now)) p) }
 {
-    let mut ok = true;
-    for i in 0..n {
-        ok = ok & entry_ok(im, k, p, i);
-    }
-    ok
+    quantifiers::all(n, |i| entry_ok(im, k, p, i))
 }
 
 #[tactic(auto, using(soundness_laws::proofs::Packets::packet_many, soundness_laws::proofs::Packets::packet_all))]
@@ -46,14 +41,9 @@ pub fn packet_ok<W: Word>(im: &[W], k: usize, p: usize) -> bool
         & stretches::parts::zero_entries(im, k, 32 * p + 2 + n, 32 * p + 32)
 }
 
-#[tactic(auto, unfolding(model::specs::Base::all))]
 pub fn packets_ok<W: Word>(im: &[W], k: usize) -> bool
     requires { Sized W.BITS k (W.words im.now) }
     ensures { result ≡ all 32 (packet_ok_at (image_of W.BITS k (W.words im.now))) }
 {
-    let mut ok = true;
-    for i in 0..32 {
-        ok = ok & packet_ok(im, k, i);
-    }
-    ok
+    quantifiers::all(32, |i| packet_ok(im, k, i))
 }

@@ -52,16 +52,11 @@ pub fn tracer_ok<W: Word>(im: &[W], k: usize, t: usize) -> bool
     (a <= 32) & (b <= 32) & hand_ok(im, k, g, i) & hand_card_ok(im, k, c, e) & (y == 0) & (z == 0)
 }
 
-#[tactic(auto, unfolding(model::specs::Base::all))]
 pub fn tracers_ok<W: Word>(im: &[W], k: usize) -> bool
     requires { Sized W.BITS k (W.words im.now) }
     ensures { result ≡ all 8 (tracer_ok (image_of W.BITS k (W.words im.now))) }
 {
-    let mut ok = true;
-    for i in 0..8 {
-        ok = ok & tracer_ok(im, k, i);
-    }
-    ok
+    quantifiers::all(8, |i| tracer_ok(im, k, i))
 }
 
 // ---- each packet is held in at most one place
@@ -84,17 +79,12 @@ pub fn is_apart<W: Word>(im: &[W], k: usize, x: usize, y: usize) -> bool
     !(held_at(im, k, y) == held_at(im, k, x))
 }
 
-#[tactic(auto, unfolding(model::specs::Base::all))]
 pub fn all_apart<W: Word>(im: &[W], k: usize, x: usize) -> bool
     requires sized { Sized W.BITS k (W.words im.now) }
     requires x_bound { x < 16 }
     ensures { result ≡ all x (apart (image_of W.BITS k (W.words im.now)) x) }
 {
-    let mut ok = true;
-    for i in 0..x {
-        ok = ok & is_apart(im, k, x, i);
-    }
-    ok
+    quantifiers::all(x, |i| is_apart(im, k, x, i))
 }
 
 #[tactic(auto, using(soundness_laws::proofs::Hands::held_nothing, soundness_laws::proofs::Hands::held_other))]
@@ -109,14 +99,9 @@ pub fn held_once<W: Word>(im: &[W], k: usize, x: usize) -> bool
     all_apart(im, k, x)
 }
 
-#[tactic(auto, unfolding(model::specs::Base::all))]
 pub fn held_ok<W: Word>(im: &[W], k: usize) -> bool
     requires { Sized W.BITS k (W.words im.now) }
     ensures { result ≡ all 16 (held_once (image_of W.BITS k (W.words im.now))) }
 {
-    let mut ok = true;
-    for i in 0..16 {
-        ok = ok & held_once(im, k, i);
-    }
-    ok
+    quantifiers::all(16, |i| held_once(im, k, i))
 }

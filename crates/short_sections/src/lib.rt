@@ -23,16 +23,11 @@ pub fn card_ok<W: Word>(im: &[W], k: usize, c: usize) -> bool
     image::sections::card(im, k, c).value() <= 3
 }
 
-#[tactic(auto, unfolding(model::specs::Base::all))]
 pub fn cards_ok<W: Word>(im: &[W], k: usize) -> bool
     requires { Sized W.BITS k (W.words im.now) }
     ensures { result ≡ all k (card_ok (image_of W.BITS k (W.words im.now))) }
 {
-    let mut ok = true;
-    for i in 0..k {
-        ok = ok & card_ok(im, k, i);
-    }
-    ok
+    quantifiers::all(k, |i| card_ok(im, k, i))
 }
 
 #[tactic(auto, using(soundness_laws::proofs::Lines::player_lines))]
@@ -46,16 +41,11 @@ pub fn player_ok<W: Word>(im: &[W], k: usize, p: usize) -> bool
     (o <= k) & (s <= 1)
 }
 
-#[tactic(auto, unfolding(model::specs::Base::all))]
 pub fn players_ok<W: Word>(im: &[W], k: usize) -> bool
     requires { Sized W.BITS k (W.words im.now) }
     ensures { result ≡ all 16 (player_ok (image_of W.BITS k (W.words im.now))) }
 {
-    let mut ok = true;
-    for i in 0..16 {
-        ok = ok & player_ok(im, k, i);
-    }
-    ok
+    quantifiers::all(16, |i| player_ok(im, k, i))
 }
 
 // ---- general
@@ -79,16 +69,11 @@ pub fn is_unscanned<W: Word>(im: &[W], k: usize, p: usize) -> bool
     image::sections::scanned(im, k, p).value() == 0
 }
 
-#[tactic(auto, unfolding(model::specs::Base::all))]
 pub fn all_unscanned<W: Word>(im: &[W], k: usize) -> bool
     requires { Sized W.BITS k (W.words im.now) }
     ensures { result ≡ all 16 (not_scanned (image_of W.BITS k (W.words im.now))) }
 {
-    let mut ok = true;
-    for i in 0..16 {
-        ok = ok & is_unscanned(im, k, i);
-    }
-    ok
+    quantifiers::all(16, |i| is_unscanned(im, k, i))
 }
 
 pub fn is_idle<W: Word>(im: &[W], k: usize) -> bool
