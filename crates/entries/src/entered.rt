@@ -21,7 +21,11 @@ pub fn in_packet<W: Word>(im: &[W], k: usize, p: usize, n: usize, g: usize) -> b
     requires p_bound { (p < 32) × (n ≤ 30) }
     ensures { result ≡ elem g (take n (drop (32 * p + 2) (image_of W.BITS k (W.words im.now)).packets)) }
 {
-    quantifiers::any(n, |e| (g == image::sections::packet_word(im, k, 32 * p + 2 + e).value()))
+    let mut found = false;
+    for e in 0..n {
+        found = found | (g == image::sections::packet_word(im, k, 32 * p + 2 + e).value());
+    }
+    found
 }
 
 // Those of the first n packets.
