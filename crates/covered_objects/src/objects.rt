@@ -21,16 +21,11 @@ pub fn hand_comes<W: Word>(im: &[W], k: usize, g: usize, i: usize, t: usize) -> 
     (h == g) & (n <= i)
 }
 
-#[tactic(auto, unfolding(model::specs::Base::any))]
 pub fn link_to_come<W: Word>(im: &[W], k: usize, g: usize, j: usize) -> bool
     requires { Sized W.BITS k (W.words im.now) }
     ensures { result ≡ any 8 (hand_comes (image_of W.BITS k (W.words im.now)) g j) }
 {
-    let mut found = false;
-    for i in 0..8 {
-        found |= hand_comes(im, k, g, j, i);
-    }
-    found
+    quantifiers::any(8, |i| hand_comes(im, k, g, j, i))
 }
 
 pub fn card_comes<W: Word>(im: &[W], k: usize, g: usize, t: usize) -> bool
@@ -43,16 +38,11 @@ pub fn card_comes<W: Word>(im: &[W], k: usize, g: usize, t: usize) -> bool
     (c == g / 64 + 1) & (n <= g)
 }
 
-#[tactic(auto, unfolding(model::specs::Base::any))]
 pub fn granule_to_come<W: Word>(im: &[W], k: usize, g: usize) -> bool
     requires { Sized W.BITS k (W.words im.now) }
     ensures { result ≡ any 8 (card_comes (image_of W.BITS k (W.words im.now)) g) }
 {
-    let mut found = false;
-    for i in 0..8 {
-        found |= card_comes(im, k, g, i);
-    }
-    found
+    quantifiers::any(8, |i| card_comes(im, k, g, i))
 }
 
 // ---- players
@@ -66,17 +56,12 @@ pub fn is_held<W: Word>(im: &[W], k: usize, p: usize, a: usize, q: usize) -> boo
     image::sections::reg(im, k, p, q).value() == a
 }
 
-#[tactic(auto, unfolding(model::specs::Base::any))]
 pub fn held_by<W: Word>(im: &[W], k: usize, p: usize, a: usize) -> bool
     requires sized { Sized W.BITS k (W.words im.now) }
     requires p_bound { p < 16 }
     ensures { result ≡ any 16 (holds (image_of W.BITS k (W.words im.now)) p a) }
 {
-    let mut found = false;
-    for i in 0..16 {
-        found |= is_held(im, k, p, a, i);
-    }
-    found
+    quantifiers::any(16, |i| is_held(im, k, p, a, i))
 }
 
 pub fn is_owing<W: Word>(im: &[W], k: usize, g: usize, a: usize, p: usize) -> bool
@@ -90,16 +75,11 @@ pub fn is_owing<W: Word>(im: &[W], k: usize, g: usize, a: usize, p: usize) -> bo
     held_by(im, k, p, a)
 }
 
-#[tactic(auto, unfolding(model::specs::Base::any))]
 pub fn owed_with<W: Word>(im: &[W], k: usize, g: usize, a: usize) -> bool
     requires { Sized W.BITS k (W.words im.now) }
     ensures { result ≡ any 16 (owes_holding (image_of W.BITS k (W.words im.now)) g a) }
 {
-    let mut found = false;
-    for i in 0..16 {
-        found |= is_owing(im, k, g, a, i);
-    }
-    found
+    quantifiers::any(16, |i| is_owing(im, k, g, a, i))
 }
 
 // ---- an object, and one of its links
@@ -166,18 +146,13 @@ pub fn is_late<W: Word>(im: &[W], k: usize, table: &[u64], g: usize, j: usize) -
     link_to_come(im, k, g, j) | owed_with(im, k, g, a)
 }
 
-#[tactic(auto, unfolding(model::specs::Base::all))]
 pub fn all_late<W: Word>(im: &[W], k: usize, table: &[u64], g: usize, n: usize) -> bool
     requires sized { Sized W.BITS k (W.words im.now) }
     requires named { Named W.BITS (image_of W.BITS k (W.words im.now)).marks table.now }
     requires n_bound { 4 * g + 2 + n ≤ 256 * k }
     ensures { result ≡ all n (late (image_of W.BITS k (W.words im.now)) g) }
 {
-    let mut ok = true;
-    for i in 0..n {
-        ok &= is_late(im, k, table, g, i);
-    }
-    ok
+    quantifiers::all(n, |i| is_late(im, k, table, g, i))
 }
 
 pub fn object_covered<W: Word>(im: &[W], k: usize, entered: &[u64], table: &[u64], g: usize) -> bool

@@ -14,11 +14,7 @@ fn some_bit<W: Word>(s: &[W], a: usize, n: usize) -> bool
     requires { (a + n ≤ W.BITS * length s.now) × (a + n < 131072) }
     ensures { result ≡ any n (λ j. bit W.BITS (W.words s.now) (a + j)) }
 {
-    let mut found = false;
-    for j in 0..n {
-        found |= sets::in_plane(s, a + j);
-    }
-    found
+    quantifiers::any(n, |j| sets::in_plane(s, a + j))
 }
 
 // Whether a granule of the first c stretches has its bit.
