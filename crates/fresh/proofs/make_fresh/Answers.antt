@@ -1,5 +1,5 @@
 use borrow.Author.Rules.{rules}
-use Rattle.std.proofs.Common.{◌≡◌, ◌∙◌, ap, length}
+use Rattle.std.proofs.Common.{◌≡◌, length}
 use Rattle.image.proofs.Words.{same_length}
 use Rattle.image_laws.proofs.Fresh.{fresh_written}
 use Rattle.fresh.proofs.make_fresh.Goals as goal

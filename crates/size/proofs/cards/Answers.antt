@@ -1,5 +1,4 @@
 use borrow.Author.Rules.{rules}
-use Rattle.std.proofs.Common.{◌∙◌}
 use Rattle.image_laws.proofs.Size.{cards_few, cards_many, cards_odd, cards_fit}
 use Rattle.size.proofs.cards.Goals as goal
 

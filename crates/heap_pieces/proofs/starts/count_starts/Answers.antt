@@ -26,8 +26,7 @@ overflow_add-n g c =
 
 pub loop-i-preserved : goal.loop-i-preserved
 loop-i-preserved g c =
-    let I = c.loop-i.invariant in
-    (
+    let I = c.loop-i.invariant in (
       ones_more _ _ _ _ _ _ _ _ I.0 (omega (arith, I.1, c.loop-i-test.true)) (c.value.ensures.value ∙ c.start_word.ensures) (zero-add _) c.value.ensures.fits,
       I.1,
     )
