@@ -1,4 +1,4 @@
-use Rattle.std.proofs.Common.{◌≡◌, ◌∙◌, ◌<◌, ◌*◌, ◌/◌, arith}
+use Rattle.std.proofs.Common.{◌∙◌, arith}
 use borrow.Author.Rules.{rules}
 use Rattle.image.proofs.Words.{same_length, slice_length}
 use Rattle.image_laws.proofs.Lengths.{starts_words, marks_words}

@@ -1,4 +1,4 @@
-use Rattle.std.proofs.Common.{◌≡◌, ◌∙◌, arith}
+use Rattle.std.proofs.Common.{arith}
 use borrow.Author.Rules.{rules}
 use Rattle.image.proofs.Words.{same_length}
 use Rattle.image_laws.proofs.Lengths.{sized_as}

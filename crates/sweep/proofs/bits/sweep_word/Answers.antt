@@ -1,4 +1,4 @@
-use Rattle.std.proofs.Common.{◌≡◌, ◌∙◌, ◌^◌, ap, arith}
+use Rattle.std.proofs.Common.{◌∙◌}
 use borrow.Author.Rules.{rules}
 use Rattle.finish_laws.proofs.gaps.Bits.{taking_none, taking_end, word_full}
 use Rattle.sweep.proofs.bits.sweep_word.Goals as goal
