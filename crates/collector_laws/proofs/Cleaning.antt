@@ -1,5 +1,5 @@
 -- The lines of clean, each way out as the code finds it.
-use mathlib.Core.Path.{◌≡◌, refl, sym, ap, ◌∙◌}
+use mathlib.Core.Path.{◌≡◌, sym, ap, ◌∙◌}
 use mathlib.Core.Bool.{true}
 use mathlib.Core.List.{List}
 use Prim.Native.Nat.{ℕ, zero, suc, ◌+◌, ◌*◌, ◌-◌, ◌≤◌, ◌<◌}
@@ -43,9 +43,6 @@ module _ (w k : ℕ) (ws : List ℕ) (o : Lines (image_of w k ws)) (t : ℕ) (h 
     pub next_in : g ≤ 64 * k
     next_in = omega (arith, in_range, next_below (image_of w k ws) (64 * x.card - x.granule) x.granule)
 
-    pub next_object : (g ≡ 0 → ⊥) → g - 1 < 64 * k
-    next_object u = omega (arith, next_in)
-
     cleaned : clean_to (image_of w k ws) t g ≡ clean_card (image_of w k ws) t
     unfolding clean_card
     cleaned = rw (← (read (image_of w k ws) t x e).its_card, ← (read (image_of w k ws) t x e).its_granule, ← f)
@@ -54,18 +51,15 @@ module _ (w k : ℕ) (ws : List ℕ) (o : Lines (image_of w k ws)) (t : ℕ) (h 
     unfolding clean_to
     card-let-go q y n r s = s ∙ (rw (r, e) (let_go_written (image_of w k ws) t h o.tracers_ok.sized) ∙ rw q at cleaned)
 
-    pub card_object : (g ≡ 0 → ⊥) → (y : Tracer) (n n' : Image) → y ≡ granule_moves_on x (g - 1) → n ≡ with_tracer (image_of w k ws) t y → n' ≡ take_object n t (g - 1) → n' ≡ clean_card (image_of w k ws) t
+    pub card_object : (a : ℕ) → g ≡ suc a → (y : Tracer) (n n' : Image) → y ≡ granule_moves_on x a → n ≡ with_tracer (image_of w k ws) t y → n' ≡ take_object n t a → n' ≡ clean_card (image_of w k ws) t
     unfolding clean_to
-    card_object u y n n' r s i =
-        let p : suc (g - 1) ≡ g = omega arith in
-        i ∙ (rw (s, r, e, granule_written (image_of w k ws) t h o.tracers_ok.sized (g - 1)) (ap (clean_to (image_of w k ws) t) p) ∙ cleaned)
+    card_object a p y n n' r s i = i ∙ (rw (s, r, e, granule_written (image_of w k ws) t h o.tracers_ok.sized a) (ap (clean_to (image_of w k ws) t) (sym p)) ∙ cleaned)
 
 -- ---- a card taken
 
-pub dirty_in : (w k : ℕ) (ws : List ℕ) (c : ℕ) → c ≡ lowest_dirty (image_of w k ws) → (c ≡ 0 → ⊥) → c - 1 < k
+pub dirty_in : (w k : ℕ) (ws : List ℕ) (c : ℕ) → suc c ≡ lowest_dirty (image_of w k ws) → c < k
 unfolding lowest_dirty lowest_of image_of image
-dirty_in w k ws zero e z = absurd (z refl)
-dirty_in w k ws (suc c) e z = let r = (best_ok _ _ k c (sym e)).0 in omega arith
+dirty_in w k ws c e = let r = (best_ok _ _ k c (sym e)).0 in omega arith
 
 pub card-taken : (w k : ℕ) (ws : List ℕ) → Sized w k ws → (t c : ℕ) → t < 8 → (n₁ n₂ : Image) (x y : Tracer) → n₁ ≡ set_state (image_of w k ws) c 2 → x ≡ tracer_at n₁ t → y ≡ card_taken x c → n₂ ≡ with_tracer n₁ t y → n₂ ≡ take_card (image_of w k ws) t c
 unfolding take_card set_state with_cards

@@ -1,11 +1,6 @@
-use Rattle.collector_laws.proofs.Cards.{NoDirty}
-use Rattle.image.specs.Layout.{width}
 use Rattle.model.specs.Image.{image_of}
-use Prim.Native.Nat.{◌-◌, ◌≤◌}
+use Rattle.collector_laws.proofs.Cards.{NoDirty}
 use Rattle.card_cleaning.proofs.cards.lowest_dirty.Given as goal
 
 abbrev pub invariant-loop-c : goal.invariant-loop-c
-invariant-loop-c l = (l.c ≤ l.k) × NoDirty (image_of width l.k l.im) l.c
-
-abbrev pub decreases-loop-c : goal.decreases-loop-c
-decreases-loop-c l = l.k - l.c
+invariant-loop-c g l = NoDirty (image_of g.W.Word.BITS l.k (g.W.Word.words l.im)) l.c

@@ -1,4 +1,4 @@
-use Rattle.std.proofs.Common.{◌≡◌, ℕ, Bool, ◌-◌, ◌≤◌, ◌<◌, ◌^◌}
+use Rattle.std.proofs.Common.{◌≡◌, ℕ, Bool, ◌<◌, ◌^◌}
 use Rattle.model.specs.Image.{image_of}
 use Rattle.packet_pool.specs.Walk.{Decides, walk_to}
 use Rattle.packet_pool.proofs.pool.choose.Given as goal
