@@ -71,10 +71,10 @@ module _ (w : ℕ) (l : List ℕ) (s : Option ℕ) (e : s ≡ extent_of w (lengt
       unfolding judge_at
       judged_by = rw (cards_fits w l s e k q, cards_parts w l s e k q, ← er)
 
-      pub judged_0 : r ≡ true → 0 ≡ judge_at w l
+      pub judged_0 : not r ≡ false → 0 ≡ judge_at w l
       unfolding first
       judged_0 h = rw (judged_by, h)
 
-      pub judged_2 : r ≡ false → 2 ≡ judge_at w l
+      pub judged_2 : not r ≡ true → 2 ≡ judge_at w l
       unfolding first
       judged_2 h = rw (judged_by, h)
