@@ -1,9 +1,6 @@
-use Rattle.std.proofs.Common.{◌≡◌, ◌-◌, ◌≤◌, ◌<◌, ◌^◌, take, length}
+use Rattle.std.proofs.Common.{◌≡◌, ◌<◌, ◌^◌, take, length}
 use Rattle.std.specs.List.{All}
 use Rattle.work_packets.proofs.packet.thirty.Given as goal
 
 abbrev pub invariant-loop-j : goal.invariant-loop-j
-invariant-loop-j g l = (l.j ≤ 30) × (take l.j l.e ≡ take l.j (g.W.Word.words l.s)) × (length l.e ≡ 30) × All (λ x. x < 2 ^ g.W.Word.BITS) l.e
-
-abbrev pub decreases-loop-j : goal.decreases-loop-j
-decreases-loop-j g l = 30 - l.j
+invariant-loop-j g l = (take l.j l.e ≡ take l.j (g.W.Word.words l.s)) × (length l.e ≡ 30) × All (λ x. x < 2 ^ g.W.Word.BITS) l.e
