@@ -78,7 +78,8 @@ pub fn lacks_space<W: Word>(im: &[W], k: usize, x: usize) -> bool
     30 <= count(im, k, x - 1)
 }
 
-// The pool's packet of the lowest number than which none is better: its number + 1. 0 if none is better than `bound` entries.
+// The best packet of the pool, of the lowest number among equals: its number + 1, as the words of a tracer name it.
+// 0 if none is better than one with `bound` entries.
 fn choose<W: Word, F: Fn(usize, usize) -> bool>(
     im: &[W],
     k: usize,
