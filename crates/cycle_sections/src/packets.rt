@@ -5,6 +5,7 @@ ghost use Rattle.model.specs.Image.{image_of};
 ghost use Rattle.image_laws.specs.Sized.{Sized};
 ghost use Rattle.soundness_laws.specs.Tests.{entry_marked, packet_ok_at};
 
+use image::section::Section;
 use image::word::Word;
 
 #[tactic(auto, using(soundness_laws::proofs::Packets::marked_entry))]
@@ -38,7 +39,7 @@ pub fn packet_ok<W: Word>(im: &[W], k: usize, p: usize) -> bool
     }
     (z == 0)
         & entries_ok(im, k, p, n)
-        & stretches::parts::zero_entries(im, k, 32 * p + 2 + n, 32 * p + 32)
+        & stretches::parts::zero_part(im, k, Section::Packets, 32 * p + 2 + n, 32 * p + 32)
 }
 
 pub fn packets_ok<W: Word>(im: &[W], k: usize) -> bool

@@ -4,6 +4,7 @@ ghost use Rattle.model.specs.Image.{image_of, with_players};
 ghost use Rattle.image_laws.specs.Sized.{Sized};
 ghost use Rattle.finish_laws.specs.Ending.{StartsKept, scanned_off_to, ended};
 
+use image::section::Section;
 use image::word::Word;
 
 // Marks stand on what is kept alone, so that the mark bits are its start bits.
@@ -32,10 +33,10 @@ pub fn end_cycle<W: Word>(im: &mut [W], k: usize)
     requires { Sized W.BITS k (W.words im.old) }
     ensures { image_of W.BITS k (W.words im.new) ≡ ended (image_of W.BITS k (W.words im.old)) }
 {
-    stretches::clearing::clear_marks(im, k);
-    stretches::clearing::clear_counts(im, k);
-    stretches::clearing::clear_packets(im, k);
-    stretches::clearing::clear_tracers(im, k);
+    stretches::clearing::clear_section(im, k, Section::Marks);
+    stretches::clearing::clear_section(im, k, Section::Counts);
+    stretches::clearing::clear_section(im, k, Section::Packets);
+    stretches::clearing::clear_section(im, k, Section::Tracers);
     unscan(im, k);
     image::sections::set_general_word(im, k, 0, W::of(0));
 }

@@ -5,6 +5,7 @@ ghost use Rattle.model.specs.Image.{image_of, is_start};
 ghost use Rattle.image_laws.specs.Sized.{Sized};
 ghost use Rattle.soundness_laws.specs.Tests.{object_ok, run_ok, piece_ok, next_run};
 
+use image::section::Section;
 use image::word::Word;
 
 // That it has a granule at all follows from the room for its links.
@@ -24,10 +25,10 @@ fn zero_rest<W: Word>(im: &[W], k: usize, g: usize, s: usize) -> bool
     requires le_s { (1 ≤ s) × (g + s ≤ 64 * k) }
     ensures { result ≡ zeroes (take (4 * s - 2) (drop (4 * g + 2) (image_of W.BITS k (W.words im.now)).heap)) }
 {
-    let mut ok = stretches::parts::zero_heap(im, k, 4 * g + 2, 4 * g + 4);
+    let mut ok = stretches::parts::zero_part(im, k, Section::Heap, 4 * g + 2, 4 * g + 4);
     for i in 1..s {
         let a = 4 * (g + i);
-        ok = ok & stretches::parts::zero_heap(im, k, a, a + 4);
+        ok = ok & stretches::parts::zero_part(im, k, Section::Heap, a, a + 4);
     }
     ok
 }
@@ -46,7 +47,7 @@ pub fn run_ok<W: Word>(im: &[W], k: usize, g: usize, next: usize, run: bool) -> 
     if s <= 8 {
         return zero_rest(im, k, g, s);
     }
-    stretches::parts::zero_heap(im, k, 4 * g + 2, 4 * g + 4 * s)
+    stretches::parts::zero_part(im, k, Section::Heap, 4 * g + 2, 4 * g + 4 * s)
 }
 
 pub fn piece_ok<W: Word>(im: &[W], k: usize, g: usize, object: bool, next: usize, run: bool) -> bool

@@ -6,6 +6,7 @@ ghost use Rattle.model.specs.Steps.{step};
 ghost use Rattle.image_laws.specs.Sized.{Sized};
 ghost use Rattle.request_laws.specs.Answer.{asked, done_of};
 
+use image::section::Section;
 use image::word::Word;
 use request_laws::Refusal;
 
@@ -17,7 +18,7 @@ pub fn begin<W: Word>(im: &mut [W], k: usize) -> Result<W, Refusal>
     if image::sections::running(im, k).value() == 1 {
         return Err(Refusal::WrongPhase);
     }
-    stretches::clearing::clear_cards(im, k);
+    stretches::clearing::clear_section(im, k, Section::Cards);
     image::sections::set_general_word(im, k, 0, W::of(1));
     Ok(W::of(0))
 }

@@ -8,6 +8,7 @@ ghost use Rattle.model.specs.Undamaged.{card_ok, player_ok, general_ok};
 ghost use Rattle.image_laws.specs.Sized.{Sized};
 ghost use Rattle.soundness_laws.specs.Tests.{not_scanned, idle};
 
+use image::section::Section;
 use image::word::Word;
 
 pub mod hands; // hands.rt: objects and cards in hand, packets held
@@ -55,7 +56,8 @@ pub fn general_ok<W: Word>(im: &[W], k: usize) -> bool
     requires { Sized W.BITS k (W.words im.now) }
     ensures { result ≡ general_ok (image_of W.BITS k (W.words im.now)) }
 {
-    (image::sections::running(im, k).value() <= 1) & stretches::parts::zero_spares(im, k)
+    (image::sections::running(im, k).value() <= 1)
+        & stretches::parts::zero_part(im, k, Section::General, 2, 8)
 }
 
 // ---- no cycle
@@ -80,9 +82,9 @@ pub fn is_idle<W: Word>(im: &[W], k: usize) -> bool
     requires { Sized W.BITS k (W.words im.now) }
     ensures { result ≡ idle (image_of W.BITS k (W.words im.now)) }
 {
-    stretches::parts::zero_marks(im, k)
-        & stretches::parts::zero_packets(im, k)
-        & stretches::parts::zero_tracers(im, k)
+    stretches::parts::zero_section(im, k, Section::Marks)
+        & stretches::parts::zero_section(im, k, Section::Packets)
+        & stretches::parts::zero_section(im, k, Section::Tracers)
         & all_unscanned(im, k)
-        & stretches::parts::zero_counts(im, k)
+        & stretches::parts::zero_section(im, k, Section::Counts)
 }

@@ -9,6 +9,7 @@ ghost use Rattle.soundness_laws.specs.Sets.{Named};
 ghost use Rattle.soundness_laws.specs.Small.{SmallUpto};
 ghost use Rattle.soundness_laws.specs.Tests.{LinksInside};
 
+use image::section::Section;
 use image::word::Word;
 
 // ---- the walk
@@ -70,7 +71,8 @@ pub fn first_unused<W: Word>(im: &[W], k: usize) -> bool
     requires { Sized W.BITS k (W.words im.now) }
     ensures { result ≡ zero_granule (image_of W.BITS k (W.words im.now)) }
 {
-    stretches::parts::zero_heap(im, k, 0, 4) & !bits_and_cards::bits::is_start(im, k, 0)
+    stretches::parts::zero_part(im, k, Section::Heap, 0, 4)
+        & !bits_and_cards::bits::is_start(im, k, 0)
 }
 
 pub fn heap_ok<W: Word>(im: &[W], k: usize, table: &[u64]) -> bool

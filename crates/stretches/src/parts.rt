@@ -3,7 +3,9 @@ ghost use Rattle.std.specs.Prelude.{◌≡◌, ◌*◌, ◌-◌, ◌≤◌, take
 ghost use Rattle.model.specs.Base.{zeroes};
 ghost use Rattle.model.specs.Image.{image_of};
 ghost use Rattle.image_laws.specs.Sized.{Sized};
+ghost use Rattle.image.specs.Section.{section_length, part};
 
+use image::section::Section;
 use image::word::Word;
 
 // Word by word: for a few words.
@@ -39,77 +41,21 @@ pub fn zeros<W: Word>(s: &[W]) -> bool
     many_zeros(s)
 }
 
-pub fn zero_marks<W: Word>(im: &[W], k: usize) -> bool
+pub fn zero_section<W: Word>(im: &[W], k: usize, s: Section) -> bool
     requires { Sized W.BITS k (W.words im.now) }
-    ensures { result ≡ zeroes (image_of W.BITS k (W.words im.now)).marks }
+    ensures { result ≡ zeroes (part s (image_of W.BITS k (W.words im.now))) }
 {
-    let a = image::layout::marks_at::<W>(k);
-    let e = image::layout::cards_at::<W>(k);
+    let a = s.place::<W>(k);
+    let e = a + s.length::<W>(k);
     zeros(&im[a..e])
 }
 
-pub fn zero_counts<W: Word>(im: &[W], k: usize) -> bool
-    requires { Sized W.BITS k (W.words im.now) }
-    ensures { result ≡ zeroes (image_of W.BITS k (W.words im.now)).counts }
-{
-    let a = image::layout::counts_at::<W>(k);
-    let e = image::layout::regs_at::<W>(k);
-    zeros(&im[a..e])
-}
-
-// registers a to e - 1
-pub fn zero_regs<W: Word>(im: &[W], k: usize, a: usize, e: usize) -> bool
+// words a to e - 1 of section s
+pub fn zero_part<W: Word>(im: &[W], k: usize, s: Section, a: usize, e: usize) -> bool
     requires sized { Sized W.BITS k (W.words im.now) }
-    requires a_le_e { (a ≤ e) × (e ≤ 256) }
-    ensures { result ≡ zeroes (take (e - a) (drop a (image_of W.BITS k (W.words im.now)).regs)) }
+    requires a_le_e { (a ≤ e) × (e ≤ section_length W.BITS k s) }
+    ensures { result ≡ zeroes (take (e - a) (drop a (part s (image_of W.BITS k (W.words im.now))))) }
 {
-    let b = image::layout::regs_at::<W>(k);
+    let b = s.place::<W>(k);
     zeros(&im[b + a..b + e])
-}
-
-pub fn zero_packets<W: Word>(im: &[W], k: usize) -> bool
-    requires { Sized W.BITS k (W.words im.now) }
-    ensures { result ≡ zeroes (image_of W.BITS k (W.words im.now)).packets }
-{
-    let a = image::layout::packets_at::<W>(k);
-    let e = image::layout::tracers_at::<W>(k);
-    zeros(&im[a..e])
-}
-
-pub fn zero_tracers<W: Word>(im: &[W], k: usize) -> bool
-    requires { Sized W.BITS k (W.words im.now) }
-    ensures { result ≡ zeroes (image_of W.BITS k (W.words im.now)).tracers }
-{
-    let a = image::layout::tracers_at::<W>(k);
-    let e = image::layout::players_at::<W>(k);
-    zeros(&im[a..e])
-}
-
-// heap words a to e - 1
-pub fn zero_heap<W: Word>(im: &[W], k: usize, a: usize, e: usize) -> bool
-    requires sized { Sized W.BITS k (W.words im.now) }
-    requires a_le_e { (a ≤ e) × (e ≤ 256 * k) }
-    ensures { result ≡ zeroes (take (e - a) (drop a (image_of W.BITS k (W.words im.now)).heap)) }
-{
-    zeros(&im[a..e])
-}
-
-// words a to e - 1 of the packets
-pub fn zero_entries<W: Word>(im: &[W], k: usize, a: usize, e: usize) -> bool
-    requires sized { Sized W.BITS k (W.words im.now) }
-    requires a_le_e { (a ≤ e) × (e ≤ 1024) }
-    ensures { result ≡ zeroes (take (e - a) (drop a (image_of W.BITS k (W.words im.now)).packets)) }
-{
-    let b = image::layout::packets_at::<W>(k);
-    zeros(&im[b + a..b + e])
-}
-
-// the words of the last section behind its first two
-pub fn zero_spares<W: Word>(im: &[W], k: usize) -> bool
-    requires { Sized W.BITS k (W.words im.now) }
-    ensures { result ≡ zeroes (take 6 (drop 2 (image_of W.BITS k (W.words im.now)).general)) }
-{
-    let a = image::layout::general_at::<W>(k) + 2;
-    let e = image::layout::image_length::<W>(k);
-    zeros(&im[a..e])
 }

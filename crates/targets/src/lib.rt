@@ -9,6 +9,7 @@ ghost use Rattle.image_laws.specs.Sized.{Sized};
 ghost use Rattle.soundness_laws.specs.Sets.{Named};
 ghost use Rattle.soundness_laws.specs.Tests.{link_ok};
 
+use image::section::Section;
 use image::word::Word;
 
 pub mod small; // small.rt: objects of one granule, side by side
@@ -30,7 +31,7 @@ fn regs_to_ask<W: Word>(im: &[W], k: usize) -> usize
     ensures { (result ≤ 256) × (all 256 (reg_ok (image_of W.BITS k (W.words im.now))) ≡ all result (reg_ok (image_of W.BITS k (W.words im.now)))) }
 {
     if image::sections::reg_word(im, k, 16).value() == 0 {
-        if stretches::parts::zero_regs(im, k, 16, 256) {
+        if stretches::parts::zero_part(im, k, Section::Regs, 16, 256) {
             return 16;
         }
     }

@@ -13,8 +13,8 @@ zero_rest-requires g c = record { sized = search rules; le_s = run_fits _ _ _ c.
 pub returns-then-s-le8 : goal.returns-then-s-le8
 returns-then-s-le8 g c = search (rules, run_short)
 
-pub zero_heap-requires : goal.zero_heap-requires
-zero_heap-requires g c = record { sized = search rules; a_le_e = omega (arith, run_fits _ _ _ c.requires.sized _ c.requires.g_bound c.args.next c.args.run _ (c.value-s.ensures.value ∙ c.word.ensures) c.if-not-fits.false) }
+pub zero_part-requires : goal.zero_part-requires
+zero_part-requires g c = record { sized = search rules; a_le_e = omega (arith, run_fits _ _ _ c.requires.sized _ c.requires.g_bound c.args.next c.args.run _ (c.value-s.ensures.value ∙ c.word.ensures) c.if-not-fits.false) }
 
 pub returns : goal.returns
 returns g c = search (rules, run_yes)
