@@ -8,6 +8,7 @@ ghost use Rattle.model.specs.Undamaged.{nil_or_start};
 ghost use Rattle.image_laws.specs.Sized.{Sized};
 ghost use Rattle.soundness_laws.specs.Sets.{CardBits, Named, table_words};
 
+use image::section::Section;
 use image::word::Word;
 
 // How many granules a set of entries tells apart, and its words: one that grew with the store would be large in a large one.
@@ -60,7 +61,7 @@ pub fn start_words<W: Word>(im: &[W], k: usize) -> &[W]
     ensures words { W.words result.now ≡ (image_of W.BITS k (W.words im.now)).starts }
     ensures cards { length result.now ≡ W.CARD_BITS * k }
 {
-    &im[image::layout::starts_at::<W>(k)..image::layout::marks_at::<W>(k)]
+    &im[Section::Starts.place::<W>(k)..Section::Marks.place::<W>(k)]
 }
 
 pub fn mark_words<W: Word>(im: &[W], k: usize) -> &[W]
@@ -68,7 +69,7 @@ pub fn mark_words<W: Word>(im: &[W], k: usize) -> &[W]
     ensures words { W.words result.now ≡ (image_of W.BITS k (W.words im.now)).marks }
     ensures cards { length result.now ≡ W.CARD_BITS * k }
 {
-    &im[image::layout::marks_at::<W>(k)..image::layout::cards_at::<W>(k)]
+    &im[Section::Marks.place::<W>(k)..Section::Cards.place::<W>(k)]
 }
 
 // The bits of card c as one number.

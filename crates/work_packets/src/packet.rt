@@ -7,6 +7,7 @@ ghost use Rattle.image_laws.specs.Sized.{Sized};
 ghost use Rattle.tracers_laws.specs.Packet.{Tidy, LastOff, packet_at, with_entry, without_last, words_of, with_packet};
 ghost use Rattle.work_packets.specs.Plain.{packet_of};
 
+use image::section::Section;
 use image::word::Word;
 
 // Entries are numbers: nothing is known of the room that 30 words of no fixed width take.
@@ -65,7 +66,7 @@ fn read_packet<W: Word>(im: &[W], k: usize, p: usize) -> Packet
     ensures fit { All (λ x. x < 2 ^ W.BITS) result.entries }
 {
     let n = image::sections::packet_word(im, k, 32 * p).value();
-    let from = image::layout::packets_at::<W>(k) + 32 * p + 2;
+    let from = Section::Packets.place::<W>(k) + 32 * p + 2;
     let to = from + 30;
     let e = thirty(&im[from..to]);
     Packet {
@@ -94,7 +95,7 @@ fn write_packet<W: Word>(im: &mut [W], k: usize, p: usize, q: Packet)
     requires fit { All (λ x. x < 2 ^ W.BITS) q.entries }
     ensures { image_of W.BITS k (W.words im.new) ≡ with_packet (image_of W.BITS k (W.words im.old)) p (packet_of q) }
 {
-    let a = image::layout::packets_at::<W>(k) + 32 * p;
+    let a = Section::Packets.place::<W>(k) + 32 * p;
     let e = a + 32;
     put_words(&mut im[a..e], q);
 }

@@ -7,5 +7,5 @@ use Rattle.work_packets.proofs.packet.read_packet.Goals as goal
 pub returns-clause-packet : goal.returns-clause-packet
 returns-clause-packet g c =
     let A = c.args in
-    packet_read g.W.Word.BITS A.k (g.W.Word.words A.im.now) (search rules) A.p (search rules) (c.packets_at.result + 32 * A.p) (search rules) _ _ (search rules)
+    packet_read g.W.Word.BITS A.k (g.W.Word.words A.im.now) (search rules) A.p (search rules) (c.place.result + 32 * A.p) (search rules) _ _ (search rules)
     (rw (words_part g.met.W.Word.laws.by_value A.im.now _ _) at c.thirty-e.ensures.numbers)

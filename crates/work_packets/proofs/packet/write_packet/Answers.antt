@@ -8,4 +8,4 @@ use Rattle.work_packets.proofs.packet.write_packet.Goals as goal
 pub returns : goal.returns
 returns g c =
     let A = c.args in
-    rw (words_put g.met.W.Word.laws.by_value A.im.now c.put_words.new.s (c.packets_at.result + 32 * A.p) (c.packets_at.result + 32 * A.p + 32 - (c.packets_at.result + 32 * A.p))) (packet_written g.W.Word.BITS A.k (g.W.Word.words A.im.now) (search rules) A.p (search rules) (c.packets_at.result + 32 * A.p) (search rules) (packet_of A.q) (search rules) _ c.put_words.ensures)
+    rw (words_put g.met.W.Word.laws.by_value A.im.now c.put_words.new.s (c.place.result + 32 * A.p) (c.place.result + 32 * A.p + 32 - (c.place.result + 32 * A.p))) (packet_written g.W.Word.BITS A.k (g.W.Word.words A.im.now) (search rules) A.p (search rules) (c.place.result + 32 * A.p) (search rules) (packet_of A.q) (search rules) _ c.put_words.ensures)
