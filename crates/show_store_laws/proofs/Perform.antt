@@ -156,34 +156,6 @@ module _ {m : Image} (r : Request) (q : Passed m (requested r) (kind_of r.kind))
   unfolding kind_of role_at limit field_at requested
   undirty_dispatched e d = by_kind 15 0 r.a 0 0 d e (zero_at 15 e 0 (omega arith) refl) refl (zero_at 15 e 2 (omega arith) refl) (zero_at 15 e 3 (omega arith) refl)
 
--- ---- a number that is no kind's
-
--- n is none of these
-abbrev pub NoneOf : ℕ → List ℕ → Type 0
-NoneOf n [] = Unit
-NoneOf n (x ∷ xs) = NoneOf n xs × (n ≡ x → ⊥)
-
-none_of : (n : ℕ) (xs : List ℕ) → NoneOf n xs → elem n xs ≡ true → ⊥
-unfolding elem
-none_of n [] h e = false≢ e
-none_of n (x ∷ xs) h e = ⊎_elim (λ q. h.1 (eqb-true n x q)) (λ q. none_of n xs h.0 q) (or_split (eqb n x) (elem n xs) e)
-
--- the kinds that leave the free granules as many as they are; with new and finish they are all
-abbrev pub others : List ℕ
-others = 15 ∷ 14 ∷ 12 ∷ 11 ∷ 10 ∷ 9 ∷ 8 ∷ 7 ∷ 6 ∷ 5 ∷ 4 ∷ 3 ∷ 2 ∷ []
-
-abbrev kinds : List ℕ
-kinds = 1 ∷ 13 ∷ others
-
-no_kind : (n : ℕ) → NoneOf n kinds → kind_of n ≡ unknown
-unfolding kind_of elem all
-no_kind zero h = refl
-no_kind (suc n) h = kind_unknown (suc n) (elim (dec_lt (suc n) 16) [ yes l ↦ absurd (none_of (suc n) kinds h (all_use 15 (λ x. elem (suc x) kinds) refl n (omega arith))) | no l ↦ omega arith ])
-
-pub no_step : (m : Image) (r : Request) → NoneOf r.kind others → (r.kind ≡ 1 → ⊥) × (r.kind ≡ 13 → ⊥) → done 3 0 m ≡ step tightest m (requested r)
-unfolding requested unnamed
-no_step m r h k = number_3 m (requested r) unknown (no_kind r.kind ((h, k.1), k.0)) refl
-
 -- ---- the free granules
 
 -- a kind that is not the request's

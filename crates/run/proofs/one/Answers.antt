@@ -1,14 +1,15 @@
+use mathlib.Core.Path.{◌∙◌}
+use Prim.Native.Nat.{◌+◌, ◌*◌}
+use lib.ListN.{set}
+use Rattle.model.specs.Base.{put}
+use Rattle.image.proofs.Words.{word_written}
 use Rattle.show_store_laws.proofs.Run.{turn}
-use native.Mathlib.Omega.{arith}
-use lib.ListN.{length-set}
 use Rattle.run.proofs.one.Goals as goal
 
-pub bounds-answers-i-2 : goal.bounds-answers-i-2
-bounds-answers-i-2 c = simp length-set (omega arith)
-
-pub returns : goal.returns
-returns c =
+pub returns-clause-answers_after : goal.returns-clause-answers_after
+unfolding put
+returns-clause-answers_after g c =
     let A = c.args in
-    let a = c.perform-c.ensures in
-    let t = turn _ _ A.answers.now A.i _ _ _ (rw (← c.number-number.ensures, ← c.value-value.ensures) at a.im_after) in
-    record { im_after = t.0; answers_after = t.1; value = a.free_value_2 }
+    let w = g.met.W.Word.laws.by_value in
+    word_written w (set A.answers.now (2 * A.i) c.number.result) (2 * A.i + 1) c.value.result
+    ∙ rw (word_written w A.answers.now (2 * A.i) c.number.result, c.number.ensures, c.value.ensures) (turn _ _ (g.W.Word.words A.answers.now) A.i _ _ _ c.perform-done.ensures.im_after).1

@@ -1,13 +1,6 @@
--- The records before record i have run (`Ran`), and the reader stands behind them.
-use Rattle.std.proofs.Common.{◌≡◌, ◌*◌, ◌-◌, ◌/◌, length}
-use Rattle.image.specs.Layout.{width, record_length}
+-- The records before record i have run.
 use Rattle.show_store_laws.proofs.Run.{Ran}
 use Rattle.run.proofs.run_counted.Given as goal
 
 abbrev pub invariant-loop-i : goal.invariant-loop-i
-invariant-loop-i l =
-    Ran width l.k l.initial.im l.steps l.initial.answers l.n l.im l.answers l.free l.i × (l.reader.bytes.now ≡ l.steps)
-    × (l.reader.at ≡ record_length * l.i) × (l.n ≡ length l.steps / record_length)
-
-abbrev pub decreases-loop-i : goal.decreases-loop-i
-decreases-loop-i l = l.n - l.i
+invariant-loop-i g l = Ran g.W.Word.BITS l.k (g.W.Word.words l.initial.im) l.steps (g.W.Word.words l.initial.answers) l.i-end (g.W.Word.words l.im) (g.W.Word.words l.answers) l.free l.i

@@ -1,24 +1,12 @@
-use borrow.Author.Rules.{rules}
+use mathlib.Core.Path.{refl}
 use Rattle.request_laws.specs.Request.{requested}
-use Rattle.request_laws.proofs.Fields.{refused_unknown, refused_off, refused_owing, admitted_passes}
+use Rattle.request_laws.proofs.Fields.{refused, admitted_passes}
 use Rattle.dispatch.proofs.perform.perform.Goals as goal
 
-pub dispatch-requires : goal.dispatch-requires
+pub dispatch-requires-clause-passed : goal.dispatch-requires-clause-passed
 unfolding requested
-dispatch-requires c = let q = c.requires in record { sized = q.sized; undamaged = q.undamaged; in_range = q.in_range; passed = search admitted_passes; free_value = q.free_value }
+dispatch-requires-clause-passed g c = admitted_passes _ _ c.in-Ok.ensures.admission tt refl
 
-pub returns-in-Unknown : goal.returns-in-Unknown
+pub returns-in-Err-clause-im_after : goal.returns-in-Err-clause-im_after
 unfolding requested
-returns-in-Unknown c = record { im_after = search refused_unknown; free_value_2 = search rules }
-
-pub returns-in-OffDesk : goal.returns-in-OffDesk
-unfolding requested
-returns-in-OffDesk c = record { im_after = search refused_off; free_value_2 = search rules }
-
-pub returns-in-Owing : goal.returns-in-Owing
-unfolding requested
-returns-in-Owing c = record { im_after = search refused_owing; free_value_2 = search rules }
-
-pub returns-in-Admitted : goal.returns-in-Admitted
-unfolding requested
-returns-in-Admitted c = search rules
+returns-in-Err-clause-im_after g c = refused _ _ c.in-Err.ensures.admission _ refl
