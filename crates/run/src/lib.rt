@@ -42,7 +42,13 @@ pub fn one<W: Word>(
 }
 
 // All records, in order; the free granules are counted from step to step.
-pub fn run_counted<W: Format>(im: &mut [W], k: usize, steps: &[u8], answers: &mut [W], mut free: Free)
+pub fn run_counted<W: Format>(
+    im: &mut [W],
+    k: usize,
+    steps: &[u8],
+    answers: &mut [W],
+    mut free: Free,
+)
     requires sized { Sized W.BITS k (W.words im.old) }
     requires undamaged { Undamaged (image_of W.BITS k (W.words im.old)) }
     requires record_length_len { (length steps.now % record_bytes W.BITS ≡ 0) × (length answers.old ≡ 2 * (length steps.now / record_bytes W.BITS)) }

@@ -1,29 +1,21 @@
 -- The dispatch: what an admitted request's fields are, kind by kind, and its step by its kind.
 use mathlib.Core.Path.{◌≡◌, refl, sym, ap, ◌∙◌}
-use mathlib.Core.Logic.{⊎_elim}
 use mathlib.Core.Bool.{true}
-use mathlib.Core.List.{List, [], ◌∷◌}
-use Prim.Native.Nat.{ℕ, zero, suc, ◌<◌}
-use native.Mathlib.Decide.{dec_lt}
+use Prim.Native.Nat.{ℕ, ◌<◌}
 use native.Mathlib.Omega.{arith}
-use lib.Dec.{eqb}
-use borrow.Author.Tests.{eqb-true}
-use Rattle.model.specs.Base.{all, elem}
 use Rattle.model.specs.Image.{Image, owed}
 use Rattle.model.specs.Mutate.{tightest, free_granules, granules_in_runs, usable_run, usable_granules}
-use Rattle.model.specs.Records.{Kind, new, finish, unknown, kind_of}
+use Rattle.model.specs.Records.{Kind, new, finish, kind_of}
 use Rattle.model.specs.Rows.{unused, player, below, limit, row_of}
 use Rattle.model.specs.Steps as steps
 use Rattle.model.specs.Steps.{unnamed, step}
-use Rattle.model.proofs.Laws.{false≢, or_split, all_use}
-use Rattle.model.proofs.Rows.{kind_unknown, kind_number}
+use Rattle.model.proofs.Rows.{kind_number}
 use Rattle.theory.specs.Lines.{Undamaged}
 use Rattle.theory.specs.Fields.{field_at, role_at}
 use Rattle.theory.proofs.heap.Outside.{all_runs}
 use Rattle.theory.proofs.steps.Runs.{runs_stay}
 use Rattle.theory.proofs.steps.Fields.{zeros_zero, field_zero, field_below, field_paid}
 use Rattle.request_laws.specs.Answer.{done, asked}
-use Rattle.request_laws.proofs.Numbers.{number_3}
 use Rattle.request_laws.specs.Passed.{Passed}
 use Rattle.request_laws.specs.Request.{requested}
 use Rattle.request_laws.specs.declared.Request.{Request}

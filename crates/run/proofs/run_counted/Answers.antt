@@ -1,5 +1,5 @@
 use native.Mathlib.Omega.{arith}
-use mathlib.Core.Path.{◌≡◌, refl, sym, ap, ◌∙◌}
+use mathlib.Core.Path.{◌≡◌, refl, sym, ◌∙◌}
 use Prim.Native.Nat.{ℕ, ◌*◌, ◌/◌}
 use mathlib.Core.List.{List}
 use lib.ListN.{length, take, drop}
@@ -39,5 +39,5 @@ returns g c =
     let q = c.RECORD.ensures ∙ g.met.W.Format.format.length_of_record in
     let e : c.loop-i.i ≡ length c.args.steps.now / c.RECORD.result = omega (arith, L.low, c.loop-i-test.false) in
     let r = ran_end g.W.Word.BITS c.args.k (g.W.Word.words c.args.im.now) c.args.steps.now (g.W.Word.words c.args.answers.now) (length c.args.steps.now / c.RECORD.result) (g.W.Word.words c.loop-i.im) (g.W.Word.words c.loop-i.answers) c.loop-i.free
-        (rw e at L) (rw q refl) (answers_for _ q (words_length v c.args.answers.now) c.requires.record_length_len.1) in
+    (rw e at L) (rw q refl) (answers_for _ q (words_length v c.args.answers.now) c.requires.record_length_len.1) in
     record { im_after = r.0; answers_after = r.1 }
