@@ -1,6 +1,6 @@
 -- The ways out of a call: refused by a misfit, refused as damaged, or drawn.
 use mathlib.Core.Path.{◌≡◌}
-use mathlib.Core.Bool.{Bool, true, false}
+use mathlib.Core.Bool.{Bool, true, false, not}
 use mathlib.Core.List.{List}
 use Prim.Native.Nat.{ℕ, ◌*◌}
 use lib.ListN.{length}
@@ -28,10 +28,10 @@ module _ (w : ℕ) (ws output : List ℕ) (s : Option ℕ) (e : s ≡ extent_of 
     map_output h = rw (cards_fits w ws s e k q, cards_k, ne_eqb)
 
     module _ (l : length output ≡ 73 * k) (u : Bool) (eu : u ≡ undamaged (image_of w k ws)) where
-      pub map_damaged : u ≡ false → mapped_of 2 output ≡ map_at w ws output
+      pub map_damaged : not u ≡ true → mapped_of 2 output ≡ map_at w ws output
       unfolding map_at map_number map_misfit some first map_with
       map_damaged d = rw (cards_fits w ws s e k q, cards_k, eq-eqb, cards_parts w ws s e k q, ← eu, d)
 
-      pub map_drawn : u ≡ true → (out : List ℕ) → out ≡ map_lines (image_of w k ws) → mapped_of 0 out ≡ map_at w ws output
+      pub map_drawn : not u ≡ false → (out : List ℕ) → out ≡ map_lines (image_of w k ws) → mapped_of 0 out ≡ map_at w ws output
       unfolding map_at map_number map_misfit some first map_with
       map_drawn d out h = rw (cards_fits w ws s e k q, cards_k, eq-eqb, cards_parts w ws s e k q, ← eu, d, cards_parts w ws s e k q, h)

@@ -1,22 +1,26 @@
+use borrow.Author.Rules.{rules}
 use native.Mathlib.Omega.{arith}
+use Rattle.image_laws.specs.Sized.{Sized}
 use Rattle.image_laws.proofs.Size.{cards_sized}
 use Rattle.report_laws.proofs.Calls.{first_misfit, second_misfit, bytes_misfit, scratch_misfit, lengths_fit}
 use Rattle.report.proofs.extent.Goals as goal
 
+pub returns-in_err-k : goal.returns-in_err-k
+returns-in_err-k c = search (rules, c.in_err-k.ensures, c.from_residual.ensures, first_misfit)
+
 pub returns-then-second-first : goal.returns-then-second-first
-returns-then-second-first c = second_misfit _ _ _ _ _ _ c.cards-s.ensures _ c.in-Cards.is c.if-second-first.true
+returns-then-second-first c = search (rules, c.in_ok-k.ensures, second_misfit)
 
 pub returns-then-report-ne0 : goal.returns-then-report-ne0
-returns-then-report-ne0 c = bytes_misfit _ _ _ _ _ _ c.cards-s.ensures _ c.in-Cards.is c.if-second-first.false c.if-report-ne0.true
+returns-then-report-ne0 c = search (rules, c.in_ok-k.ensures, bytes_misfit)
 
 pub overflow_mul-k : goal.overflow_mul-k
-overflow_mul-k c = omega (arith, (cards_sized _ c.args.first.now _ c.cards-s.ensures _ c.in-Cards.is).high)
+overflow_mul-k c =
+    let z : Sized 16 c.in_ok-k.k c.args.first.now = search (rules, c.in_ok-k.ensures, cards_sized) in
+    record { fits = omega (arith, z.high) }
 
 pub returns-then-scratch-k : goal.returns-then-scratch-k
-returns-then-scratch-k c = scratch_misfit _ _ _ _ _ _ c.cards-s.ensures _ c.in-Cards.is c.if-second-first.false c.if-report-ne0.false c.if-scratch-k.true
+returns-then-scratch-k c = search (rules, c.in_ok-k.ensures, scratch_misfit)
 
-pub returns-in-Misfit : goal.returns-in-Misfit
-returns-in-Misfit c = search first_misfit
-
-pub returns-else-scratch-k : goal.returns-else-scratch-k
-returns-else-scratch-k c = lengths_fit _ _ _ _ _ _ c.cards-s.ensures _ c.in-Cards.is c.if-second-first.false c.if-report-ne0.false c.if-scratch-k.false
+pub returns : goal.returns
+returns c = search (rules, c.in_ok-k.ensures, lengths_fit)

@@ -1,22 +1,24 @@
+use borrow.Author.Rules.{rules}
 use Rattle.report_laws.proofs.Calls.{call_misfit, call_sized, call_scratch, call_damaged, call_sound, call_verdict}
 use Rattle.report.proofs.judge_report.Goals as goal
 
+pub returns-in_default : goal.returns-in_default
+returns-in_default c = search (rules, c.in_default.ensures, call_misfit)
+
 pub both_undamaged-requires : goal.both_undamaged-requires
-both_undamaged-requires c = call_sized _ _ _ _ _ _ c.extent-s.ensures _ c.in-Cards.is
+both_undamaged-requires c = call_sized _ _ _ _ _ _ c.extent.ensures _ c.in-Some.is
 
-pub verdict-requires : goal.verdict-requires
-verdict-requires c =
-    let E = c.extent-s.ensures in
-    let K = c.in-Cards.is in
-    record { sized = call_sized _ _ _ _ _ _ E _ K; sound = call_sound _ _ _ _ _ _ E _ K _ c.both_undamaged.ensures c.if-both_undamaged.true; scratch_len = call_scratch _ _ _ _ _ _ E _ K }
+pub returns-then-not-both_undamaged : goal.returns-then-not-both_undamaged
+returns-then-not-both_undamaged c = search (rules, call_damaged)
 
-pub returns-then-both_undamaged : goal.returns-then-both_undamaged
-returns-then-both_undamaged c =
-    call_verdict _ _ _ _ _ _ c.extent-s.ensures _ c.in-Cards.is _ c.both_undamaged.ensures c.if-both_undamaged.true _ _ c.verdict.ensures.value
-    c.verdict.ensures.scratch_after
+pub verdict-requires-clause-sized : goal.verdict-requires-clause-sized
+verdict-requires-clause-sized c = call_sized _ _ _ _ _ _ c.extent.ensures _ c.in-Some.is
 
-pub returns-in-Misfit : goal.returns-in-Misfit
-returns-in-Misfit c = search call_misfit
+pub verdict-requires-clause-sound : goal.verdict-requires-clause-sound
+verdict-requires-clause-sound c = call_sound _ _ _ _ _ _ c.extent.ensures _ c.in-Some.is _ c.both_undamaged.ensures c.if-not-both_undamaged.false
 
-pub returns-else-both_undamaged : goal.returns-else-both_undamaged
-returns-else-both_undamaged c = call_damaged _ _ _ _ _ _ c.extent-s.ensures _ c.in-Cards.is _ c.both_undamaged.ensures c.if-both_undamaged.false
+pub verdict-requires-clause-scratch_len : goal.verdict-requires-clause-scratch_len
+verdict-requires-clause-scratch_len c = search (rules, call_scratch)
+
+pub returns : goal.returns
+returns c = search (rules, call_verdict)
