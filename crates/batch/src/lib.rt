@@ -1,42 +1,33 @@
-// A batch at this store's width: refused by a length or a damaged image, or run to its end.
+// A batch: refused by a length or a damaged image, or run to its end.
 #![tactic(auto)]
 
 ghost use Rattle.std.specs.Prelude.{◌≡◌};
 ghost use Rattle.model.specs.Mutate.{tightest};
 ghost use Rattle.model.specs.Batch.{batch_at};
-ghost use Rattle.image.specs.Layout.{width};
 ghost use Rattle.image_laws.specs.Result.{result_of};
 ghost use Rattle.show_store_laws.specs.Run.{batched};
 
-use image::layout::{RECORD, Word};
-use image_laws::{Extent, Verdict};
+use image_laws::Fault;
+use records::format::Format;
 
-fn verdict(im: &mut [Word], steps: &[u8], answers: &mut [Word]) -> Verdict
-    ensures { batched (result_of result) im.new answers.new ≡ batch_at tightest width im.old steps.now answers.old }
+fn verdict<W: Format>(im: &mut [W], steps: &[u8], answers: &mut [W]) -> Result<(), Fault>
+    ensures { batched (result_of result) (W.words im.new) (W.words answers.new) ≡ batch_at tightest W.BITS (W.words im.old) steps.now (W.words answers.old) }
 {
-    let s = size::cards(im.len());
-    match s {
-        Extent::Misfit => Verdict::Misfit,
-        Extent::Cards(k) => {
-            let n = steps.len() / RECORD;
-            if steps.len() % RECORD != 0 {
-                return Verdict::Misfit;
-            }
-            if answers.len() != 2 * n {
-                return Verdict::Misfit;
-            }
-            if judge::is_undamaged(im, k) {
-                run::run_all(im, k, steps, answers);
-                return Verdict::Accepted;
-            }
-            Verdict::Damaged
-        }
+    let k = size::cards::<W>(im.len()).ok_or(Fault::Misfit)?;
+    let n = steps.len() / W::RECORD;
+    if steps.len() % W::RECORD != 0 || answers.len() != 2 * n {
+        return Err(Fault::Misfit);
     }
+    if !judge::is_undamaged(im, k) {
+        return Err(Fault::Damaged);
+    }
+    run::run_all(im, k, steps, answers);
+    Ok(())
 }
 
 // "1 and 2 refuse the call, are its result (0 otherwise) and leave image and answers alone"
-pub fn batch(im: &mut [Word], steps: &[u8], answers: &mut [Word]) -> u16
-    ensures { batched result im.new answers.new ≡ batch_at tightest width im.old steps.now answers.old }
+pub fn batch<W: Format>(im: &mut [W], steps: &[u8], answers: &mut [W]) -> u16
+    ensures { batched result (W.words im.new) (W.words answers.new) ≡ batch_at tightest W.BITS (W.words im.old) steps.now (W.words answers.old) }
 {
     image::result::result(verdict(im, steps, answers))
 }

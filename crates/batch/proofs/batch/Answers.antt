@@ -1,4 +1,4 @@
 use Rattle.batch.proofs.batch.Goals as goal
 
 pub returns : goal.returns
-returns c = rw c.result.ensures c.verdict.ensures
+returns g c = rw c.result.ensures c.verdict.ensures
