@@ -53,17 +53,17 @@ pub fn judge_report(first: &[u16], second: &[u16], report: &[u8], scratch: &mut 
 pub fn wide_fresh(image: &mut [u32]) -> u16
     ensures { made_of result image.new ≡ fresh_at 32 image.old }
 {
-    wide_fresh::fresh(image)
+    fresh::fresh(image)
 }
 
 pub fn wide_judge(image: &[u32]) -> u16
     ensures { result ≡ judge_at 32 image.now }
 {
-    wide_judge::judge(image)
+    judge::judge(image)
 }
 
 pub fn wide_batch(image: &mut [u32], steps: &[u8], answers: &mut [u32]) -> u16
     ensures { batched result image.new answers.new ≡ batch_at tightest 32 image.old steps.now answers.old }
 {
-    wide_batch::batch(image, steps, answers)
+    batch::batch(image, steps, answers)
 }

@@ -1,4 +1,0 @@
-use Rattle.wide_batch.proofs.batch.Goals as goal
-
-pub returns : goal.returns
-returns c = rw c.result.ensures c.verdict.ensures

@@ -1,5 +1,0 @@
-use Rattle.image_laws.proofs.Cards.{is-dirty}
-use Rattle.wide_bits_and_cards.proofs.cards.is_dirty.Goals as goal
-
-pub returns : goal.returns
-returns c = search is-dirty

@@ -1,5 +1,0 @@
-use Rattle.image_laws.proofs.Cards.{object_marked}
-use Rattle.wide_bits_and_cards.proofs.cards.mark_object.Goals as goal
-
-pub returns : goal.returns
-returns c = search object_marked

@@ -1,9 +1,0 @@
-use Rattle.wide_image.specs.Layout.{width}
-use Rattle.judge_laws.proofs.Words.{Taken}
-use Rattle.wide_cover.proofs.words.word_covered.Given as goal
-
-abbrev pub invariant-loop-left : goal.invariant-loop-left
-invariant-loop-left l = Taken width l.k l.im l.w l.ok l.left
-
-abbrev pub decreases-loop-left : goal.decreases-loop-left
-decreases-loop-left l = l.left

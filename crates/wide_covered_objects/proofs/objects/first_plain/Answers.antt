@@ -1,5 +1,0 @@
-use Rattle.soundness_laws.proofs.Checks.{first_two}
-use Rattle.wide_covered_objects.proofs.objects.first_plain.Goals as goal
-
-pub returns : goal.returns
-returns c = first_two _ _ _ _ c.is_plain.ensures c.is_plain-2.ensures

@@ -1,5 +1,0 @@
-use Rattle.judge_laws.proofs.Objects.{plain_is}
-use Rattle.wide_covered_objects.proofs.objects.is_plain.Goals as goal
-
-pub returns : goal.returns
-returns c = search plain_is

@@ -1,5 +1,0 @@
-use Rattle.soundness_laws.proofs.Packets.{entry-marked}
-use Rattle.wide_cycle_sections.proofs.packets.entry_ok.Goals as goal
-
-pub returns : goal.returns
-returns c = search entry-marked

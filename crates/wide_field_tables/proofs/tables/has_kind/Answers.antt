@@ -1,8 +1,0 @@
-use Prim.Native.Nat.{◌/◌, ◌^◌}
-use lib.Bits.{and_mask}
-use Rattle.model.specs.Base.{test_bit}
-use Rattle.wide_field_tables.proofs.tables.has_kind.Goals as goal
-
-pub returns : goal.returns
-unfolding test_bit
-returns c = rw (and_mask (c.args.t / 2 ^ c.args.n) 1)

@@ -1,5 +1,0 @@
-use Rattle.soundness_laws.proofs.Pieces.{object_is}
-use Rattle.wide_heap_pieces.proofs.pieces.object_ok.Goals as goal
-
-pub returns : goal.returns
-returns c = search object_is

@@ -1,8 +1,0 @@
-use Rattle.soundness_laws.proofs.Pieces.{piece_object, piece_run}
-use Rattle.wide_heap_pieces.proofs.pieces.piece_ok.Goals as goal
-
-pub returns-then-object : goal.returns-then-object
-returns-then-object c = search piece_object
-
-pub returns : goal.returns
-returns c = search piece_run

@@ -1,7 +1,0 @@
-use borrow.Author.Rules.{rules}
-use Rattle.model.specs.Image.{first_run}
-use Rattle.wide_image.proofs.sections.first_run.Goals as goal
-
-pub returns : goal.returns
-unfolding first_run
-returns c = search rules

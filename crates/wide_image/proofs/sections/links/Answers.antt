@@ -1,7 +1,0 @@
-use borrow.Author.Rules.{rules}
-use Rattle.model.specs.Image.{links}
-use Rattle.wide_image.proofs.sections.links.Goals as goal
-
-pub returns : goal.returns
-unfolding links
-returns c = search rules

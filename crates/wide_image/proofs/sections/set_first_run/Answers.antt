@@ -1,7 +1,0 @@
-use borrow.Author.Rules.{rules}
-use Rattle.model.specs.Image.{set_first_run}
-use Rattle.wide_image.proofs.sections.set_first_run.Goals as goal
-
-pub returns : goal.returns
-unfolding set_first_run
-returns c = search rules

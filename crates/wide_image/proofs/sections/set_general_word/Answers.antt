@@ -1,9 +1,0 @@
-use borrow.Author.Rules.{rules}
-use Rattle.image_laws.proofs.Sections.{put_section}
-use Rattle.model.specs.Image.{general_at, image_of, image, split, with_general}
-use Rattle.model.specs.Base.{put}
-use Rattle.wide_image.proofs.sections.set_general_word.Goals as goal
-
-pub returns : goal.returns
-unfolding put image_of image split with_general
-returns c = put_section _ _ c.args.im.now general_at _ _ (search rules) (search rules) _

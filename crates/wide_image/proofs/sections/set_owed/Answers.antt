@@ -1,7 +1,0 @@
-use borrow.Author.Rules.{rules}
-use Rattle.model.specs.Image.{set_owed}
-use Rattle.wide_image.proofs.sections.set_owed.Goals as goal
-
-pub returns : goal.returns
-unfolding set_owed
-returns c = search rules

@@ -1,7 +1,0 @@
-use borrow.Author.Rules.{rules}
-use Rattle.model.specs.Image.{set_reg}
-use Rattle.wide_image.proofs.sections.set_reg.Goals as goal
-
-pub returns : goal.returns
-unfolding set_reg
-returns c = search rules

@@ -1,7 +1,0 @@
-use borrow.Author.Rules.{rules}
-use Rattle.model.specs.Image.{set_word}
-use Rattle.wide_image.proofs.sections.set_word.Goals as goal
-
-pub returns : goal.returns
-unfolding set_word
-returns c = search rules

@@ -1,6 +1,0 @@
-// The leaves of an image: its words by section; the numbers of the width.
-#![tactic(auto)]
-
-pub mod layout; // layout.rt: the word, and where the sections begin
-pub mod result; // result.rt: the result of a call
-pub mod sections; // sections.rt: the words of each section, read and written

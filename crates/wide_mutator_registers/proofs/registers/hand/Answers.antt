@@ -1,5 +1,0 @@
-use Rattle.mutator_laws.proofs.Registers.{hand_done}
-use Rattle.wide_mutator_registers.proofs.registers.hand.Goals as goal
-
-pub returns : goal.returns
-returns c = search hand_done

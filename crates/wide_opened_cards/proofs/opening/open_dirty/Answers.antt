@@ -1,8 +1,0 @@
-use Rattle.finish_marking_laws.proofs.seeds.Opening.{dirty_some, dirty_none}
-use Rattle.wide_opened_cards.proofs.opening.open_dirty.Goals as goal
-
-pub returns-then-is_dirty : goal.returns-then-is_dirty
-returns-then-is_dirty c = search dirty_some
-
-pub returns-else-is_dirty : goal.returns-else-is_dirty
-returns-else-is_dirty c = search dirty_none

@@ -1,5 +1,0 @@
-use Rattle.request_laws.proofs.Fields.{beyond_found}
-use Rattle.wide_request.proofs.fields.some_beyond.Goals as goal
-
-pub returns : goal.returns
-returns c = search beyond_found

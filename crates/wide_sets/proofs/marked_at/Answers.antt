@@ -1,5 +1,0 @@
-use Rattle.soundness_laws.proofs.Sets.{mark_at}
-use Rattle.wide_sets.proofs.marked_at.Goals as goal
-
-pub returns : goal.returns
-returns c = search mark_at

@@ -1,5 +1,0 @@
-use Rattle.soundness_laws.proofs.Sets.{start_at}
-use Rattle.wide_sets.proofs.start_at.Goals as goal
-
-pub returns : goal.returns
-returns c = search start_at

@@ -1,8 +1,0 @@
-use Rattle.model.specs.Base.{every}
-use mathlib.Core.Bool.{and-true, and_assoc}
-use Rattle.soundness_laws.specs.Tests.{still, idle}
-use Rattle.wide_short_sections.proofs.is_idle.Goals as goal
-
-pub returns : goal.returns
-unfolding idle still every
-returns c = simp (and_assoc, and-true) (cc)

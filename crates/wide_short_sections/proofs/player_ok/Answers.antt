@@ -1,5 +1,0 @@
-use Rattle.soundness_laws.proofs.Lines.{player_lines}
-use Rattle.wide_short_sections.proofs.player_ok.Goals as goal
-
-pub returns : goal.returns
-returns c = search player_lines

@@ -1,5 +1,0 @@
-use Rattle.soundness_laws.proofs.Heap.{first_unused}
-use Rattle.wide_soundness.proofs.heap.first_unused.Goals as goal
-
-pub returns : goal.returns
-returns c = search first_unused

@@ -1,8 +1,0 @@
-use Rattle.mutator_laws.proofs.Taking.{set_next_first, set_next_after}
-use Rattle.wide_taken_runs.proofs.taking.set_next.Goals as goal
-
-pub returns-then-before-eq0 : goal.returns-then-before-eq0
-returns-then-before-eq0 c = search set_next_first
-
-pub returns-else-before-eq0 : goal.returns-else-before-eq0
-returns-else-before-eq0 c = search set_next_after

@@ -1,5 +1,0 @@
-use Rattle.soundness_laws.proofs.Small.{small_is}
-use Rattle.wide_targets.proofs.small.is_small.Goals as goal
-
-pub returns : goal.returns
-returns c = search small_is
