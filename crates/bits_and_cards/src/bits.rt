@@ -28,6 +28,7 @@ pub fn without_bit<W: Word>(w: W, j: usize) -> W
     W::of(w.value() & !(1 << j))
 }
 
+// Of starts and of marks apart, as the model has them: a call with the section beside the granule would be no plainer.
 pub fn is_start<W: Word>(im: &[W], k: usize, g: usize) -> bool
     requires sized { Sized W.BITS k (W.words im.now) }
     requires g_bound { g < 64 * k }

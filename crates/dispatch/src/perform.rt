@@ -17,7 +17,8 @@ use request_laws::{Kind, Request};
 use runs::counted::Counted;
 use runs_laws::Free;
 
-// The step of a request that numbers 3 to 5 let pass, by its kind, and the free granules then.
+// The step of a request that numbers 3 to 5 let pass, by its kind, and the free granules then. Each kind takes fields of its own, so a table of
+// functions or a closure for each would want one shape for all, and its equation a case for each all the same.
 fn dispatch<W: Word>(im: &mut [W], k: usize, kind: Kind, r: Request, free: Free) -> Counted<W>
     requires sized { Sized W.BITS k (W.words im.old) }
     requires undamaged { Undamaged (image_of W.BITS k (W.words im.old)) }

@@ -8,7 +8,7 @@ ghost use Rattle.image.specs.Section.{section_length, part, with_part};
 use crate::section::Section;
 use crate::word::Word;
 
-// ---- read
+// ---- read: below the first, a line for each of the model's names; with the section as an argument a call would be longer and its bound less plain
 
 // Word i of section s.
 pub fn section_word<W: Word>(im: &[W], k: usize, s: Section, i: usize) -> W

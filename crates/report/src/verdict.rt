@@ -32,7 +32,7 @@ fn lost_missed(im: &[u16], k: usize, report: &[u8], c: usize, s: &mut [u16]) -> 
     report_planes::plane::any_bare(im, k, s)
 }
 
-// The verdict. The planes are left as the last search and the stretches have left them.
+// The verdict, as the number that C gets of it. The planes are left as the last search and the stretches have left them.
 fn by_planes(first: &[u16], second: &[u16], k: usize, report: &[u8], s: &mut [u16]) -> u16
     requires sized { Sized 16 k first.now × Sized 16 k second.now }
     requires sound { Sound (image_of 16 k first.now) × Sound (image_of 16 k second.now) }

@@ -56,6 +56,7 @@ pub fn in_plane<W: Word>(plane: &[W], g: usize) -> bool
     bits_and_cards::bits::has_bit(plane[g / W::BITS], g % W::BITS)
 }
 
+// Two functions: one with the section as an argument would ask in a clause that it is one of the two.
 pub fn start_words<W: Word>(im: &[W], k: usize) -> &[W]
     requires { Sized W.BITS k (W.words im.now) }
     ensures words { W.words result.now ≡ (image_of W.BITS k (W.words im.now)).starts }

@@ -6,7 +6,7 @@ ghost use Rattle.image_laws.specs.Compare.{within, near};
 
 use image::word::Word;
 
-// Each word of s lies between those of low and high at its place.
+// Each word of s lies between those of low and high at its place. Two lists of bounds, not one of pairs, so that they are compared many at a time.
 pub fn are_within<W: Word>(s: &[W], low: &[W], high: &[W]) -> bool
     requires { (length s.now ≤ length low.now) × (length s.now ≤ length high.now) }
     ensures { result ≡ within (W.words low.now) (W.words high.now) (W.words s.now) }

@@ -11,7 +11,7 @@ ghost use Rattle.request_laws.specs.Answer.{asked, done_of};
 use image::word::Word;
 use request_laws::Refusal;
 
-// "1 to 0 and 3 to 2"
+// "1 to 0 and 3 to 2": two rows of a table, as `dirtied` has two others; one function of four numbers would say neither.
 fn cleaned<W: Word>(x: W) -> W
     ensures { W.value result ≡ clean_state (W.value x) }
 {

@@ -10,7 +10,8 @@ ghost use Rattle.work_packets.specs.Plain.{packet_of};
 use image::section::Section;
 use image::word::Word;
 
-// Entries are numbers: nothing is known of the room that 30 words of no fixed width take.
+// A count and places for thirty entries, as the image has them: there is no heap. Entries are numbers: nothing is known of the room that 30 words
+// of no fixed width take.
 #[derive(Clone, Copy, Debug, PartialEq, Eq)]
 pub struct Packet {
     pub count: usize,
