@@ -34,7 +34,9 @@ returns-then-steps-RECORD-ne0 g c =
     elim c.then-steps-RECORD-ne0.branch [
       | then-steps-RECORD-ne0-via-then-steps-RECORD-ne0 w ↦ batch_part _ _ _ _ _ e _ q (λ x. w.if-steps-RECORD-ne0.true (rw d₂ x))
       | then-steps-RECORD-ne0-via-else-steps-RECORD-ne0+then-answers-n w ↦
-          batch_answers _ _ _ _ _ e _ q (rw (← d₂) w.if-steps-RECORD-ne0.false) (λ x. w.if-answers-n.true (sym (words_length v c.args.answers.now) ∙ x ∙ rw d refl))
+          batch_answers _ _ _ _ _ e _ q (rw (← d₂) w.if-steps-RECORD-ne0.false) (λ x.
+          let y : length c.args.answers.now ≡ 2 * (length c.args.steps.now / c.RECORD.result) = sym (words_length v c.args.answers.now) ∙ x ∙ rw d refl in
+          omega (arith, y, w.if-answers-n.true))
     ]
 
 pub is_undamaged-requires : goal.is_undamaged-requires
