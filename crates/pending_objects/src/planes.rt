@@ -1,5 +1,5 @@
 // Bits of a lent scratch, by shift and mask in the words.
-ghost use Rattle.std.specs.Prelude.{◌≡◌, true, ◌/◌, ◌<◌, length};
+ghost use Rattle.std.specs.Prelude.{◌≡◌, ℕ, true, ◌/◌, ◌^◌, ◌<◌, ◌≤◌, length};
 ghost use Rattle.model.specs.Base.{test_bit, set_bit};
 ghost use Rattle.image_laws.specs.Bits.{clear_bit};
 
@@ -8,7 +8,9 @@ use image::word::Word;
 // The lowest set bit.
 pub fn lowest(x: usize) -> usize
     requires { x ≡ 0 → ⊥ }
-    ensures { (result < 64) × (test_bit x result ≡ true) }
+    ensures within { (n : ℕ) → n ≤ 64 → x < 2 ^ n → result < n }
+    ensures below { result < 64 }
+    ensures set { test_bit x result ≡ true }
 {
     x.trailing_zeros() as usize
 }

@@ -62,12 +62,12 @@ pub fn tracers_ok<W: Word>(im: &[W], k: usize) -> bool
 // ---- each packet is held in at most one place
 
 #[tactic(auto, unfolding(model::specs::Undamaged::held_at))]
-pub fn held_at<W: Word>(im: &[W], k: usize, x: usize) -> usize
+pub fn held_at<W: Word>(im: &[W], k: usize, x: usize) -> W
     requires sized { Sized W.BITS k (W.words im.now) }
     requires x_bound { x < 16 }
-    ensures { result ≡ held_at (image_of W.BITS k (W.words im.now)) x }
+    ensures { W.value result ≡ held_at (image_of W.BITS k (W.words im.now)) x }
 {
-    image::sections::tracer_word(im, k, 8 * (x / 2) + x % 2).value()
+    image::sections::tracer_word(im, k, 8 * (x / 2) + x % 2)
 }
 
 #[tactic(auto, unfolding(soundness_laws::specs::Tests::apart))]
@@ -76,7 +76,7 @@ pub fn is_apart<W: Word>(im: &[W], k: usize, x: usize, y: usize) -> bool
     requires x_bound { (x < 16) × (y < 16) }
     ensures { result ≡ apart (image_of W.BITS k (W.words im.now)) x y }
 {
-    !(held_at(im, k, y) == held_at(im, k, x))
+    !(held_at(im, k, y).value() == held_at(im, k, x).value())
 }
 
 pub fn all_apart<W: Word>(im: &[W], k: usize, x: usize) -> bool
@@ -93,7 +93,7 @@ pub fn held_once<W: Word>(im: &[W], k: usize, x: usize) -> bool
     requires x_bound { x < 16 }
     ensures { result ≡ held_once (image_of W.BITS k (W.words im.now)) x }
 {
-    if held_at(im, k, x) == 0 {
+    if held_at(im, k, x).value() == 0 {
         return true;
     }
     all_apart(im, k, x)

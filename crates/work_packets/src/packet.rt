@@ -60,7 +60,7 @@ fn thirty<W: Word>(s: &[W]) -> [usize; 30]
     e
 }
 
-fn read_packet<W: Word>(im: &[W], k: usize, p: usize) -> Packet
+pub fn read_packet<W: Word>(im: &[W], k: usize, p: usize) -> Packet
     requires sized { Sized W.BITS k (W.words im.now) }
     requires p_bound { p < 32 }
     ensures packet { packet_of result ≡ packet_at (image_of W.BITS k (W.words im.now)) p }
@@ -90,7 +90,7 @@ fn put_words<W: Word>(s: &mut [W], q: Packet)
     }
 }
 
-fn write_packet<W: Word>(im: &mut [W], k: usize, p: usize, q: Packet)
+pub fn write_packet<W: Word>(im: &mut [W], k: usize, p: usize, q: Packet)
     requires sized { Sized W.BITS k (W.words im.old) }
     requires p_bound { (p < 32) × (q.count ≤ 30) }
     requires fit { All (λ x. x < 2 ^ W.BITS) q.entries }

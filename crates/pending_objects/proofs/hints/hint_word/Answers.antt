@@ -17,8 +17,8 @@ pub loop-x-preserved : goal.loop-x-preserved
 loop-x-preserved g c =
     let L = c.loop-x.invariant in
     let v = g.met.W.Word.laws.by_value in
-    let j = hinting_bit L.0 (rw c.value-x.ensures.value at c.value-x.ensures.fits) _ c.lowest-j.ensures.1 in
-    (rw (word_written v) (hinting_more L.0 _ (omega (arith, L.1, c.if-h-hints.false, words_length v c.loop-x.hints)) _ j c.lowest-j.ensures.1 _ (rw c.BITS.ensures at c.of.ensures)), simp length-set (omega (arith, L.1, c.if-h-hints.false)), simp length-set L.2)
+    let j = hinting_bit L.0 (rw c.value-x.ensures.value at c.value-x.ensures.fits) _ c.lowest-j.ensures.set in
+    (rw (word_written v) (hinting_more L.0 _ (omega (arith, L.1, c.if-h-hints.false, words_length v c.loop-x.hints)) _ j c.lowest-j.ensures.set _ (rw c.BITS.ensures at c.of.ensures)), simp length-set (omega (arith, L.1, c.if-h-hints.false)), simp length-set L.2)
 
 pub returns-clause-hinted : goal.returns-clause-hinted
 returns-clause-hinted g c = hinting_end c.loop-x.invariant.0 c.loop-x-test.false
