@@ -1,4 +1,4 @@
-// Start and mark bits, by shift and mask in the words.
+// Start and mark bits, by shift and mask in the words (`Word`).
 ghost use Rattle.std.specs.Prelude.{◌≡◌, ◌*◌, ◌<◌};
 ghost use Rattle.model.specs.Base.{test_bit, with_bit};
 ghost use Rattle.model.specs.Image.{image_of, is_start, marked, set_start, set_mark};
@@ -11,21 +11,21 @@ pub fn has_bit<W: Word>(w: W, j: usize) -> bool
     requires { j < W.BITS }
     ensures { result ≡ test_bit (W.value w) j }
 {
-    (w.value() >> j) & 1 == 1
+    w.has_bit(j)
 }
 
 pub fn with_bit<W: Word>(w: W, j: usize) -> W
     requires { j < W.BITS }
     ensures { W.value result ≡ with_bit (W.value w) j }
 {
-    W::of(w.value() | (1 << j))
+    w.with_bit(j)
 }
 
 pub fn without_bit<W: Word>(w: W, j: usize) -> W
     requires { j < W.BITS }
     ensures { W.value result ≡ without_bit (W.value w) j }
 {
-    W::of(w.value() & !(1 << j))
+    w.without_bit(j)
 }
 
 // Of starts and of marks apart, as the model has them: a call with the section beside the granule would be no plainer.

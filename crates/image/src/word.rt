@@ -1,5 +1,7 @@
 // The word of a store: of 16 bits, or of 32 in a wide store.
 ghost use Rattle.std.specs.Prelude.{◌≡◌, ℕ, List, ◌*◌, ◌^◌, ◌<◌};
+ghost use Rattle.model.specs.Base.{test_bit, with_bit};
+ghost use Rattle.image_laws.specs.Bits.{without_bit};
 ghost use Rattle.image.specs.Word.{IsWord, here, same_words, narrow_is_word, wide_is_word};
 
 pub trait Word: Copy {
@@ -33,6 +35,19 @@ pub trait Word: Copy {
         requires { n < 2 ^ BITS }
         ensures { value result ≡ n };
 
+    // "Bit j (worth 2 to the j) of word w": told, set and cleared by shift and mask in the word itself.
+    fn has_bit(self, j: usize) -> bool
+        requires { j < BITS }
+        ensures { result ≡ test_bit (value self) j };
+
+    fn with_bit(self, j: usize) -> Self
+        requires { j < BITS }
+        ensures { value result ≡ with_bit (value self) j };
+
+    fn without_bit(self, j: usize) -> Self
+        requires { j < BITS }
+        ensures { value result ≡ without_bit (value self) j };
+
     ghost laws: { IsWord BITS VALUES CARD_BITS MOST_CARDS value words };
 }
 
@@ -65,6 +80,18 @@ impl Word for u16 {
         n as u16
     }
 
+    fn has_bit(self, j: usize) -> bool {
+        (self >> j) & 1 == 1
+    }
+
+    fn with_bit(self, j: usize) -> u16 {
+        self | (1u16 << j)
+    }
+
+    fn without_bit(self, j: usize) -> u16 {
+        self & !(1u16 << j)
+    }
+
     ghost laws = { narrow_is_word };
 }
 
@@ -95,6 +122,18 @@ impl Word for u32 {
 
     fn of(n: usize) -> u32 {
         n as u32
+    }
+
+    fn has_bit(self, j: usize) -> bool {
+        (self >> j) & 1 == 1
+    }
+
+    fn with_bit(self, j: usize) -> u32 {
+        self | (1u32 << j)
+    }
+
+    fn without_bit(self, j: usize) -> u32 {
+        self & !(1u32 << j)
     }
 
     ghost laws = { wide_is_word };

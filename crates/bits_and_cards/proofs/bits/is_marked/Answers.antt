@@ -1,6 +1,5 @@
 use Rattle.image_laws.proofs.Bits.{mark_read}
 use borrow.Author.Rules.{rules}
-use Rattle.std.proofs.Common.{arith}
 use Rattle.bits_and_cards.proofs.bits.is_marked.Goals as goal
 
 pub returns : goal.returns
