@@ -1,5 +1,5 @@
 // Work packets by value: "A packet is a count and 30 entries, with one zero word between".
-ghost use Rattle.std.specs.Prelude.{◌≡◌, ◌-◌, ◌^◌, ◌≤◌, ◌<◌, length, take, All};
+ghost use Rattle.std.specs.Prelude.{◌≡◌, ◌-◌, ◌≤◌, ◌<◌, length, take};
 ghost use Rattle.model.specs.Base.{nth};
 ghost use Rattle.model.specs.Image.{image_of, count};
 ghost use Rattle.model.specs.Collect.{append};
@@ -10,18 +10,17 @@ ghost use Rattle.work_packets.specs.Plain.{packet_of};
 use image::section::Section;
 use image::word::Word;
 
-// A count and places for thirty entries, as the image has them: there is no heap. Entries are numbers: nothing is known of the room that 30 words
-// of no fixed width take.
+// A count and places for thirty entries, as the image has them: there is no heap.
 #[derive(Clone, Copy, Debug, PartialEq, Eq)]
-pub struct Packet {
+pub struct Packet<W> {
     pub count: usize,
-    pub entries: [usize; 30],
+    pub entries: [W; 30],
 }
 
-impl Packet {
-    pub fn push(mut self, v: usize) -> Self
+impl<W: Word> Packet<W> {
+    pub fn push(mut self, v: W) -> Self
         requires { self.count < 30 }
-        ensures { packet_of result ≡ with_entry (packet_of self) v }
+        ensures { packet_of W.words result ≡ with_entry (packet_of W.words self) (W.value v) }
     {
         let n = self.count;
         self.entries[n] = v;
@@ -31,40 +30,38 @@ impl Packet {
 
     pub fn pop(mut self) -> Self
         requires { (0 < self.count) × (self.count ≤ 30) }
-        ensures { packet_of result ≡ without_last (packet_of self) }
+        ensures { packet_of W.words result ≡ without_last (packet_of W.words self) }
     {
         let n = self.count - 1;
-        self.entries[n] = 0;
+        self.entries[n] = W::of(0);
         self.count = n;
         self
     }
 
-    pub fn last(self) -> usize
+    pub fn last(self) -> W
         requires { (0 < self.count) × (self.count ≤ 30) }
-        ensures { result ≡ nth self.entries (self.count - 1) }
+        ensures { W.value result ≡ nth (packet_of W.words self).entries (self.count - 1) }
     {
         let n = self.count - 1;
         self.entries[n]
     }
 }
 
-fn thirty<W: Word>(s: &[W]) -> [usize; 30]
+fn thirty<W: Word>(s: &[W]) -> [W; 30]
     requires { 30 ≤ length s.now }
-    ensures numbers { result ≡ take 30 (W.words s.now) }
-    ensures fit { All (λ x. x < 2 ^ W.BITS) result }
+    ensures { W.words result ≡ take 30 (W.words s.now) }
 {
-    let mut e = [0; 30];
+    let mut e = [W::of(0); 30];
     for j in 0..30 {
-        e[j] = s[j].value();
+        e[j] = s[j];
     }
     e
 }
 
-pub fn read_packet<W: Word>(im: &[W], k: usize, p: usize) -> Packet
+pub fn read_packet<W: Word>(im: &[W], k: usize, p: usize) -> Packet<W>
     requires sized { Sized W.BITS k (W.words im.now) }
     requires p_bound { p < 32 }
-    ensures packet { packet_of result ≡ packet_at (image_of W.BITS k (W.words im.now)) p }
-    ensures fit { All (λ x. x < 2 ^ W.BITS) result.entries }
+    ensures { packet_of W.words result ≡ packet_at (image_of W.BITS k (W.words im.now)) p }
 {
     let n = image::sections::packet_word(im, k, 32 * p).value();
     let from = Section::Packets.place::<W>(k) + 32 * p + 2;
@@ -76,25 +73,23 @@ pub fn read_packet<W: Word>(im: &[W], k: usize, p: usize) -> Packet
     }
 }
 
-fn put_words<W: Word>(s: &mut [W], q: Packet)
-    requires long { (length s.old ≡ 32) × (q.count ≤ 30) }
-    requires fit { All (λ x. x < 2 ^ W.BITS) q.entries }
-    ensures { W.words s.new ≡ words_of (packet_of q) }
+fn put_words<W: Word>(s: &mut [W], q: Packet<W>)
+    requires { (length s.old ≡ 32) × (q.count ≤ 30) }
+    ensures { W.words s.new ≡ words_of (packet_of W.words q) }
 {
     let n = q.count;
     let e = q.entries;
     s[0] = W::of(n);
     s[1] = W::of(0);
     for j in 0..30 {
-        s[j + 2] = W::of(e[j]);
+        s[j + 2] = e[j];
     }
 }
 
-pub fn write_packet<W: Word>(im: &mut [W], k: usize, p: usize, q: Packet)
+pub fn write_packet<W: Word>(im: &mut [W], k: usize, p: usize, q: Packet<W>)
     requires sized { Sized W.BITS k (W.words im.old) }
     requires p_bound { (p < 32) × (q.count ≤ 30) }
-    requires fit { All (λ x. x < 2 ^ W.BITS) q.entries }
-    ensures { image_of W.BITS k (W.words im.new) ≡ with_packet (image_of W.BITS k (W.words im.old)) p (packet_of q) }
+    ensures { image_of W.BITS k (W.words im.new) ≡ with_packet (image_of W.BITS k (W.words im.old)) p (packet_of W.words q) }
 {
     let a = Section::Packets.place::<W>(k) + 32 * p;
     let e = a + 32;
@@ -110,7 +105,7 @@ pub fn append_entry<W: Word>(im: &mut [W], k: usize, p: usize, g: W)
     ensures { image_of W.BITS k (W.words im.new) ≡ append (image_of W.BITS k (W.words im.old)) p (W.value g) }
 {
     let q = read_packet(im, k, p);
-    let r = q.push(g.value());
+    let r = q.push(g);
     write_packet(im, k, p, r);
 }
 
@@ -123,7 +118,7 @@ pub fn pop_entry<W: Word>(im: &mut [W], k: usize, p: usize) -> W
     ensures { LastOff (image_of W.BITS k (W.words im.old)) p (W.value result) (image_of W.BITS k (W.words im.new)) }
 {
     let q = read_packet(im, k, p);
-    let g = W::of(q.last());
+    let g = q.last();
     let r = q.pop();
     write_packet(im, k, p, r);
     g

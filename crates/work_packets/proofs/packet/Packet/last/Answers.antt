@@ -1,7 +1,10 @@
+use Rattle.std.proofs.Common.{◌-◌, ◌≡◌, arith, length}
 use borrow.Author.Rules.{rules}
-use Rattle.model.specs.Base.{nth}
+use Rattle.work_packets.proofs.Entries.{entry_read}
 use Rattle.work_packets.proofs.packet.Packet.last.Goals as goal
 
 pub returns : goal.returns
-unfolding nth
-returns c = search rules
+returns g c =
+    let q = c.args.self in
+    let t : length q.entries ≡ 30 = search rules in
+    entry_read g.met.W.Word.laws.by_value q.entries (q.count - 1) c.index-self-n.result (omega arith)

@@ -1,8 +1,7 @@
-use borrow.Author.Rules.{rules}
 use Rattle.tracers_laws.specs.Packet.{with_entry}
-use Rattle.model.specs.Base.{put}
+use Rattle.image.proofs.Words.{word_written}
 use Rattle.work_packets.proofs.packet.Packet.push.Goals as goal
 
 pub returns : goal.returns
-unfolding with_entry put
-returns c = search rules
+unfolding with_entry
+returns g c = simp (word_written g.met.W.Word.laws.by_value)
