@@ -5,7 +5,6 @@ ghost use Rattle.model.specs.Image.{image_of, owed};
 ghost use Rattle.model.specs.Records.{kind_of};
 ghost use Rattle.theory.specs.Fields.{bound_at, no_card};
 ghost use Rattle.image_laws.specs.Sized.{Sized};
-ghost use Rattle.request_laws.specs.Kind.{kind_number};
 ghost use Rattle.request_laws.specs.Request.{requested, asks_debt, role_digit, role_limit};
 
 use image::word::Word;
@@ -40,12 +39,11 @@ fn limit_by<W: Word>(t: u64, n: usize) -> usize
     }
 }
 
-// Field i (who, a, b, c) of a kind.
-pub fn limit<W: Word>(kind: Kind, i: usize) -> usize
-    requires { i < 4 }
-    ensures { result ≡ bound_at W.BITS (kind_of (kind_number kind)) i }
+// Field i (who, a, b, c) of kind n.
+pub fn limit<W: Word>(n: usize, i: usize) -> usize
+    requires { (n < 16) × (i < 4) }
+    ensures { result ≡ bound_at W.BITS (kind_of n) i }
 {
-    let n = usize::from(kind);
     match i {
         0 => limit_by::<W>(WHO, n),
         1 => limit_by::<W>(A, n),
@@ -61,11 +59,10 @@ fn has_kind(t: u64, n: usize) -> bool
     (t >> (n as u64)) & 1 == 1
 }
 
-fn asks_debt(kind: Kind, i: usize) -> bool
-    requires { i < 4 }
-    ensures { result ≡ asks_debt (kind_of (kind_number kind)) i }
+fn asks_debt(n: usize, i: usize) -> bool
+    requires { (n < 16) × (i < 4) }
+    ensures { result ≡ asks_debt (kind_of n) i }
 {
-    let n = usize::from(kind);
     match i {
         0 => has_kind(WHO_OWES_NONE, n),
         2 => has_kind(B_OWES_NONE, n),
@@ -88,21 +85,21 @@ pub fn beyond(l: usize, x: usize) -> bool
 }
 
 // Of cards, apart from the table: only undirty names one, and all other kinds would pay for it.
-pub fn no_card(k: usize, kind: Kind, r: Request) -> bool
-    requires { r.kind ≡ kind_number kind }
+pub fn no_card(k: usize, r: Request) -> bool
+    requires { r.kind < 16 }
     ensures { result ≡ no_card k (requested r) (kind_of r.kind) }
 {
-    (kind == Kind::Undirty) & (k <= r.a)
+    (r.kind == usize::from(Kind::Undirty)) & (k <= r.a)
 }
 
-// Field i of a request of a kind, which is x, is a player who owes and must not.
-pub fn owes<W: Word>(im: &[W], k: usize, kind: Kind, i: usize, x: usize) -> bool
+// Field i of a request of kind n, which is x, is a player who owes and must not.
+pub fn owes<W: Word>(im: &[W], k: usize, n: usize, i: usize, x: usize) -> bool
     requires sized { Sized W.BITS k (W.words im.now) }
-    requires i_bound { i < 4 }
-    requires x_bound { asks_debt (kind_of (kind_number kind)) i ≡ true → x < 16 }
-    ensures { result ≡ (asks_debt (kind_of (kind_number kind)) i && not (eqb (owed (image_of W.BITS k (W.words im.now)) x) 0)) }
+    requires n_bound { (n < 16) × (i < 4) }
+    requires x_bound { asks_debt (kind_of n) i ≡ true → x < 16 }
+    ensures { result ≡ (asks_debt (kind_of n) i && not (eqb (owed (image_of W.BITS k (W.words im.now)) x) 0)) }
 {
-    if asks_debt(kind, i) {
+    if asks_debt(n, i) {
         return image::sections::owed(im, k, x).value() != 0;
     }
     false

@@ -17,10 +17,11 @@ fn some_stray<W: Word>(kind: Kind, r: Request) -> bool
     requires { r.kind ≡ kind_number kind }
     ensures { result ≡ unnamed (requested r) (kind_of r.kind) }
 {
-    let w = tables::stray(tables::limit::<W>(kind, 0), r.who);
-    let a = tables::stray(tables::limit::<W>(kind, 1), r.a);
-    let b = tables::stray(tables::limit::<W>(kind, 2), r.b);
-    let c = tables::stray(tables::limit::<W>(kind, 3), r.c);
+    let n = usize::from(kind);
+    let w = tables::stray(tables::limit::<W>(n, 0), r.who);
+    let a = tables::stray(tables::limit::<W>(n, 1), r.a);
+    let b = tables::stray(tables::limit::<W>(n, 2), r.b);
+    let c = tables::stray(tables::limit::<W>(n, 3), r.c);
     (r.zeros != 0) | (w | a | b | c)
 }
 
@@ -29,10 +30,11 @@ fn some_beyond<W: Word>(kind: Kind, r: Request) -> bool
     requires { r.kind ≡ kind_number kind }
     ensures { result ≡ beyond_limit W.BITS (requested r) (kind_of r.kind) }
 {
-    let w = tables::beyond(tables::limit::<W>(kind, 0), r.who);
-    let a = tables::beyond(tables::limit::<W>(kind, 1), r.a);
-    let b = tables::beyond(tables::limit::<W>(kind, 2), r.b);
-    let c = tables::beyond(tables::limit::<W>(kind, 3), r.c);
+    let n = usize::from(kind);
+    let w = tables::beyond(tables::limit::<W>(n, 0), r.who);
+    let a = tables::beyond(tables::limit::<W>(n, 1), r.a);
+    let b = tables::beyond(tables::limit::<W>(n, 2), r.b);
+    let c = tables::beyond(tables::limit::<W>(n, 3), r.c);
     w | a | b | c
 }
 
@@ -43,10 +45,11 @@ fn some_owing<W: Word>(im: &[W], k: usize, kind: Kind, r: Request) -> bool
     requires on_desk { off_desk (requested r) k (kind_of r.kind) ≡ false }
     ensures { result ≡ owing (image_of W.BITS k (W.words im.now)) (requested r) (kind_of r.kind) }
 {
-    let w = tables::owes(im, k, kind, 0, r.who);
-    let a = tables::owes(im, k, kind, 1, r.a);
-    let b = tables::owes(im, k, kind, 2, r.b);
-    let c = tables::owes(im, k, kind, 3, r.c);
+    let n = usize::from(kind);
+    let w = tables::owes(im, k, n, 0, r.who);
+    let a = tables::owes(im, k, n, 1, r.a);
+    let b = tables::owes(im, k, n, 2, r.b);
+    let c = tables::owes(im, k, n, 3, r.c);
     w | a | b | c
 }
 
@@ -61,7 +64,7 @@ pub fn admit<W: Word>(im: &[W], k: usize, r: Request) -> Result<Kind, Refusal>
     if some_stray::<W>(kind, r) {
         return Err(Refusal::Unknown);
     }
-    if some_beyond::<W>(kind, r) | tables::no_card(k, kind, r) {
+    if some_beyond::<W>(kind, r) | tables::no_card(k, r) {
         return Err(Refusal::OffDesk);
     }
     if some_owing(im, k, kind, r) {
