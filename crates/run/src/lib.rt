@@ -41,7 +41,7 @@ pub fn one<W: Word>(
     done.free
 }
 
-// All records, in order; the free granules are counted from step to step.
+// All records, in order: one reader goes from the first to the last, and the free granules are counted from step to step.
 pub fn run_counted<W: Format>(
     im: &mut [W],
     k: usize,
@@ -56,8 +56,9 @@ pub fn run_counted<W: Format>(
     ensures im_after { image_of W.BITS k (W.words im.new) ≡ after (image_of W.BITS k (W.words im.old)) (run tightest (image_of W.BITS k (W.words im.old)) (records W.BITS steps.now)) }
     ensures answers_after { W.words answers.new ≡ answers_of (run tightest (image_of W.BITS k (W.words im.old)) (records W.BITS steps.now)) }
 {
-    for i in 0..steps.len() / W::RECORD {
-        let r = W::record_at(steps, W::RECORD * i);
+    let mut reader = records::reader::new(steps);
+    for i in 0..records::reader::left::<W>(reader) {
+        let r = records::reader::next::<W>(&mut reader);
         free = one(im, k, r, answers, i, free);
     }
 }
