@@ -12,7 +12,7 @@ use lib.Seq.{drop-drop}
 use mir.Val.{bool_byte}
 use borrow.Author.Tests.{not-true, not-false, eq-eqb, ne_eqb}
 use Rattle.model.specs.Base.{nth, all, implies, every, zeroes, how_many}
-use Rattle.model.specs.Image.{image, image_of, granules, word, is_start, links, first_run}
+use Rattle.model.specs.Image.{image, image_of, granules, most_cards, word, is_start, links, first_run}
 use Rattle.model.specs.Undamaged.{bare, piece, fill, filled, links_ok, zero_granule}
 use Rattle.model.proofs.Laws.{false≢, bool_cases, and_split, all_use, all_make, every_use}
 use Rattle.soundness_laws.specs.Tests.{link_ok, object_ok, piece_ok, next_run, LinksInside}
@@ -88,9 +88,12 @@ module _ (w k : ℕ) (l : List ℕ) where
     w_start first e h = record { fuel = 64 * k; inside = omega (arith, z.low); behind = omega arith; enough = omega arith; few = omega arith; same = rw (e, h); so_far = λ _. links_none 0 h }
 
     module _ (g next end seen : ℕ) (v : HeapWalk g next end seen) where
+      pub w_small : seen ≤ 64 * most_cards w
+      w_small = omega (arith, v.few, how_many_most (is_start (image_of w k l)) g, v.inside, z.high)
+
       -- the count fits, with one more too
-      pub w_small : (b : Bool) → seen + bool_byte b ≤ 64 * 65536 + 1
-      w_small b = rw (byte_digit b) (omega (arith, digit_le b, v.few, how_many_most (is_start (image_of w k l)) g, v.inside, few_cards (sized_width z) z.high))
+      pub w_fits : (b : Bool) → seen + bool_byte b ≤ 64 * 65536 + 1
+      w_fits b = rw (byte_digit b) (omega (arith, digit_le b, v.few, how_many_most (is_start (image_of w k l)) g, v.inside, few_cards (sized_width z) z.high))
 
       module _ (hg : g < 64 * k) where
         -- a link that is neither nil nor a start

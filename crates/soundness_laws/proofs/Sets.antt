@@ -87,6 +87,10 @@ module _ (w k : ℕ) (l : List ℕ) (z : Sized w k l) (a : ℕ) where
     pub target_asked : r ≡ is_start (image_of w k l) a → (eqb a 0 || r) ≡ nil_or_start (image_of w k l) a
     target_asked e = rw (nil-or-start, e)
 
+    pub marked_bit : Named w (image_of w k l).marks table → a / 64 < table_words → r ≡ bit 64 table a → r ≡ (eqb a 0 || marked (image_of w k l) a)
+    unfolding marked image_of image
+    marked_bit t h e = e ∙ t.bits a h
+
     pub marked_asked : r ≡ marked (image_of w k l) a → (eqb a 0 || r) ≡ (eqb a 0 || marked (image_of w k l) a)
     marked_asked e = rw e
 

@@ -3,7 +3,7 @@ use Prim.Native.Nat.{◌+◌}
 use native.Mathlib.Omega.{arith}
 use borrow.Author.Rules.{rules}
 use Rattle.soundness_laws.proofs.Small.{w_from}
-use Rattle.soundness_laws.proofs.Heap.{byte_digit, w_small, w_link, w_stop, w_room, w_less, w_more, w_end}
+use Rattle.soundness_laws.proofs.Heap.{byte_digit, w_fits, w_link, w_stop, w_room, w_less, w_more, w_end}
 use Rattle.soundness.proofs.heap.walk.Goals as goal
 
 pub loop-g-init : goal.loop-g-init
@@ -19,7 +19,7 @@ pub returns-then-not-object_links : goal.returns-then-not-object_links
 returns-then-not-object_links g c = search (rules, w_link)
 
 pub overflow_add-seen : goal.overflow_add-seen
-overflow_add-seen g c = omega (arith, w_small _ _ _ c.requires.sized _ _ _ _ c.loop-g.invariant c.is_start-object.result)
+overflow_add-seen g c = omega (arith, w_fits _ _ _ c.requires.sized _ _ _ _ c.loop-g.invariant c.is_start-object.result)
 
 pub loop-g-smaller : goal.loop-g-smaller
 loop-g-smaller g c = w_less _ _ _ c.requires.sized _ _ _ _ c.loop-g.invariant c.loop-g-test.true _ c.piece_ok.ensures (search rules) _ (c.value.ensures.value ∙ c.word.ensures)
