@@ -80,6 +80,7 @@ pub fn lacks_space<W: Word>(im: &[W], k: usize, x: usize) -> bool
 
 // The best packet of the pool, of the lowest number among equals: its number + 1, as the words of a tracer name it.
 // 0 if none is better than one with `bound` entries.
+#[inline(never)]
 fn choose<W: Word, F: Fn(usize, usize) -> bool>(
     im: &[W],
     k: usize,

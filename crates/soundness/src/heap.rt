@@ -35,7 +35,8 @@ fn run_end(object: bool, end: usize, after: usize) -> usize
     if object { end } else { after }
 }
 
-// That no start lies inside a piece is told at the end: then there are as many starts as objects.
+// That no start lies inside a piece is told at the end: then there are as many starts as objects. Not inlined, so that what the loop needs stays in registers.
+#[inline(never)]
 pub fn walk<W: Word>(im: &[W], k: usize, table: &[u64], from: usize, first: usize) -> bool
     requires sized { Sized W.BITS k (W.words im.now) }
     requires named { Named W.BITS (image_of W.BITS k (W.words im.now)).starts table.now }
