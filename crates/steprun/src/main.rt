@@ -1,13 +1,15 @@
 // Reads step records from standard input, runs them on a fresh store of 16 cards and prints a line per step.
 #![tactic(auto)]
 
-ghost use Rattle.std.specs.Prelude.{◌+◌, ◌*◌, ◌≤◌, ◌<◌, IfOk, length};
+ghost use Rattle.std.specs.Prelude.{◌≡◌, ◌*◌, ◌≤◌, IfOk, length};
 
 use std::io;
 use std::io::Read;
 
-// A line a step: its place from 1, kind, number, value.
-fn print_lines(rt: &impl Print, steps: &[u8], answers: &[u16]) -> io::Result<()> {
+// A line a step, of records of eight bytes and as many answers: its place from 1, kind, number, value.
+fn print_lines(rt: &impl Print, steps: &[u8], answers: &[u16]) -> io::Result<()>
+    requires { length steps.now ≡ 4 * length answers.now }
+{
     let (steps, _) = steps.as_chunks::<8>();
     let (answers, _) = answers.as_chunks::<2>();
     for (i, (step, answer)) in steps.iter().zip(answers).enumerate() {
