@@ -35,18 +35,28 @@ pub trait Word: Copy {
         requires { n < 2 ^ BITS }
         ensures { value result ≡ n };
 
-    // "Bit j (worth 2 to the j) of word w": told, set and cleared by shift and mask in the word itself.
+    // "Bit j (worth 2 to the j) of word w": told, set and cleared by shift and mask. The words of a store do it in themselves; another word, which
+    // says only what number it is, in that number.
     fn has_bit(self, j: usize) -> bool
         requires { j < BITS }
-        ensures { result ≡ test_bit (value self) j };
+        ensures { result ≡ test_bit (value self) j }
+    {
+        (self.value() >> j) & 1 == 1
+    }
 
     fn with_bit(self, j: usize) -> Self
         requires { j < BITS }
-        ensures { value result ≡ with_bit (value self) j };
+        ensures { value result ≡ with_bit (value self) j }
+    {
+        Self::of(self.value() | (1 << j))
+    }
 
     fn without_bit(self, j: usize) -> Self
         requires { j < BITS }
-        ensures { value result ≡ without_bit (value self) j };
+        ensures { value result ≡ without_bit (value self) j }
+    {
+        Self::of(self.value() & !(1 << j))
+    }
 
     ghost laws: { IsWord BITS VALUES CARD_BITS MOST_CARDS value words };
 }
