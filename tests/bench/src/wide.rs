@@ -21,6 +21,9 @@ const LARGEST: usize = 65_536;
 /// At most so many plain passes over its own words, with no cycle.
 const PASSES: f64 = 5.0;
 
+/// How often a finish is timed, of the largest store as of one of 512 cards: the shortest of few timings is longer than that of many.
+const TIMINGS: usize = 40;
+
 pub fn wide(goals: &mut Goals) {
     judging(goals);
     stepping(goals);
@@ -200,12 +203,12 @@ fn begun(k: usize) -> Vec<u32> {
     words
 }
 
-/// A finish less what judging its image takes, by so many timings of each.
-fn finish_alone(image: &[u32], times: usize) -> f64 {
+/// A finish less what judging its image takes.
+fn finish_alone(image: &[u32]) -> f64 {
     let finish = bytes::<u32>(FINISH);
     let (whole, empty) = (Call::new(image, &finish), Call::new(image, &[]));
     let [whole, judging] =
-        in_turn_by(1, times, [&mut || whole.time(library::wide::batch), &mut || empty.time(library::wide::batch)]);
+        in_turn_by(1, TIMINGS, [&mut || whole.time(library::wide::batch), &mut || empty.time(library::wide::batch)]);
     whole - judging
 }
 
@@ -213,8 +216,8 @@ fn finishing_the_largest(goals: &mut Goals) {
     println!("wide finish, a card              k = 512  k = {LARGEST}        ratio");
     type Make = fn(usize) -> Vec<u32>;
     for (what, make) in [("right after a begin", begun as Make), ("half marked", half_marked)] {
-        let small = finish_alone(&make(512), 40) / 512.0;
-        let large = finish_alone(&make(LARGEST), 3) / LARGEST as f64;
+        let small = finish_alone(&make(512)) / 512.0;
+        let large = finish_alone(&make(LARGEST)) / LARGEST as f64;
         println!("  {what:27} {small:12.1} {large:12.1} {:12.2}", large / small);
         goals.at_most(&format!("finish of a card at k = {LARGEST} against k = 512, {what}"), large / small, 2.0);
     }
