@@ -39,6 +39,9 @@ const PARTS: [(&str, Part); 14] = [
     ("trees", trees::trees),
 ];
 
+/// How often a part is run in a check before a goal that it has missed each time is a goal missed.
+const RUNS: usize = 3;
+
 fn main() {
     let (options, names): (Vec<String>, Vec<String>) =
         std::env::args().skip(1).partition(|word| word.starts_with("--"));
@@ -47,11 +50,27 @@ fn main() {
         eprintln!("usage: bench [--check] [{}]..", PARTS.map(|(part, _)| part).join("|"));
         std::process::exit(2);
     }
-    let mut goals = Goals::new(!options.is_empty());
-    for (_, part) in PARTS.iter().filter(|(part, _)| names.is_empty() || names.iter().any(|name| name == part)) {
-        part(&mut goals);
-    }
-    if !goals.hold() {
+    let asked = |name: &str| names.is_empty() || names.iter().any(|asked| asked == name);
+    let check = !options.is_empty();
+    let missed = PARTS.iter().filter(|(name, part)| asked(name) && !holds(name, *part, check)).count();
+    if missed > 0 {
         std::process::exit(1);
     }
+}
+
+/// Whether a part reaches its goals: in a check each of them, in one of three runs. What else runs on the machine passes; what the library takes stays.
+fn holds(name: &str, part: Part, check: bool) -> bool {
+    let run = || {
+        let mut goals = Goals::new(check);
+        part(&mut goals);
+        goals
+    };
+    let mut goals = run();
+    for _ in 1..RUNS {
+        if !goals.hold() {
+            println!("{name} is timed again");
+            goals.missed_again(&run());
+        }
+    }
+    goals.hold()
 }

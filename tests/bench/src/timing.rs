@@ -48,34 +48,44 @@ pub const NOT_SLOWER: f64 = 1.05;
 /// How far a goal may be missed in a check: other work on the machine makes timings longer, and not always all of them alike.
 const SLACK: f64 = 2.0;
 
+/// The goals that a part of the benchmark asks for, in the same order each time that it runs.
 pub struct Goals {
     check: bool,
-    missed: usize,
+    asked: usize,
+    missed: Vec<usize>,
 }
 
 impl Goals {
     pub fn new(check: bool) -> Goals {
-        Goals { check, missed: 0 }
+        Goals { check, asked: 0, missed: Vec::new() }
     }
 
     pub fn at_most(&mut self, what: &str, ratio: f64, limit: f64) {
         let limit = if self.check { SLACK * limit } else { limit };
-        if ratio > limit {
-            println!("  NOT REACHED: {what}: {ratio:.2}, at most {limit}");
-            self.missed += 1;
-        }
+        self.note(ratio <= limit, || format!("{what}: {ratio:.2}, at most {limit}"));
     }
 
     pub fn at_least(&mut self, what: &str, ratio: f64, limit: f64) {
         let limit = if self.check { limit / SLACK } else { limit };
-        if ratio < limit {
-            println!("  NOT REACHED: {what}: {ratio:.2}, at least {limit}");
-            self.missed += 1;
-        }
+        self.note(ratio >= limit, || format!("{what}: {ratio:.2}, at least {limit}"));
     }
 
-    /// Whether the run is good: every goal is reached, or nobody asked.
+    fn note(&mut self, reached: bool, said: impl FnOnce() -> String) {
+        if !reached {
+            println!("  NOT REACHED: {}", said());
+            self.missed.push(self.asked);
+        }
+        self.asked += 1;
+    }
+
+    /// Whether every goal is reached, or nobody asked.
     pub fn hold(&self) -> bool {
-        !self.check || self.missed == 0
+        !self.check || self.missed.is_empty()
+    }
+
+    /// The goals that are missed here and in a later run of the same part.
+    pub fn missed_again(&mut self, later: &Goals) {
+        assert_eq!(self.asked, later.asked, "the goals of a part that is timed again");
+        self.missed.retain(|goal| later.missed.contains(goal));
     }
 }

@@ -52,7 +52,7 @@ fn judged(narrow: &[Vec<u16>], wide: &[Vec<u32>]) -> [f64; 4] {
     let mut sums = [0.0; 4];
     for (narrow, wide) in narrow.chunks(1).zip(wide.chunks(1)) {
         let times = in_turn(
-            2,
+            8,
             [
                 &mut || judge_all(library::wide::judge, wide),
                 &mut || judge_all(library::judge, narrow),
