@@ -48,16 +48,16 @@ pub const NOT_SLOWER: f64 = 1.05;
 /// How far a goal may be missed in a check: other work on the machine makes timings longer, and not always all of them alike.
 const SLACK: f64 = 2.0;
 
-/// The goals that a part of the benchmark asks for, in the same order each time that it runs.
+/// The goals that a part of the benchmark asks for, in the same order each time that it runs, and the places and words of those that it misses.
 pub struct Goals {
     check: bool,
-    asked: usize,
-    missed: Vec<usize>,
+    count: usize,
+    missed: Vec<(usize, String)>,
 }
 
 impl Goals {
     pub fn new(check: bool) -> Goals {
-        Goals { check, asked: 0, missed: Vec::new() }
+        Goals { check, count: 0, missed: Vec::new() }
     }
 
     pub fn at_most(&mut self, what: &str, ratio: f64, limit: f64) {
@@ -70,22 +70,27 @@ impl Goals {
         self.note(ratio >= limit, || format!("{what}: {ratio:.2}, at least {limit}"));
     }
 
-    fn note(&mut self, reached: bool, said: impl FnOnce() -> String) {
+    fn note(&mut self, reached: bool, words: impl FnOnce() -> String) {
         if !reached {
-            println!("  NOT REACHED: {}", said());
-            self.missed.push(self.asked);
+            let words = words();
+            println!("  NOT REACHED: {words}");
+            self.missed.push((self.count, words));
         }
-        self.asked += 1;
+        self.count += 1;
     }
 
-    /// Whether every goal is reached, or nobody asked.
+    /// Whether every goal is reached, or this is no check.
     pub fn hold(&self) -> bool {
         !self.check || self.missed.is_empty()
     }
 
-    /// The goals that are missed here and in a later run of the same part.
-    pub fn missed_again(&mut self, later: &Goals) {
-        assert_eq!(self.asked, later.asked, "the goals of a part that is timed again");
-        self.missed.retain(|goal| later.missed.contains(goal));
+    /// Only the goals stay missed that a later run of the same part misses too.
+    pub fn run_again(&mut self, later: &Goals) {
+        assert_eq!(self.count, later.count, "the goals of a part that is run again");
+        self.missed.retain(|(goal, _)| later.missed.iter().any(|(missed, _)| missed == goal));
+    }
+
+    pub fn missed(&self) -> impl Iterator<Item = &str> {
+        self.missed.iter().map(|(_, words)| words.as_str())
     }
 }

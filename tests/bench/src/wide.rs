@@ -21,9 +21,6 @@ const LARGEST: usize = 65_536;
 /// At most so many plain passes over its own words, with no cycle.
 const PASSES: f64 = 5.0;
 
-/// How often a finish is timed, of the largest store as of one of 512 cards: the shortest of few timings is longer than that of many.
-const TIMINGS: usize = 40;
-
 pub fn wide(goals: &mut Goals) {
     judging(goals);
     stepping(goals);
@@ -203,12 +200,12 @@ fn begun(k: usize) -> Vec<u32> {
     words
 }
 
-/// A finish less what judging its image takes.
+/// A finish less what judging its image takes, of the largest store as often as of one of 512 cards: the shortest of few timings is longer than that of many.
 fn finish_alone(image: &[u32]) -> f64 {
     let finish = bytes::<u32>(FINISH);
     let (whole, empty) = (Call::new(image, &finish), Call::new(image, &[]));
     let [whole, judging] =
-        in_turn_by(1, TIMINGS, [&mut || whole.time(library::wide::batch), &mut || empty.time(library::wide::batch)]);
+        in_turn(5, [&mut || whole.time(library::wide::batch), &mut || empty.time(library::wide::batch)]);
     whole - judging
 }
 
