@@ -200,7 +200,7 @@ fn begun(k: usize) -> Vec<u32> {
     words
 }
 
-/// A finish less what judging its image takes, of the largest store as often as of one of 512 cards: the shortest of few timings is longer than that of many.
+/// A finish less what judging its image takes, timed as often whatever the size: the shortest of few timings is longer than that of many.
 fn finish_alone(image: &[u32]) -> f64 {
     let finish = bytes::<u32>(FINISH);
     let (whole, empty) = (Call::new(image, &finish), Call::new(image, &[]));
